@@ -1,2 +1,5 @@
 pub mod Answer
 pub mod Number
+pub mod Sqrt
+pub mod Nearest
+pub mod Examples

@@ -1,4 +1,6 @@
 // The number helpers of document 01, on f64.
+mod root;
+
 ghost use mathlib.Core.Path.{_≡_};
 ghost use Rattle.kernel.specs.Number.{abs, max, value, constant};
 
