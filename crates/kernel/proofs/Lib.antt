@@ -1,2 +1,4 @@
 pub mod Whole
 pub mod Doubles
+pub mod Units
+pub mod Root
