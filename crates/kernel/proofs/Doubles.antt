@@ -1,13 +1,22 @@
 -- Laws of doubles and their bit patterns.
+use Prim.Native.Nat.{ℕ, zero, suc, _+_, _*_, _/_, _%_, _^_, _≤_, _<_}
+use native.Mathlib.Nat.{pos-of-ne-zero, mod-eq-of-lt, mod-lt, mul-div-cancel, mul-one, zero-add, eq-or-lt-of-le, div-add-mod', div-lt-iff-lt-mul}
+use native.Mathlib.Omega.{arith}
+use native.Mathlib.Decide.{decLt}
 use mathlib.Core.Path.{_≡_, refl, sym, ap, _∙_, subst, subst⁻¹}
 use mathlib.Core.Bool.{Bool, true, false, not, cond}
-use Prim.Native.Nat.{ℕ, _≤_, _%_}
-use native.Mathlib.Nat.{mod-eq-of-lt}
-use native.Mathlib.Omega.{arith}
-use lib.Dec.{T, ltb}
-use borrow.Author.Tests.{le-ltb}
-use lib.Ieee.{Float, nan, inf, fin, binary64, isNan, nanBits, ne}
-use lib.Ieee.Bits.{nanBits-above}
+use lib.IntN.{ℤ, pos}
+use lib.Dec.{T, ltb, leb, eqb}
+use borrow.Author.Tests.{le-ltb, leb-false, ne-eqb}
+use lib.Ieee.{Float, nan, inf, fin, binary64, isNan, nanBits, ne, fits, ofBits, toBits, ofFields, odd, up, down}
+use lib.Ieee.Bits.{nanBits-above, ofBits-toBits, toBits-lt}
+use lib.Ieee.Digits.{Equals}
+use lib.Ieee.Exact.{HasValue, odd-sign}
+use lib.Ieee.Fits.{down-pos}
+use lib.Ieee.Scale.{finite}
+use lib.Ieee.Positive.{positive, positive-finite}
+use Rattle.kernel.specs.Sqrt.{scaled, units}
+use Rattle.kernel.proofs.Units.{units-low, units-high}
 
 -- what equals itself is no NaN
 pub equals-itself : (x : Float) → ne x x ≡ false → T (not (isNan x))
@@ -22,3 +31,82 @@ no-nan-pattern p h =
     let whole : p % 0x8000_0000_0000_0000 ≡ p = mod-eq-of-lt (omega arith) in
     let tested : ltb 0x7FF0_0000_0000_0000 (p % 0x8000_0000_0000_0000) ≡ false = rw whole (le-ltb 0x7FF0_0000_0000_0000 p h) in
     subst⁻¹ (λ (b : Bool). T (not b)) (nanBits-above binary64 p ∙ tested) tt
+
+-- ---- the size of the double with a pattern
+
+value-scaled : (x : Float) (s : Bool) (a : ℕ) → HasValue x s a (2 ^ 1074) → scaled x ≡ a
+unfolding scaled
+value-scaled nan s a v = absurd v
+value-scaled (inf t) s a v = absurd v
+value-scaled (fin t m e) s a v = ap (λ (n : ℕ). n / down e) (v .1) ∙ mul-div-cancel a (down-pos e)
+
+-- below the field of infinities the sign and the size are those of the fields
+fields-value : (s : Bool) (field digits : ℕ) → field < 2047 → digits < 2 ^ 52 → HasValue (ofFields binary64 s field digits) s (units (field * 2 ^ 52 + digits)) (2 ^ 1074)
+unfolding ofFields
+fields-value s zero digits hf hd =
+    subst (λ (a : ℕ). HasValue (odd 53 s digits 0 1074) s a (2 ^ 1074)) (mul-one digits ∙ sym (ap units (zero-add digits) ∙ units-low digits hd)) (odd-sign 53 s digits 0 1074)
+fields-value s (suc field) digits hf hd =
+    rw (ne-eqb (suc field) 2047 (λ e. omega arith))
+    (subst (λ (a : ℕ). HasValue (odd 53 s (2 ^ 52 + digits) field 1074) s a (2 ^ 1074)) (sym (units-high field digits hd)) (odd-sign 53 s (2 ^ 52 + digits) field 1074))
+
+-- the field of infinities has no finite value
+fields-top : (s : Bool) (digits : ℕ) → T (finite (ofFields binary64 s 2047 digits)) → ⊥
+unfolding ofFields
+fields-top s digits h = go (eqb digits 0) h
+  where
+    go : (b : Bool) → T (finite (cond b (inf s) nan)) → ⊥
+    go true v = v
+    go false v = v
+
+pattern-fields : (p : ℕ) → ofBits binary64 p ≡ ofFields binary64 (leb (2 ^ 63) p) (p % 2 ^ 63 / 2 ^ 52) (p % 2 ^ 52)
+unfolding ofBits
+pattern-fields p = refl
+
+-- the pattern of a finite double: its sign, and below it the size in units of 2 ^ -1074
+record Pattern (p : ℕ) : Type 0 where
+  below-infinity : p % 2 ^ 63 < 0x7FF0_0000_0000_0000
+  value : HasValue (ofBits binary64 p) (leb (2 ^ 63) p) (units (p % 2 ^ 63)) (2 ^ 1074)
+
+finite-pattern : (p : ℕ) → T (finite (ofBits binary64 p)) → Pattern p
+finite-pattern p h = go (decLt (p % 2 ^ 63 / 2 ^ 52) 2047)
+  where
+    whole : p % 2 ^ 63 / 2 ^ 52 * 2 ^ 52 + p % 2 ^ 52 ≡ p % 2 ^ 63
+    whole = omega arith
+
+    go : Dec (p % 2 ^ 63 / 2 ^ 52 < 2047) → Pattern p
+    go (yes l) = record {
+      below-infinity = omega arith;
+      value =
+          subst (λ (n : ℕ). HasValue (ofBits binary64 p) (leb (2 ^ 63) p) (units n) (2 ^ 1074)) whole
+          (rw (pattern-fields p) (fields-value (leb (2 ^ 63) p) (p % 2 ^ 63 / 2 ^ 52) (p % 2 ^ 52) l (mod-lt p (omega arith))));
+    }
+    go (no l) =
+        let top : p % 2 ^ 63 / 2 ^ 52 ≡ 2047 = omega arith in
+        absurd (fields-top (leb (2 ^ 63) p) (p % 2 ^ 52) (rw top at (rw (pattern-fields p) at h)))
+
+-- what the pattern of a finite double above 0 is
+pub record Positive (x : Float) : Type 0 where
+  pub above-zero : 0 < toBits binary64 x
+  pub below-infinity : toBits binary64 x < 0x7FF0_0000_0000_0000
+  pub size : scaled x ≡ units (toBits binary64 x)
+
+positive-sign : (x : Float) (s : Bool) (a c : ℕ) → T (positive x) → HasValue x s a c → s ≡ false
+positive-sign nan s a c h v = absurd h
+positive-sign (inf t) s a c h v = absurd h
+positive-sign (fin true m e) s a c h v = absurd h
+positive-sign (fin false m e) s a c h v = sym (v .0)
+
+pub positive-pattern : (x : Float) → T (fits binary64 x) → T (positive x) → Positive x
+unfolding ofBits
+positive-pattern x f h =
+    let p = toBits binary64 x in
+    let back : ofBits binary64 p ≡ x = ofBits-toBits binary64 x f in
+    let q = finite-pattern p (rw back (positive-finite x h)) in
+    let v : HasValue x (leb (2 ^ 63) p) (units (p % 2 ^ 63)) (2 ^ 1074) = rw back at (q .value) in
+    let below : p < 2 ^ 63 = leb-false (2 ^ 63) p (positive-sign x (leb (2 ^ 63) p) (units (p % 2 ^ 63)) (2 ^ 1074) h v) in
+    let whole : p % 2 ^ 63 ≡ p = mod-eq-of-lt below in
+    record {
+      above-zero = pos-of-ne-zero (λ (e : p ≡ 0). subst (λ (y : Float). T (positive y)) (sym back ∙ ap (ofBits binary64) e) h);
+      below-infinity = omega (arith, q .below-infinity);
+      size = value-scaled x (leb (2 ^ 63) p) (units (p % 2 ^ 63)) v ∙ ap units whole;
+    }

@@ -2,3 +2,4 @@ pub mod Whole
 pub mod Doubles
 pub mod Units
 pub mod Root
+pub mod Signs

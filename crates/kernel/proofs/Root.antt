@@ -6,13 +6,13 @@ use native.Mathlib.Decide.{decLt}
 use mathlib.Core.Path.{_≡_, refl, sym, ap, _∙_, subst}
 use mathlib.Core.Logic.{⊎-elim}
 use mathlib.Core.Bool.{Bool, true, false, cond}
-use lib.Pow.{pow-pos, pow-add}
+use lib.Pow.{pow-pos, pow-mono, pow-add}
 use lib.Dec.{ltb}
 use borrow.Author.Tests.{lt-ltb, le-ltb, ltb-true, ltb-false}
 use Rattle.kernel.specs.Sqrt.{square, units, greatest, notAbove, rootPattern}
-use Rattle.kernel.specs.Nearest.{Nearest, Significand, Rounds}
+use Rattle.kernel.specs.Nearest.{Nearest, Significand, Rounds, RootOf}
 use Rattle.kernel.proofs.Whole.{nearest-range, argument-least, argument-most}
-use Rattle.kernel.proofs.Units.{units-at, units-grows, units-mono}
+use Rattle.kernel.proofs.Units.{units-at, split-pattern, units-grows, units-mono}
 
 -- ---- only one pattern
 
@@ -128,3 +128,37 @@ rounds-of x digits e r h n same =
       not-less = subst (λ (y : ℕ). square (units (e / 2 * 2 ^ 52 + r - 1) + units (e / 2 * 2 ^ 52 + r)) < y) scaled (midpoint-below w (e / 2) r s n (argument-least digits (e % 2)));
       not-greater = subst (λ (y : ℕ). y < square (units (e / 2 * 2 ^ 52 + r) + units (e / 2 * 2 ^ 52 + r + 1))) scaled (midpoint-above w (e / 2) r s n);
     }
+
+pub significand-range : (digits odd r : ℕ) → digits < 2 ^ 52 → odd < 2 → Nearest ((2 ^ 52 + digits) * (1 + odd)) r → Significand r
+significand-range digits odd r h k n = nearest-range _ r (argument-least digits odd) (argument-most digits odd h k) n
+
+pub root-of : (digits e r : ℕ) → digits < 2 ^ 52 → e < 3069 → Nearest ((2 ^ 52 + digits) * (1 + e % 2)) r → RootOf digits e (e / 2 * 2 ^ 52 + r)
+root-of digits e r h k n =
+    let s = significand-range digits (e % 2) r h (omega arith) n in
+    record {
+      root = λ x same. sym (rootPattern-is x (e / 2 * 2 ^ 52 + r) (rounds-of x digits e r h n same) (omega (arith, s .most)));
+      finite = omega (arith, s .most);
+    }
+
+-- ---- the two kinds of arguments
+
+-- a number moved up by s places and then by the rest of n
+pub moved-up : (b m s k n : ℕ) → m ≡ b * 2 ^ s → s + k ≡ n → b * 2 ^ n ≡ m * 2 ^ k
+moved-up b m s k n e f = ap (λ (x : ℕ). b * 2 ^ x) (sym f) ∙ ap (λ (x : ℕ). b * x) (pow-add 2 s k) ∙ sym (mul-assoc b (2 ^ s) (2 ^ k)) ∙ ap (λ (x : ℕ). x * 2 ^ k) (sym e)
+
+-- with 53 digits it has moved by at most 52 places
+pub places : (b s : ℕ) → 0 < b → b * 2 ^ s < 2 ^ 53 → s ≤ 52
+places b s h l = go (decLt s 53)
+  where
+    go : Dec (s < 53) → s ≤ 52
+    go (yes k) = omega arith
+    go (no k) = let m : 2 ^ 53 ≤ 2 ^ s = pow-mono {i = 53} {j = s} (omega arith) in absurd (omega (arith, mul-le-mul h m))
+
+-- a double with a leading digit
+pub normal-units : (b n : ℕ) → 2 ^ 52 ≤ b → units b * 2 ^ n ≡ (2 ^ 52 + b % 2 ^ 52) * 2 ^ (b / 2 ^ 52 - 1 + n)
+normal-units b n h =
+    let t = b / 2 ^ 52 - 1 in
+    let r = 2 ^ 52 + b % 2 ^ 52 in
+    ap (λ (x : ℕ). units x * 2 ^ n) (sym (split-pattern b h))
+    ∙ ap (λ (x : ℕ). x * 2 ^ n) (units-at t r (omega arith) (omega arith))
+    ∙ mul-assoc r (2 ^ t) (2 ^ n) ∙ ap (λ (x : ℕ). r * x) (sym (pow-add 2 t n))

@@ -3,6 +3,10 @@ mod root;
 
 ghost use mathlib.Core.Path.{_≡_};
 ghost use Rattle.kernel.specs.Number.{abs, max, value, constant};
+ghost use Rattle.kernel.specs.Sqrt.{sqrt};
+
+// The bit pattern of +infinity.
+const INFINITY: u64 = 0x7FF0_0000_0000_0000;
 
 // x without its sign.
 pub fn abs(x: f64) -> f64
@@ -42,4 +46,24 @@ pub fn constant(c: f64) -> f64
     ensures { λ r. ⌜ r ≡ constant c ⌝ }
 {
     c
+}
+
+// The square root of IEEE 754, rounded to the nearest double.
+pub fn sqrt(x: f64) -> f64
+    ensures { λ r. ⌜ r ≡ sqrt x ⌝ }
+{
+    if x != x {
+        return x;
+    }
+    if x == 0.0 {
+        return x;
+    }
+    if x < 0.0 {
+        return 0.0 / 0.0;
+    }
+    let bits = f64::to_bits(x);
+    if bits == INFINITY {
+        return x;
+    }
+    f64::from_bits(root::root_pattern(bits))
 }

@@ -2,9 +2,9 @@
 // recurrence where the test fails. Only the test and the recurrence are relied on; nothing is claimed of the guess.
 ghost use mathlib.Core.Path.{_≡_};
 ghost use mathlib.Core.Bool.{true};
-ghost use Prim.Native.Nat.{_+_, _*_, _/_, _%_, _^_, _≤_, _<_};
+ghost use Prim.Native.Nat.{ℕ, _+_, _*_, _/_, _%_, _^_, _≤_, _<_};
 ghost use Rattle.kernel.specs.Sqrt.{units, rootPattern};
-ghost use Rattle.kernel.specs.Nearest.{Nearest, Significand};
+ghost use Rattle.kernel.specs.Nearest.{Nearest, Significand, RootOf};
 
 // 2 ^ 52, the weight of a significand's leading digit and of the exponent's field.
 const LEAD: u64 = 0x10_0000_0000_0000;
@@ -131,4 +131,38 @@ fn significand(digits: u64, odd: u64) -> u64
         return r;
     }
     by_digits(w)
+}
+
+// The bit pattern of the root of x, where x * 2 ^ 1074 is (2 ^ 52 + digits) * 2 ^ (52 + e): half of the exponent and the
+// significand. x is scaled by 2 ^ 1074.
+fn pattern(digits: u64, e: u64) -> u64
+    requires { ⌜ (digits < 2 ^ 52) × (e < 3069) ⌝ }
+    ensures { λ r. ⌜ RootOf digits e r ⌝ }
+{
+    e / 2 * LEAD + significand(digits, e % 2)
+}
+
+// The bit pattern of the root of a double without a leading digit, whose bit pattern is b: doubled until it has one.
+fn subnormal_pattern(b: u64) -> u64
+    requires { ⌜ (0 < b) × (b < 2 ^ 52) ⌝ }
+    ensures { λ r. ⌜ (r ≡ rootPattern (units b)) × (r < 0x7FF0_0000_0000_0000) ⌝ }
+{
+    let mut m = b;
+    let mut shift = 0u64;
+    while m < LEAD {
+        m = 2 * m;
+        shift = shift + 1;
+    }
+    pattern(m - LEAD, 1022 - shift)
+}
+
+// The bit pattern of the root of the finite double above 0 with the bit pattern b.
+pub(crate) fn root_pattern(b: u64) -> u64
+    requires { ⌜ (0 < b) × (b < 0x7FF0_0000_0000_0000) ⌝ }
+    ensures { λ r. ⌜ (r ≡ rootPattern (units b)) × (r < 0x7FF0_0000_0000_0000) ⌝ }
+{
+    if b < LEAD {
+        return subnormal_pattern(b);
+    }
+    pattern(b % LEAD, b / LEAD + 1021)
 }

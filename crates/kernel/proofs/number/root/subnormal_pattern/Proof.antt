@@ -1,0 +1,54 @@
+-- `subnormal_pattern` meets its contract: before each turn m is b moved up by `shift` places.
+use Prim.Native.Nat.{ℕ, _+_, _-_, _*_, _^_, _≤_, _<_}
+use native.Mathlib.Nat.{pow-succ'}
+use native.Mathlib.Numerals.{add-one}
+use native.Mathlib.Omega.{arith}
+use mathlib.Core.Path.{_≡_, refl, sym, ap, _∙_}
+use Rattle.kernel.specs.Sqrt.{rootPattern}
+use Rattle.kernel.proofs.Units.{units-low}
+use Rattle.kernel.proofs.Root.{moved-up, places}
+use Rattle.kernel.proofs.number.root.subnormal_pattern.Statement.{statement}
+use Rattle.kernel.proofs.number.root.subnormal_pattern.Tie as tie
+
+abbrev Inv-loop : tie.InvT-loop
+Inv-loop b m₀ shift₀ m shift = (m ≡ b * 2 ^ shift) × (m < 2 ^ 53) × (shift ≤ 52)
+
+abbrev μ-loop : tie.MeasureT-loop
+μ-loop b m₀ shift₀ m shift = 53 - shift
+
+loop-holds : tie.Need-loop-holds Inv-loop μ-loop
+loop-holds c = (omega arith, omega arith, omega arith)
+
+mul-m : tie.Need-mul-m Inv-loop μ-loop
+mul-m c = omega arith
+
+add-shift : tie.Need-add-shift Inv-loop μ-loop
+add-shift c = omega arith
+
+loop-less : tie.Need-loop-less Inv-loop μ-loop
+loop-less c = omega arith
+
+loop-again : tie.Need-loop-again Inv-loop μ-loop
+loop-again c =
+    let b = c .before .before .args .b in
+    let l = c .before .loop in
+    let moved : 2 * l .m ≡ b * 2 ^ (l .shift + 1) = rw (add-one (l .shift), pow-succ' 2 (l .shift)) (omega (arith, l .inv .0)) in
+    let small : 2 * l .m < 2 ^ 53 = omega arith in
+    (moved, small, places b (l .shift + 1) (c .before .before .pre .0) (rw moved at small))
+
+sub-pattern : tie.Need-sub-pattern Inv-loop μ-loop
+sub-pattern c = omega arith
+
+pattern-requires : tie.Need-pattern-requires Inv-loop μ-loop
+pattern-requires c κs = omega arith
+
+returns : tie.Need-returns Inv-loop μ-loop
+returns c =
+    let b = c .before .before .before .args .b in
+    let l = c .before .before .loop in
+    let whole : 2 ^ 52 + (l .m - 2 ^ 52) ≡ l .m = omega arith in
+    let same = moved-up b (l .m) (l .shift) (52 + (1022 - l .shift)) 1074 (l .inv .0) (omega arith) in
+    (c .pattern .ensures .root b (same ∙ ap (λ (x : ℕ). x * 2 ^ (52 + (1022 - l .shift))) (sym whole)) ∙ sym (ap rootPattern (units-low b (c .before .before .before .pre .1))), c .pattern .ensures .finite)
+
+pub subnormal-pattern-spec : {M : Type 1} → statement M
+subnormal-pattern-spec = tie.close (tie.spec Inv-loop μ-loop loop-holds mul-m add-shift loop-less loop-again sub-pattern pattern-requires returns)

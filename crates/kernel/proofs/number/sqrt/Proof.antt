@@ -1,0 +1,110 @@
+-- `sqrt` meets its contract: the special cases, and the root of a finite number above 0.
+use mathlib.Core.Path.{_≡_, refl, sym, ap, _∙_, subst}
+use mathlib.Core.Logic.{_⊎_, inl, inr}
+use mathlib.Core.Bool.{Bool, true, false, not}
+use Prim.Native.Nat.{ℕ, zero, suc, _<_}
+use native.Mathlib.Omega.{arith}
+use lib.Dec.{T, lt→ltb}
+use lib.Ieee.{Float, nan, inf, fin, binary64, fits, isNan, ofBits, toBits, div}
+use lib.Ieee.Compare.{differs-from-itself}
+use lib.Ieee.Positive.{positive}
+use Rattle.kernel.specs.Sqrt.{scaled, units, rootPattern, sqrt}
+use Rattle.kernel.proofs.Signs.{negative, isZero, below-zero, equals-zero}
+use Rattle.kernel.proofs.Doubles.{equals-itself, no-nan-pattern, positive-pattern}
+use Rattle.kernel.proofs.number.sqrt.Statement.{statement}
+use Rattle.kernel.proofs.number.sqrt.Tie as tie
+
+of-nan : (x : Float) → x ≡ nan → x ≡ sqrt x
+unfolding sqrt
+of-nan x e = rw e
+
+of-zero : (x : Float) → T (isZero x) → x ≡ sqrt x
+unfolding sqrt
+of-zero nan h = absurd h
+of-zero (inf s) h = absurd h
+of-zero (fin s zero e) h = refl
+of-zero (fin s (suc m) e) h = absurd h
+
+of-negative : (x : Float) → T (negative x) → nan ≡ sqrt x
+unfolding sqrt
+of-negative nan h = absurd h
+of-negative (inf true) h = refl
+of-negative (inf false) h = absurd h
+of-negative (fin s zero e) h = absurd h
+of-negative (fin true (suc m) e) h = refl
+of-negative (fin false (suc m) e) h = absurd h
+
+of-positive : (x : Float) → T (positive x) → sqrt x ≡ ofBits binary64 (rootPattern (scaled x))
+unfolding sqrt
+of-positive nan h = absurd h
+of-positive (inf s) h = absurd h
+of-positive (fin true m e) h = absurd h
+of-positive (fin false zero e) h = absurd h
+of-positive (fin false (suc m) e) h = refl
+
+-- what no test has caught
+left : (x : Float) → T (not (isNan x)) → isZero x ≡ false → negative x ≡ false → (x ≡ inf false) ⊎ T (positive x)
+unfolding isNan
+left nan a b c = absurd a
+left (inf true) a b c = absurd (subst T c tt)
+left (inf false) a b c = inl refl
+left (fin s zero e) a b c = absurd (subst T b tt)
+left (fin true (suc m) e) a b c = absurd (subst T c tt)
+left (fin false (suc m) e) a b c = inr (lt→ltb 0 (suc m) (omega arith))
+
+of-infinity : (x : Float) → T (fits binary64 x) → (x ≡ inf false) ⊎ T (positive x) → toBits binary64 x ≡ 0x7FF0_0000_0000_0000 → x ≡ sqrt x
+unfolding sqrt
+of-infinity x f (inl e) h = rw e
+of-infinity x f (inr p) h = absurd (omega (arith, positive-pattern x f p .below-infinity))
+
+is-positive : (x : Float) → (x ≡ inf false) ⊎ T (positive x) → (toBits binary64 x ≡ 0x7FF0_0000_0000_0000 → ⊥) → T (positive x)
+unfolding toBits
+is-positive x (inl e) h = absurd (h (ap (toBits binary64) e))
+is-positive x (inr p) h = p
+
+held : (c : tie.Start) → T (fits binary64 (c .args .x))
+held c = subst T (sym (c .good .0 .1)) tt
+
+no-nan : (c : tie.Else3) → T (not (isNan (c .before .before .before .args .x)))
+no-nan c = equals-itself _ (c .before .before .if1 .left)
+
+remains : (c : tie.Else3) → let x = c .before .before .before .args .x in (x ≡ inf false) ⊎ T (positive x)
+unfolding ofBits
+remains c =
+    let x = c .before .before .before .args .x in
+    left x (no-nan c) (sym (equals-zero x) ∙ c .before .if2 .left) (sym (below-zero x) ∙ c .if3 .left)
+
+root-is : (c : tie.Else4) → T (positive (c .before .before .before .before .args .x))
+root-is c = is-positive _ (remains (c .before)) (c .if4 .left)
+
+returns : tie.Need-returns
+returns c = let x = c .before .args .x in of-nan x (differs-from-itself x (subst T (sym (c .if1 .taken)) tt))
+
+returns-2 : tie.Need-returns-2
+unfolding ofBits
+returns-2 c = let x = c .before .before .args .x in of-zero x (subst T (sym (c .if2 .taken) ∙ equals-zero x) tt)
+
+returns-3 : tie.Need-returns-3
+unfolding ofBits div
+returns-3 c = let x = c .before .before .before .args .x in of-negative x (subst T (sym (c .if3 .taken) ∙ below-zero x) tt)
+
+float-to-bits-bits : tie.Need-float-to-bits-bits
+float-to-bits-bits c = no-nan c
+
+returns-4 : tie.Need-returns-4
+returns-4 c = of-infinity _ (held (c .before .before .before .before)) (remains (c .before)) (c .if4 .taken)
+
+root-pattern-requires : tie.Need-root-pattern-requires
+root-pattern-requires c κs = let p = positive-pattern _ (held (c .before .before .before .before)) (root-is c) in (p .above-zero, p .below-infinity)
+
+float-from-bits-result : tie.Need-float-from-bits-result
+float-from-bits-result c = no-nan-pattern _ (omega (arith, c .root-pattern .ensures .1))
+
+returns-5 : tie.Need-returns-5
+returns-5 c =
+    let x = c .before .before .before .before .before .args .x in
+    let p = root-is (c .before) in
+    ap (ofBits binary64) (c .root-pattern .ensures .0 ∙ ap rootPattern (sym (positive-pattern x (held (c .before .before .before .before .before)) p .size))) ∙ sym (of-positive x p)
+
+pub sqrt-spec : {M : Type 1} → statement M
+sqrt-spec = tie.close (tie.spec returns returns-2 returns-3 float-to-bits-bits returns-4 root-pattern-requires float-from-bits-result returns-5)
