@@ -4,19 +4,20 @@ use native.Mathlib.Nat.{pos-of-ne-zero, mod-eq-of-lt, mod-lt, mul-div-cancel, mu
 use native.Mathlib.Omega.{arith}
 use native.Mathlib.Decide.{decLt}
 use mathlib.Core.Path.{_≡_, refl, sym, ap, _∙_, subst, subst⁻¹}
+use mathlib.Core.Logic.{⊎-elim}
 use mathlib.Core.Bool.{Bool, true, false, not, cond}
 use lib.IntN.{ℤ, pos}
 use lib.Dec.{T, ltb, leb, eqb}
-use borrow.Author.Tests.{le-ltb, leb-false, ne-eqb}
+use borrow.Author.Tests.{le-ltb, lt-leb, leb-false, ne-eqb}
 use lib.Ieee.{Float, nan, inf, fin, binary64, isNan, nanBits, ne, fits, ofBits, toBits, ofFields, odd, up, down}
 use lib.Ieee.Bits.{nanBits-above, ofBits-toBits, toBits-lt}
 use lib.Ieee.Digits.{Equals}
 use lib.Ieee.Exact.{HasValue, odd-sign}
 use lib.Ieee.Fits.{down-pos}
 use lib.Ieee.Scale.{finite}
-use lib.Ieee.Positive.{positive, positive-finite}
+use lib.Ieee.Positive.{positive, positive-finite, positive-of-value}
 use Rattle.kernel.specs.Sqrt.{scaled, units}
-use Rattle.kernel.proofs.Units.{units-low, units-high}
+use Rattle.kernel.proofs.Units.{units-low, units-high, units-positive}
 
 -- what equals itself is no NaN
 pub equals-itself : (x : Float) → ne x x ≡ false → T (not (isNan x))
@@ -24,6 +25,12 @@ unfolding ne isNan
 equals-itself nan p = absurd (subst T p tt)
 equals-itself (inf s) p = tt
 equals-itself (fin s m e) p = tt
+
+pub positive-no-nan : (x : Float) → T (positive x) → T (not (isNan x))
+unfolding isNan
+positive-no-nan nan h = h
+positive-no-nan (inf s) h = tt
+positive-no-nan (fin s m e) h = tt
 
 -- a pattern up to that of +infinity is no NaN's
 pub no-nan-pattern : (p : ℕ) → p ≤ 0x7FF0_0000_0000_0000 → T (not (nanBits binary64 p))
@@ -62,24 +69,19 @@ pattern-fields : (p : ℕ) → ofBits binary64 p ≡ ofFields binary64 (leb (2 ^
 unfolding ofBits
 pattern-fields p = refl
 
--- the pattern of a finite double: its sign, and below it the size in units of 2 ^ -1074
-record Pattern (p : ℕ) : Type 0 where
-  below-infinity : p % 2 ^ 63 < 0x7FF0_0000_0000_0000
-  value : HasValue (ofBits binary64 p) (leb (2 ^ 63) p) (units (p % 2 ^ 63)) (2 ^ 1074)
+-- a pattern below those of the infinities: the sign, and the size in units of 2 ^ -1074
+pub pattern-value : (p : ℕ) → p % 2 ^ 63 < 0x7FF0_0000_0000_0000 → HasValue (ofBits binary64 p) (leb (2 ^ 63) p) (units (p % 2 ^ 63)) (2 ^ 1074)
+pattern-value p h =
+    let whole : p % 2 ^ 63 / 2 ^ 52 * 2 ^ 52 + p % 2 ^ 52 ≡ p % 2 ^ 63 = omega arith in
+    subst (λ (n : ℕ). HasValue (ofBits binary64 p) (leb (2 ^ 63) p) (units n) (2 ^ 1074)) whole
+    (rw (pattern-fields p) (fields-value (leb (2 ^ 63) p) (p % 2 ^ 63 / 2 ^ 52) (p % 2 ^ 52) (omega arith) (mod-lt p (omega arith))))
 
-finite-pattern : (p : ℕ) → T (finite (ofBits binary64 p)) → Pattern p
+-- the pattern of a finite double is one of those
+finite-pattern : (p : ℕ) → T (finite (ofBits binary64 p)) → p % 2 ^ 63 < 0x7FF0_0000_0000_0000
 finite-pattern p h = go (decLt (p % 2 ^ 63 / 2 ^ 52) 2047)
   where
-    whole : p % 2 ^ 63 / 2 ^ 52 * 2 ^ 52 + p % 2 ^ 52 ≡ p % 2 ^ 63
-    whole = omega arith
-
-    go : Dec (p % 2 ^ 63 / 2 ^ 52 < 2047) → Pattern p
-    go (yes l) = record {
-      below-infinity = omega arith;
-      value =
-          subst (λ (n : ℕ). HasValue (ofBits binary64 p) (leb (2 ^ 63) p) (units n) (2 ^ 1074)) whole
-          (rw (pattern-fields p) (fields-value (leb (2 ^ 63) p) (p % 2 ^ 63 / 2 ^ 52) (p % 2 ^ 52) l (mod-lt p (omega arith))));
-    }
+    go : Dec (p % 2 ^ 63 / 2 ^ 52 < 2047) → p % 2 ^ 63 < 0x7FF0_0000_0000_0000
+    go (yes l) = omega arith
     go (no l) =
         let top : p % 2 ^ 63 / 2 ^ 52 ≡ 2047 = omega arith in
         absurd (fields-top (leb (2 ^ 63) p) (p % 2 ^ 52) (rw top at (rw (pattern-fields p) at h)))
@@ -102,11 +104,31 @@ positive-pattern x f h =
     let p = toBits binary64 x in
     let back : ofBits binary64 p ≡ x = ofBits-toBits binary64 x f in
     let q = finite-pattern p (rw back (positive-finite x h)) in
-    let v : HasValue x (leb (2 ^ 63) p) (units (p % 2 ^ 63)) (2 ^ 1074) = rw back at (q .value) in
+    let v : HasValue x (leb (2 ^ 63) p) (units (p % 2 ^ 63)) (2 ^ 1074) = rw back at (pattern-value p q) in
     let below : p < 2 ^ 63 = leb-false (2 ^ 63) p (positive-sign x (leb (2 ^ 63) p) (units (p % 2 ^ 63)) (2 ^ 1074) h v) in
     let whole : p % 2 ^ 63 ≡ p = mod-eq-of-lt below in
     record {
       above-zero = pos-of-ne-zero (λ (e : p ≡ 0). subst (λ (y : Float). T (positive y)) (sym back ∙ ap (ofBits binary64) e) h);
-      below-infinity = omega (arith, q .below-infinity);
+      below-infinity = omega arith;
       size = value-scaled x (leb (2 ^ 63) p) (units (p % 2 ^ 63)) v ∙ ap units whole;
     }
+
+-- the size of the double with a pattern up to that of +infinity
+pub pattern-size : (p : ℕ) → p ≤ 0x7FF0_0000_0000_0000 → scaled (ofBits binary64 p) ≡ units p
+unfolding scaled ofBits units
+pattern-size p h = ⊎-elim infinite finite-size (eq-or-lt-of-le h)
+  where
+    infinite : p ≡ 0x7FF0_0000_0000_0000 → scaled (ofBits binary64 p) ≡ units p
+    infinite e = subst⁻¹ (λ (n : ℕ). scaled (ofBits binary64 n) ≡ units n) e refl
+
+    finite-size : p < 0x7FF0_0000_0000_0000 → scaled (ofBits binary64 p) ≡ units p
+    finite-size l =
+        let whole : p % 2 ^ 63 ≡ p = mod-eq-of-lt (omega arith) in
+        value-scaled (ofBits binary64 p) (leb (2 ^ 63) p) (units (p % 2 ^ 63)) (pattern-value p (omega arith)) ∙ ap units whole
+
+-- it is above 0 where the pattern is
+pub pattern-positive : (p : ℕ) → 0 < p → p < 0x7FF0_0000_0000_0000 → T (positive (ofBits binary64 p))
+pattern-positive p h l =
+    let whole : p % 2 ^ 63 ≡ p = mod-eq-of-lt (omega arith) in
+    let v : HasValue (ofBits binary64 p) false (units p) (2 ^ 1074) = subst (λ (s : Bool). HasValue (ofBits binary64 p) s (units p) (2 ^ 1074)) (lt-leb (2 ^ 63) p (omega arith)) (rw whole at (pattern-value p (omega arith))) in
+    positive-of-value (ofBits binary64 p) (units p) (2 ^ 1074) v (units-positive p h)

@@ -3,3 +3,5 @@ pub mod Doubles
 pub mod Units
 pub mod Root
 pub mod Signs
+pub mod SquareRoot
+pub mod Existence

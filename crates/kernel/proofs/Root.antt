@@ -12,7 +12,7 @@ use borrow.Author.Tests.{lt-ltb, le-ltb, ltb-true, ltb-false}
 use Rattle.kernel.specs.Sqrt.{square, units, greatest, notAbove, rootPattern}
 use Rattle.kernel.specs.Nearest.{Nearest, Significand, Rounds, RootOf}
 use Rattle.kernel.proofs.Whole.{nearest-range, argument-least, argument-most}
-use Rattle.kernel.proofs.Units.{units-at, split-pattern, units-grows, units-mono}
+use Rattle.kernel.proofs.Units.{units-low, units-at, split-pattern, units-grows, units-mono}
 
 -- ---- only one pattern
 
@@ -24,7 +24,7 @@ midpoints : (p q : ℕ) → p < q → square (units p + units (p + 1)) ≤ squar
 midpoints p q h = square-mono (add-le-add (units-mono p (q - 1) (omega arith)) (units-mono (p + 1) q (omega arith)))
 
 -- r and p both have n between their midpoints, p with room on both sides
-one-pattern : (n r p : ℕ) → square (units (r - 1) + units r) < n → n ≤ square (units r + units (r + 1))
+pub one-pattern : (n r p : ℕ) → square (units (r - 1) + units r) < n → n ≤ square (units r + units (r + 1))
     → square (units (p - 1) + units p) < n → n < square (units p + units (p + 1)) → r ≡ p
 one-pattern n r p rl rh pl ph = go (decLt r p) (decLt p r)
   where
@@ -154,11 +154,20 @@ places b s h l = go (decLt s 53)
     go (yes k) = omega arith
     go (no k) = let m : 2 ^ 53 ≤ 2 ^ s = pow-mono {i = 53} {j = s} (omega arith) in absurd (omega (arith, mul-le-mul h m))
 
+-- a double without a leading digit, moved up by s places until it has one
+pub subnormal-argument : (b m s : ℕ) → b < 2 ^ 52 → s ≤ 52 → m ≡ b * 2 ^ s → 2 ^ 52 ≤ m → units b * 2 ^ 1074 ≡ (2 ^ 52 + (m - 2 ^ 52)) * 2 ^ (52 + (1022 - s))
+subnormal-argument b m s l k e h =
+    let whole : m ≡ 2 ^ 52 + (m - 2 ^ 52) = omega arith in
+    ap (λ (x : ℕ). x * 2 ^ 1074) (units-low b l) ∙ moved-up b m s (52 + (1022 - s)) 1074 e (omega arith) ∙ ap (λ (x : ℕ). x * 2 ^ (52 + (1022 - s))) whole
+
 -- a double with a leading digit
-pub normal-units : (b n : ℕ) → 2 ^ 52 ≤ b → units b * 2 ^ n ≡ (2 ^ 52 + b % 2 ^ 52) * 2 ^ (b / 2 ^ 52 - 1 + n)
-normal-units b n h =
+pub normal-argument : (b : ℕ) → 2 ^ 52 ≤ b → units b * 2 ^ 1074 ≡ (2 ^ 52 + b % 2 ^ 52) * 2 ^ (52 + (b / 2 ^ 52 + 1021))
+normal-argument b h =
     let t = b / 2 ^ 52 - 1 in
     let r = 2 ^ 52 + b % 2 ^ 52 in
-    ap (λ (x : ℕ). units x * 2 ^ n) (sym (split-pattern b h))
-    ∙ ap (λ (x : ℕ). x * 2 ^ n) (units-at t r (omega arith) (omega arith))
-    ∙ mul-assoc r (2 ^ t) (2 ^ n) ∙ ap (λ (x : ℕ). r * x) (sym (pow-add 2 t n))
+    let value : units b ≡ r * 2 ^ t = ap units (sym (split-pattern b h)) ∙ units-at t r (omega arith) (omega arith) in
+    let places : t + 1074 ≡ 52 + (b / 2 ^ 52 + 1021) = omega arith in
+    up-by (units b) r t 1074 _ value places
+  where
+    up-by : (x r t k n : ℕ) → x ≡ r * 2 ^ t → t + k ≡ n → x * 2 ^ k ≡ r * 2 ^ n
+    up-by x r t k n e f = ap (λ (y : ℕ). y * 2 ^ k) e ∙ sym (moved-up r (r * 2 ^ t) t k n refl f)

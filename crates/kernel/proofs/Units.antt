@@ -70,3 +70,6 @@ units-mono p (suc q) h =
     (λ (e : p ≡ suc q). omega (arith, ap units e))
     (λ (l : p < suc q). le-trans (units-mono p q (le-of-suc-le-suc l)) (le-of-lt (rw add-one at (units-grows q))))
     (eq-or-lt-of-le h)
+
+pub units-positive : (p : ℕ) → 0 < p → 0 < units p
+units-positive p h = omega (arith, units-mono 1 p h, units-low 1 (omega arith))

@@ -11,6 +11,7 @@ use lib.Ieee.Positive.{positive}
 use Rattle.kernel.specs.Sqrt.{scaled, units, rootPattern, sqrt}
 use Rattle.kernel.proofs.Signs.{negative, isZero, below-zero, equals-zero}
 use Rattle.kernel.proofs.Doubles.{equals-itself, no-nan-pattern, positive-pattern}
+use Rattle.kernel.proofs.SquareRoot.{sqrt-positive}
 use Rattle.kernel.proofs.number.sqrt.Statement.{statement}
 use Rattle.kernel.proofs.number.sqrt.Tie as tie
 
@@ -33,14 +34,6 @@ of-negative (inf false) h = absurd h
 of-negative (fin s zero e) h = absurd h
 of-negative (fin true (suc m) e) h = refl
 of-negative (fin false (suc m) e) h = absurd h
-
-of-positive : (x : Float) → T (positive x) → sqrt x ≡ ofBits binary64 (rootPattern (scaled x))
-unfolding sqrt
-of-positive nan h = absurd h
-of-positive (inf s) h = absurd h
-of-positive (fin true m e) h = absurd h
-of-positive (fin false zero e) h = absurd h
-of-positive (fin false (suc m) e) h = refl
 
 -- what no test has caught
 left : (x : Float) → T (not (isNan x)) → isZero x ≡ false → negative x ≡ false → (x ≡ inf false) ⊎ T (positive x)
@@ -104,7 +97,7 @@ returns-5 : tie.Need-returns-5
 returns-5 c =
     let x = c .before .before .before .before .before .args .x in
     let p = root-is (c .before) in
-    ap (ofBits binary64) (c .root-pattern .ensures .0 ∙ ap rootPattern (sym (positive-pattern x (held (c .before .before .before .before .before)) p .size))) ∙ sym (of-positive x p)
+    ap (ofBits binary64) (c .root-pattern .ensures .0 ∙ ap rootPattern (sym (positive-pattern x (held (c .before .before .before .before .before)) p .size))) ∙ sym (sqrt-positive x p)
 
 pub sqrt-spec : {M : Type 1} → statement M
 sqrt-spec = tie.close (tie.spec returns returns-2 returns-3 float-to-bits-bits returns-4 root-pattern-requires float-from-bits-result returns-5)

@@ -3,10 +3,8 @@ use Prim.Native.Nat.{ℕ, _+_, _-_, _*_, _^_, _≤_, _<_}
 use native.Mathlib.Nat.{pow-succ'}
 use native.Mathlib.Numerals.{add-one}
 use native.Mathlib.Omega.{arith}
-use mathlib.Core.Path.{_≡_, refl, sym, ap, _∙_}
-use Rattle.kernel.specs.Sqrt.{rootPattern}
-use Rattle.kernel.proofs.Units.{units-low}
-use Rattle.kernel.proofs.Root.{moved-up, places}
+use mathlib.Core.Path.{_≡_}
+use Rattle.kernel.proofs.Root.{subnormal-argument, places}
 use Rattle.kernel.proofs.number.root.subnormal_pattern.Statement.{statement}
 use Rattle.kernel.proofs.number.root.subnormal_pattern.Tie as tie
 
@@ -44,11 +42,9 @@ pattern-requires c κs = omega arith
 
 returns : tie.Need-returns Inv-loop μ-loop
 returns c =
-    let b = c .before .before .before .args .b in
+    let start = c .before .before .before in
     let l = c .before .before .loop in
-    let whole : 2 ^ 52 + (l .m - 2 ^ 52) ≡ l .m = omega arith in
-    let same = moved-up b (l .m) (l .shift) (52 + (1022 - l .shift)) 1074 (l .inv .0) (omega arith) in
-    (c .pattern .ensures .root b (same ∙ ap (λ (x : ℕ). x * 2 ^ (52 + (1022 - l .shift))) (sym whole)) ∙ sym (ap rootPattern (units-low b (c .before .before .before .pre .1))), c .pattern .ensures .finite)
+    (c .pattern .ensures .root _ (subnormal-argument (start .args .b) (l .m) (l .shift) (start .pre .1) (l .inv .2) (l .inv .0) (c .before .loop-test .left)), c .pattern .ensures .finite)
 
 pub subnormal-pattern-spec : {M : Type 1} → statement M
 subnormal-pattern-spec = tie.close (tie.spec Inv-loop μ-loop loop-holds mul-m add-shift loop-less loop-again sub-pattern pattern-requires returns)
