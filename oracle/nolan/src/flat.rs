@@ -1,0 +1,221 @@
+//! The source's functions on flat slices, row by row: each at all its sides, as a table of its instances.
+use crate::linalg::{generic, mat3, regularize};
+
+/// What a call is lent to read: its slices, and the one number that some calls take.
+pub struct Given<'a> {
+    pub slices: &'a [&'a [f64]],
+    pub number: f64,
+}
+
+/// A function of the source at one order: 0 and the result, or the number of the question that its `None` stands for.
+pub type Theirs = fn(&Given, &mut [f64]) -> u32;
+
+fn matrix<const M: usize, const N: usize>(s: &[f64]) -> &[[f64; N]; M] {
+    s.as_chunks::<N>().0.try_into().unwrap()
+}
+
+fn vector<const N: usize>(s: &[f64]) -> &[f64; N] {
+    s.try_into().unwrap()
+}
+
+fn answer(out: &mut [f64], result: &[f64]) -> u32 {
+    out.copy_from_slice(result);
+    0
+}
+
+/// The source's functions on flat slices: `theirs!(name <sides> (given) = number or slice of results)`.
+macro_rules! theirs {
+    ($name:ident <$($side:ident),*> $given:ident => $result:expr) => {
+        fn $name<$(const $side: usize),*>($given: &Given, out: &mut [f64]) -> u32 {
+            answer(out, $result.as_flattened())
+        }
+    };
+}
+
+theirs!(mul<M, K, N> g => generic::mat_mul::<M, K, N>(matrix(g.slices[0]), matrix(g.slices[1])));
+theirs!(transpose<M, N> g => generic::mat_transpose::<M, N>(matrix(g.slices[0])));
+theirs!(ata<M, N> g => generic::mat_ata::<M, N>(matrix(g.slices[0])));
+theirs!(frobenius<M, N> g => [[generic::mat_frobenius::<M, N>(matrix(g.slices[0]))]]);
+theirs!(symmetrize<N> g => generic::mat_symmetrize::<f64, N>(matrix(g.slices[0])));
+theirs!(trace<N> g => [[generic::mat_trace::<N>(matrix(g.slices[0]))]]);
+theirs!(trace_product<N> g => [[generic::mat_trace_product::<N>(matrix(g.slices[0]), matrix(g.slices[1]))]]);
+theirs!(trace_cube<N> g => [[generic::mat_trace_cube::<N>(matrix(g.slices[0]), matrix(g.slices[1]))]]);
+theirs!(vec_mul<N> g => [generic::mat_vec_mul::<N>(matrix(g.slices[0]), vector(g.slices[1]))]);
+theirs!(quadratic_form<N> g => [[generic::mat_quadratic_form::<f64, N>(vector(g.slices[0]), matrix(g.slices[1]))]]);
+theirs!(norm<N> g => [[generic::vec_norm::<N>(vector(g.slices[0]))]]);
+theirs!(with_inv<N> g => [[generic::mahalanobis_distance_squared_with_inv::<N>(
+    vector(g.slices[0]),
+    vector(g.slices[1]),
+    matrix(g.slices[2]),
+)]]);
+theirs!(damped<N> g => regularize::tikhonov::<N>(matrix(g.slices[0]), g.number));
+theirs!(det3<> g => [[mat3::mat3_det(matrix(g.slices[0]))]]);
+
+fn cholesky<const N: usize>(g: &Given, out: &mut [f64]) -> u32 {
+    generic::mat_cholesky::<N>(matrix(g.slices[0])).map_or(7, |l| answer(out, l.as_flattened()))
+}
+
+fn inv3(g: &Given, out: &mut [f64]) -> u32 {
+    mat3::mat3_inv(matrix(g.slices[0])).map_or(8, |m| answer(out, m.as_flattened()))
+}
+
+fn solve3(g: &Given, out: &mut [f64]) -> u32 {
+    mat3::mat3_solve(matrix(g.slices[0]), vector(g.slices[1])).map_or(8, |x| answer(out, &x))
+}
+
+/// The instances of a function of one side, 1 to 16.
+macro_rules! orders {
+    ($f:ident $(, $before:literal)*) => {
+        [
+            $f::<$($before,)* 1>, $f::<$($before,)* 2>, $f::<$($before,)* 3>, $f::<$($before,)* 4>,
+            $f::<$($before,)* 5>, $f::<$($before,)* 6>, $f::<$($before,)* 7>, $f::<$($before,)* 8>,
+            $f::<$($before,)* 9>, $f::<$($before,)* 10>, $f::<$($before,)* 11>, $f::<$($before,)* 12>,
+            $f::<$($before,)* 13>, $f::<$($before,)* 14>, $f::<$($before,)* 15>, $f::<$($before,)* 16>,
+        ] as [Theirs; 16]
+    };
+}
+
+/// Those of a function of two sides, 1 to 16 each.
+macro_rules! pairs {
+    ($f:ident) => {
+        [
+            orders!($f, 1),
+            orders!($f, 2),
+            orders!($f, 3),
+            orders!($f, 4),
+            orders!($f, 5),
+            orders!($f, 6),
+            orders!($f, 7),
+            orders!($f, 8),
+            orders!($f, 9),
+            orders!($f, 10),
+            orders!($f, 11),
+            orders!($f, 12),
+            orders!($f, 13),
+            orders!($f, 14),
+            orders!($f, 15),
+            orders!($f, 16),
+        ] as [[Theirs; 16]; 16]
+    };
+}
+
+/// The sides of a product: instances of all 4,096 triples would take minutes to build.
+pub static PRODUCT_SIDES: [usize; 8] = [1, 2, 3, 4, 6, 9, 13, 16];
+
+macro_rules! product_row {
+    ($f:ident, $m:literal, $k:literal) => {
+        [
+            $f::<$m, $k, 1>,
+            $f::<$m, $k, 2>,
+            $f::<$m, $k, 3>,
+            $f::<$m, $k, 4>,
+            $f::<$m, $k, 6>,
+            $f::<$m, $k, 9>,
+            $f::<$m, $k, 13>,
+            $f::<$m, $k, 16>,
+        ] as [Theirs; 8]
+    };
+}
+
+macro_rules! product_table {
+    ($f:ident, $m:literal) => {
+        [
+            product_row!($f, $m, 1),
+            product_row!($f, $m, 2),
+            product_row!($f, $m, 3),
+            product_row!($f, $m, 4),
+            product_row!($f, $m, 6),
+            product_row!($f, $m, 9),
+            product_row!($f, $m, 13),
+            product_row!($f, $m, 16),
+        ] as [[Theirs; 8]; 8]
+    };
+}
+
+static PRODUCTS: [[[Theirs; 8]; 8]; 8] = [
+    product_table!(mul, 1),
+    product_table!(mul, 2),
+    product_table!(mul, 3),
+    product_table!(mul, 4),
+    product_table!(mul, 6),
+    product_table!(mul, 9),
+    product_table!(mul, 13),
+    product_table!(mul, 16),
+];
+static TRANSPOSES: [[Theirs; 16]; 16] = pairs!(transpose);
+static ATAS: [[Theirs; 16]; 16] = pairs!(ata);
+static FROBENIUSES: [[Theirs; 16]; 16] = pairs!(frobenius);
+
+/// The instance of each function at the given sides.
+pub mod at {
+    use super::*;
+
+    pub fn mat_mul(s: &[usize]) -> Theirs {
+        let place = |side: usize| PRODUCT_SIDES.iter().position(|p| *p == side).unwrap();
+        PRODUCTS[place(s[0])][place(s[1])][place(s[2])]
+    }
+
+    pub fn mat_transpose(s: &[usize]) -> Theirs {
+        TRANSPOSES[s[0] - 1][s[1] - 1]
+    }
+
+    pub fn mat_ata(s: &[usize]) -> Theirs {
+        ATAS[s[0] - 1][s[1] - 1]
+    }
+
+    pub fn mat_frobenius(s: &[usize]) -> Theirs {
+        FROBENIUSES[s[0] - 1][s[1] - 1]
+    }
+
+    pub fn mat_symmetrize(s: &[usize]) -> Theirs {
+        orders!(symmetrize)[s[0] - 1]
+    }
+
+    pub fn mat_trace(s: &[usize]) -> Theirs {
+        orders!(trace)[s[0] - 1]
+    }
+
+    pub fn mat_trace_product(s: &[usize]) -> Theirs {
+        orders!(trace_product)[s[0] - 1]
+    }
+
+    pub fn mat_trace_cube(s: &[usize]) -> Theirs {
+        orders!(trace_cube)[s[0] - 1]
+    }
+
+    pub fn mat_vec_mul(s: &[usize]) -> Theirs {
+        orders!(vec_mul)[s[0] - 1]
+    }
+
+    pub fn mat_quadratic_form(s: &[usize]) -> Theirs {
+        orders!(quadratic_form)[s[0] - 1]
+    }
+
+    pub fn vec_norm(s: &[usize]) -> Theirs {
+        orders!(norm)[s[0] - 1]
+    }
+
+    pub fn mahalanobis_distance_squared_with_inv(s: &[usize]) -> Theirs {
+        orders!(with_inv)[s[0] - 1]
+    }
+
+    pub fn mat_cholesky(s: &[usize]) -> Theirs {
+        orders!(cholesky)[s[0] - 1]
+    }
+
+    pub fn tikhonov(s: &[usize]) -> Theirs {
+        orders!(damped)[s[0] - 1]
+    }
+
+    pub fn mat3_det(_: &[usize]) -> Theirs {
+        det3
+    }
+
+    pub fn mat3_inv(_: &[usize]) -> Theirs {
+        inv3
+    }
+
+    pub fn mat3_solve(_: &[usize]) -> Theirs {
+        solve3
+    }
+}

@@ -1,0 +1,195 @@
+//! The static library's calls: their declarations, and a safe wrapper for each that lends whole slices.
+//!
+//! A wrapper answers what the call answers: 0, or the number of the question that was not met.
+
+include!(concat!(env!("OUT_DIR"), "/absent.rs"));
+
+extern "C" {
+    fn pel_abs(x: f64) -> f64;
+    fn pel_max(a: f64, b: f64) -> f64;
+    fn pel_sqrt(x: f64) -> f64;
+    fn pel_value(x: f64) -> f64;
+    fn pel_constant(c: f64) -> f64;
+
+    fn pel_mat_mul(
+        a: *const f64,
+        a_len: usize,
+        b: *const f64,
+        b_len: usize,
+        m: usize,
+        k: usize,
+        n: usize,
+        out: *mut f64,
+        out_len: usize,
+    ) -> u32;
+    fn pel_mat_transpose(a: *const f64, a_len: usize, m: usize, n: usize, out: *mut f64, out_len: usize) -> u32;
+    fn pel_mat_ata(a: *const f64, a_len: usize, m: usize, n: usize, out: *mut f64, out_len: usize) -> u32;
+    fn pel_mat_frobenius(a: *const f64, a_len: usize, m: usize, n: usize, out: &mut f64) -> u32;
+    fn pel_mat_symmetrize(a: *const f64, a_len: usize, n: usize, out: *mut f64, out_len: usize) -> u32;
+    fn pel_mat_trace(a: *const f64, a_len: usize, n: usize, out: &mut f64) -> u32;
+    fn pel_mat_trace_product(a: *const f64, a_len: usize, b: *const f64, b_len: usize, n: usize, out: &mut f64) -> u32;
+    fn pel_mat_trace_cube(a: *const f64, a_len: usize, b: *const f64, b_len: usize, n: usize, out: &mut f64) -> u32;
+    fn pel_mat_vec_mul(
+        a: *const f64,
+        a_len: usize,
+        x: *const f64,
+        x_len: usize,
+        n: usize,
+        out: *mut f64,
+        out_len: usize,
+    ) -> u32;
+    fn pel_mat_quadratic_form(x: *const f64, x_len: usize, a: *const f64, a_len: usize, n: usize, out: &mut f64)
+        -> u32;
+    fn pel_vec_norm(x: *const f64, x_len: usize, n: usize, out: &mut f64) -> u32;
+    fn pel_mahalanobis_distance_squared_with_inv(
+        x: *const f64,
+        x_len: usize,
+        mu: *const f64,
+        mu_len: usize,
+        cov_inv: *const f64,
+        cov_inv_len: usize,
+        n: usize,
+        out: &mut f64,
+    ) -> u32;
+    fn pel_mat_cholesky(a: *const f64, a_len: usize, n: usize, out: *mut f64, out_len: usize) -> u32;
+    fn pel_tikhonov(cov: *const f64, cov_len: usize, alpha: f64, n: usize, out: *mut f64, out_len: usize) -> u32;
+    fn pel_mat3_det(m: *const f64, m_len: usize, out: &mut f64) -> u32;
+    fn pel_mat3_inv(m: *const f64, m_len: usize, out: *mut f64, out_len: usize) -> u32;
+    fn pel_mat3_solve(a: *const f64, a_len: usize, b: *const f64, b_len: usize, out: *mut f64, out_len: usize) -> u32;
+
+    fn pel_read_list(
+        list: *const u8,
+        list_len: usize,
+        values: *mut f64,
+        values_len: usize,
+        count: &mut usize,
+        dimension: &mut usize,
+    ) -> u32;
+    fn pel_write_list(
+        count: usize,
+        dimension: usize,
+        values: *const f64,
+        values_len: usize,
+        out: *mut u8,
+        out_len: usize,
+        length: &mut usize,
+    ) -> u32;
+    fn pel_record(list: *const u8, list_len: usize, offset: usize, start: &mut usize, length: &mut usize);
+}
+
+/// Whether the header declares the call.
+pub fn has(name: &str) -> bool {
+    !ABSENT.iter().any(|absent| absent.strip_prefix("pel_") == Some(name))
+}
+
+pub fn abs(x: f64) -> f64 {
+    unsafe { pel_abs(x) }
+}
+
+pub fn max(a: f64, b: f64) -> f64 {
+    unsafe { pel_max(a, b) }
+}
+
+pub fn sqrt(x: f64) -> f64 {
+    unsafe { pel_sqrt(x) }
+}
+
+pub fn value(x: f64) -> f64 {
+    unsafe { pel_value(x) }
+}
+
+pub fn constant(c: f64) -> f64 {
+    unsafe { pel_constant(c) }
+}
+
+pub fn mat_mul(a: &[f64], b: &[f64], m: usize, k: usize, n: usize, out: &mut [f64]) -> u32 {
+    unsafe { pel_mat_mul(a.as_ptr(), a.len(), b.as_ptr(), b.len(), m, k, n, out.as_mut_ptr(), out.len()) }
+}
+
+pub fn mat_transpose(a: &[f64], m: usize, n: usize, out: &mut [f64]) -> u32 {
+    unsafe { pel_mat_transpose(a.as_ptr(), a.len(), m, n, out.as_mut_ptr(), out.len()) }
+}
+
+pub fn mat_ata(a: &[f64], m: usize, n: usize, out: &mut [f64]) -> u32 {
+    unsafe { pel_mat_ata(a.as_ptr(), a.len(), m, n, out.as_mut_ptr(), out.len()) }
+}
+
+pub fn mat_frobenius(a: &[f64], m: usize, n: usize, out: &mut f64) -> u32 {
+    unsafe { pel_mat_frobenius(a.as_ptr(), a.len(), m, n, out) }
+}
+
+pub fn mat_symmetrize(a: &[f64], n: usize, out: &mut [f64]) -> u32 {
+    unsafe { pel_mat_symmetrize(a.as_ptr(), a.len(), n, out.as_mut_ptr(), out.len()) }
+}
+
+pub fn mat_trace(a: &[f64], n: usize, out: &mut f64) -> u32 {
+    unsafe { pel_mat_trace(a.as_ptr(), a.len(), n, out) }
+}
+
+pub fn mat_trace_product(a: &[f64], b: &[f64], n: usize, out: &mut f64) -> u32 {
+    unsafe { pel_mat_trace_product(a.as_ptr(), a.len(), b.as_ptr(), b.len(), n, out) }
+}
+
+pub fn mat_trace_cube(a: &[f64], b: &[f64], n: usize, out: &mut f64) -> u32 {
+    unsafe { pel_mat_trace_cube(a.as_ptr(), a.len(), b.as_ptr(), b.len(), n, out) }
+}
+
+pub fn mat_vec_mul(a: &[f64], x: &[f64], n: usize, out: &mut [f64]) -> u32 {
+    unsafe { pel_mat_vec_mul(a.as_ptr(), a.len(), x.as_ptr(), x.len(), n, out.as_mut_ptr(), out.len()) }
+}
+
+pub fn mat_quadratic_form(x: &[f64], a: &[f64], n: usize, out: &mut f64) -> u32 {
+    unsafe { pel_mat_quadratic_form(x.as_ptr(), x.len(), a.as_ptr(), a.len(), n, out) }
+}
+
+pub fn vec_norm(x: &[f64], n: usize, out: &mut f64) -> u32 {
+    unsafe { pel_vec_norm(x.as_ptr(), x.len(), n, out) }
+}
+
+pub fn mahalanobis_distance_squared_with_inv(x: &[f64], mu: &[f64], cov_inv: &[f64], n: usize, out: &mut f64) -> u32 {
+    unsafe {
+        pel_mahalanobis_distance_squared_with_inv(
+            x.as_ptr(),
+            x.len(),
+            mu.as_ptr(),
+            mu.len(),
+            cov_inv.as_ptr(),
+            cov_inv.len(),
+            n,
+            out,
+        )
+    }
+}
+
+pub fn mat_cholesky(a: &[f64], n: usize, out: &mut [f64]) -> u32 {
+    unsafe { pel_mat_cholesky(a.as_ptr(), a.len(), n, out.as_mut_ptr(), out.len()) }
+}
+
+pub fn tikhonov(cov: &[f64], alpha: f64, n: usize, out: &mut [f64]) -> u32 {
+    unsafe { pel_tikhonov(cov.as_ptr(), cov.len(), alpha, n, out.as_mut_ptr(), out.len()) }
+}
+
+pub fn mat3_det(m: &[f64], out: &mut f64) -> u32 {
+    unsafe { pel_mat3_det(m.as_ptr(), m.len(), out) }
+}
+
+pub fn mat3_inv(m: &[f64], out: &mut [f64]) -> u32 {
+    unsafe { pel_mat3_inv(m.as_ptr(), m.len(), out.as_mut_ptr(), out.len()) }
+}
+
+pub fn mat3_solve(a: &[f64], b: &[f64], out: &mut [f64]) -> u32 {
+    unsafe { pel_mat3_solve(a.as_ptr(), a.len(), b.as_ptr(), b.len(), out.as_mut_ptr(), out.len()) }
+}
+
+pub fn read_list(list: &[u8], values: &mut [f64], count: &mut usize, dimension: &mut usize) -> u32 {
+    unsafe { pel_read_list(list.as_ptr(), list.len(), values.as_mut_ptr(), values.len(), count, dimension) }
+}
+
+pub fn write_list(count: usize, dimension: usize, values: &[f64], out: &mut [u8], length: &mut usize) -> u32 {
+    unsafe { pel_write_list(count, dimension, values.as_ptr(), values.len(), out.as_mut_ptr(), out.len(), length) }
+}
+
+/// The record's part of the list, by its start and length.
+pub fn record(list: &[u8], offset: usize, start: &mut usize, length: &mut usize) {
+    unsafe { pel_record(list.as_ptr(), list.len(), offset, start, length) }
+}

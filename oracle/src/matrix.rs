@@ -1,0 +1,348 @@
+//! The kernel's matrix calls beside the source's functions.
+use crate::classes::CLASSES;
+use crate::ffi;
+use crate::number::sample;
+use crate::rng::Rng;
+use crate::tally::{same, Tally};
+use nolan::flat::{at, Given, Theirs, PRODUCT_SIDES};
+
+/// A call of the library and how it is compared.
+pub struct Call {
+    pub name: &'static str,
+    /// The sides that the call is compared at.
+    pub sides: fn() -> Vec<Vec<usize>>,
+    /// Rows and columns of each slice that is read.
+    pub reads: fn(&[usize]) -> Vec<(usize, usize)>,
+    /// The length of the result: of the lent slice, or 1 for a single number.
+    pub writes: fn(&[usize]) -> usize,
+    /// Whether the result is a single number, so that its length cannot be wrong.
+    pub single: bool,
+    pub ours: fn(&Given, &[usize], &mut [f64]) -> u32,
+    pub theirs: fn(&[usize]) -> Theirs,
+}
+
+fn no_sides() -> Vec<Vec<usize>> {
+    vec![vec![]]
+}
+
+fn one_side() -> Vec<Vec<usize>> {
+    (1..=16).map(|n| vec![n]).collect()
+}
+
+fn two_sides() -> Vec<Vec<usize>> {
+    (1..=16).flat_map(|m| (1..=16).map(move |n| vec![m, n])).collect()
+}
+
+fn three_sides() -> Vec<Vec<usize>> {
+    let of = &PRODUCT_SIDES;
+    of.iter().flat_map(|m| of.iter().flat_map(move |k| of.iter().map(move |n| vec![*m, *k, *n]))).collect()
+}
+
+fn square(s: &[usize]) -> Vec<(usize, usize)> {
+    vec![(s[0], s[0])]
+}
+
+fn two_squares(s: &[usize]) -> Vec<(usize, usize)> {
+    vec![(s[0], s[0]), (s[0], s[0])]
+}
+
+fn square_and_vector(s: &[usize]) -> Vec<(usize, usize)> {
+    vec![(s[0], s[0]), (1, s[0])]
+}
+
+fn rectangle(s: &[usize]) -> Vec<(usize, usize)> {
+    vec![(s[0], s[1])]
+}
+
+pub const CALLS: &[Call] = &[
+    Call {
+        name: "mat_mul",
+        sides: three_sides,
+        reads: |s| vec![(s[0], s[1]), (s[1], s[2])],
+        writes: |s| s[0] * s[2],
+        single: false,
+        ours: |g, s, out| ffi::mat_mul(g.slices[0], g.slices[1], s[0], s[1], s[2], out),
+        theirs: at::mat_mul,
+    },
+    Call {
+        name: "mat_transpose",
+        sides: two_sides,
+        reads: rectangle,
+        writes: |s| s[0] * s[1],
+        single: false,
+        ours: |g, s, out| ffi::mat_transpose(g.slices[0], s[0], s[1], out),
+        theirs: at::mat_transpose,
+    },
+    Call {
+        name: "mat_ata",
+        sides: two_sides,
+        reads: rectangle,
+        writes: |s| s[1] * s[1],
+        single: false,
+        ours: |g, s, out| ffi::mat_ata(g.slices[0], s[0], s[1], out),
+        theirs: at::mat_ata,
+    },
+    Call {
+        name: "mat_frobenius",
+        sides: two_sides,
+        reads: rectangle,
+        writes: |_| 1,
+        single: true,
+        ours: |g, s, out| ffi::mat_frobenius(g.slices[0], s[0], s[1], &mut out[0]),
+        theirs: at::mat_frobenius,
+    },
+    Call {
+        name: "mat_symmetrize",
+        sides: one_side,
+        reads: square,
+        writes: |s| s[0] * s[0],
+        single: false,
+        ours: |g, s, out| ffi::mat_symmetrize(g.slices[0], s[0], out),
+        theirs: at::mat_symmetrize,
+    },
+    Call {
+        name: "mat_trace",
+        sides: one_side,
+        reads: square,
+        writes: |_| 1,
+        single: true,
+        ours: |g, s, out| ffi::mat_trace(g.slices[0], s[0], &mut out[0]),
+        theirs: at::mat_trace,
+    },
+    Call {
+        name: "mat_trace_product",
+        sides: one_side,
+        reads: two_squares,
+        writes: |_| 1,
+        single: true,
+        ours: |g, s, out| ffi::mat_trace_product(g.slices[0], g.slices[1], s[0], &mut out[0]),
+        theirs: at::mat_trace_product,
+    },
+    Call {
+        name: "mat_trace_cube",
+        sides: one_side,
+        reads: two_squares,
+        writes: |_| 1,
+        single: true,
+        ours: |g, s, out| ffi::mat_trace_cube(g.slices[0], g.slices[1], s[0], &mut out[0]),
+        theirs: at::mat_trace_cube,
+    },
+    Call {
+        name: "mat_vec_mul",
+        sides: one_side,
+        reads: square_and_vector,
+        writes: |s| s[0],
+        single: false,
+        ours: |g, s, out| ffi::mat_vec_mul(g.slices[0], g.slices[1], s[0], out),
+        theirs: at::mat_vec_mul,
+    },
+    Call {
+        name: "mat_quadratic_form",
+        sides: one_side,
+        reads: |s| vec![(1, s[0]), (s[0], s[0])],
+        writes: |_| 1,
+        single: true,
+        ours: |g, s, out| ffi::mat_quadratic_form(g.slices[0], g.slices[1], s[0], &mut out[0]),
+        theirs: at::mat_quadratic_form,
+    },
+    Call {
+        name: "vec_norm",
+        sides: one_side,
+        reads: |s| vec![(1, s[0])],
+        writes: |_| 1,
+        single: true,
+        ours: |g, s, out| ffi::vec_norm(g.slices[0], s[0], &mut out[0]),
+        theirs: at::vec_norm,
+    },
+    Call {
+        name: "mahalanobis_distance_squared_with_inv",
+        sides: one_side,
+        reads: |s| vec![(1, s[0]), (1, s[0]), (s[0], s[0])],
+        writes: |_| 1,
+        single: true,
+        ours: |g, s, out| {
+            ffi::mahalanobis_distance_squared_with_inv(g.slices[0], g.slices[1], g.slices[2], s[0], &mut out[0])
+        },
+        theirs: at::mahalanobis_distance_squared_with_inv,
+    },
+    Call {
+        name: "mat_cholesky",
+        sides: one_side,
+        reads: square,
+        writes: |s| s[0] * s[0],
+        single: false,
+        ours: |g, s, out| ffi::mat_cholesky(g.slices[0], s[0], out),
+        theirs: at::mat_cholesky,
+    },
+    Call {
+        name: "tikhonov",
+        sides: one_side,
+        reads: square,
+        writes: |s| s[0] * s[0],
+        single: false,
+        ours: |g, s, out| ffi::tikhonov(g.slices[0], g.number, s[0], out),
+        theirs: at::tikhonov,
+    },
+    Call {
+        name: "mat3_det",
+        sides: no_sides,
+        reads: |_| vec![(3, 3)],
+        writes: |_| 1,
+        single: true,
+        ours: |g, _, out| ffi::mat3_det(g.slices[0], &mut out[0]),
+        theirs: at::mat3_det,
+    },
+    Call {
+        name: "mat3_inv",
+        sides: no_sides,
+        reads: |_| vec![(3, 3)],
+        writes: |_| 9,
+        single: false,
+        ours: |g, _, out| ffi::mat3_inv(g.slices[0], out),
+        theirs: at::mat3_inv,
+    },
+    Call {
+        name: "mat3_solve",
+        sides: no_sides,
+        reads: |_| vec![(3, 3), (1, 3)],
+        writes: |_| 3,
+        single: false,
+        ours: |g, _, out| ffi::mat3_solve(g.slices[0], g.slices[1], out),
+        theirs: at::mat3_solve,
+    },
+];
+
+/// The lent result stands between two stretches of this length, which no call may touch.
+const GUARD: usize = 4;
+
+/// What stands in lent memory before a call: numbers that no result has, each other than its neighbours.
+fn mark(memory: &mut [f64]) {
+    for (i, x) in memory.iter_mut().enumerate() {
+        *x = f64::from_bits(0x7FF4_DEAD_BEEF_0000 + i as u64);
+    }
+}
+
+/// Calls the library with a marked result of the given length, and compares the answer's number, the result and all else.
+fn compare(
+    call: &Call,
+    tally: &mut Tally,
+    given: &Given,
+    sides: &[usize],
+    length: usize,
+    wanted: (u32, &[f64]),
+    class: &str,
+) {
+    let mut memory = [0.0; 2 * GUARD + 16 * 16 + 16];
+    mark(&mut memory);
+    let before = memory;
+    let number = (call.ours)(given, sides, &mut memory[GUARD..GUARD + length]);
+    let agrees = memory.iter().enumerate().all(|(i, x)| {
+        let inside = i >= GUARD && i < GUARD + length;
+        if inside && wanted.0 == 0 {
+            same(*x, wanted.1[i - GUARD])
+        } else {
+            x.to_bits() == before[i].to_bits()
+        }
+    });
+    tally.case(number == wanted.0 && agrees, || {
+        let lengths: Vec<usize> = given.slices.iter().map(|s| s.len()).collect();
+        format!(
+            "sides {sides:?}, lengths {lengths:?}, result {length}, {class}: answers {number}, not {}, and the result {}\n    {:?}",
+            wanted.0,
+            if agrees { "agrees" } else { "differs" },
+            given.slices,
+        )
+    });
+}
+
+/// The slices and the number of a case of a class.
+pub fn draw(rng: &mut Rng, class: usize, shapes: &[(usize, usize)]) -> (Vec<Vec<f64>>, f64) {
+    let slices = shapes
+        .iter()
+        .map(|(rows, cols)| {
+            let mut m = vec![0.0; rows * cols];
+            // A slice beside the first is at times an ordinary one.
+            let class = if rng.below(8) == 0 { 0 } else { class };
+            (CLASSES[class].1)(rng, *cols, &mut m);
+            m
+        })
+        .collect();
+    let turn = rng.bits();
+    (slices, sample(rng, turn))
+}
+
+/// Cases of every class at these sides.
+fn answers(call: &Call, tally: &mut Tally, rng: &mut Rng, sides: &[usize], count: usize) {
+    let shapes = (call.reads)(sides);
+    let length = (call.writes)(sides);
+    let theirs = (call.theirs)(sides);
+    let mut result = vec![0.0; length];
+    for class in 0..CLASSES.len() {
+        for _ in 0..count {
+            let (slices, number) = draw(rng, class, &shapes);
+            let slices: Vec<&[f64]> = slices.iter().map(Vec::as_slice).collect();
+            let given = Given { slices: &slices, number };
+            let wanted = theirs(&given, &mut result);
+            compare(call, tally, &given, sides, length, (wanted, &result), CLASSES[class].0);
+        }
+    }
+}
+
+/// Sides out of 1 to 16, and slices of other lengths: question 1 comes before question 2.
+fn refusals(call: &Call, tally: &mut Tally, rng: &mut Rng, sides: &[usize]) {
+    let lengths: Vec<usize> = (call.reads)(sides).iter().map(|(rows, cols)| rows * cols).collect();
+    let length = (call.writes)(sides);
+    let entries: Vec<f64> = (0..16 * 16 + 16).map(|_| rng.unit()).collect();
+    let mut refuse = |sides: &[usize], lengths: &[usize], length: usize, wanted: u32| {
+        let slices: Vec<&[f64]> = lengths.iter().map(|n| &entries[..*n]).collect();
+        let given = Given { slices: &slices, number: 1.0 };
+        compare(call, tally, &given, sides, length, (wanted, &[]), "refused");
+    };
+    let others = |n: usize| [0, n.saturating_sub(1), n + 1, n + 16].into_iter().filter(move |m| *m != n);
+    let outside = [0, 17, 18, 32, 256, 1 << 32, 1 << 60, usize::MAX];
+    for bad in outside {
+        for at in 0..sides.len() {
+            let mut wrong = sides.to_vec();
+            wrong[at] = bad;
+            refuse(&wrong, &lengths, length, 1);
+            refuse(&wrong, &vec![0; lengths.len()], if call.single { 1 } else { 0 }, 1);
+        }
+        if !sides.is_empty() {
+            refuse(&vec![bad; sides.len()], &vec![0; lengths.len()], if call.single { 1 } else { 0 }, 1);
+        }
+    }
+    for at in 0..lengths.len() {
+        for other in others(lengths[at]) {
+            let mut wrong = lengths.clone();
+            wrong[at] = other;
+            refuse(sides, &wrong, length, 2);
+        }
+    }
+    if !call.single {
+        for other in others(length) {
+            refuse(sides, &lengths, other, 2);
+        }
+    }
+}
+
+/// Runs every call that the header declares, and answers the number of differences.
+pub fn run(long: bool) -> u64 {
+    let mut differences = 0;
+    for call in CALLS {
+        if !ffi::has(call.name) {
+            println!("{}: not declared", call.name);
+            continue;
+        }
+        let all = (call.sides)();
+        // So many of each class at each of the call's sides.
+        let count = if long { 2_000 } else { (6_000 / all.len()).max(12) };
+        let mut tally = Tally::new(call.name);
+        let mut rng = Rng::new(5);
+        for sides in &all {
+            answers(call, &mut tally, &mut rng, sides, count);
+            refusals(call, &mut tally, &mut rng, sides);
+        }
+        differences += tally.close();
+    }
+    differences
+}
