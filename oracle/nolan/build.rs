@@ -6,7 +6,7 @@ use std::{env, fs};
 // so its two constants are taken and its declarations are made here.
 fn main() {
     println!("cargo:rerun-if-env-changed=NOLAN_SRC");
-    let root = Path::new(env!("CARGO_MANIFEST_DIR")).join("../..");
+    let root = Path::new(&env::var("CARGO_MANIFEST_DIR").unwrap()).join("../..");
     let given = env::var("NOLAN_SRC").map(PathBuf::from).unwrap_or_else(|_| root.join("../shared/docs/src"));
     let src = given.join("src").canonicalize().unwrap_or_else(|_| panic!("no Rust source at {}", given.display()));
     println!("cargo:rerun-if-changed={}", src.display());

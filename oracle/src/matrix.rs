@@ -1,7 +1,7 @@
 //! The kernel's matrix calls beside the source's functions.
 use crate::classes::CLASSES;
 use crate::ffi;
-use crate::number::sample;
+use crate::number::{sample, special};
 use crate::rng::Rng;
 use crate::tally::{same, Tally};
 use nolan::flat::{at, Given, Theirs, PRODUCT_SIDES};
@@ -268,7 +268,8 @@ pub fn draw(rng: &mut Rng, class: usize, shapes: &[(usize, usize)]) -> (Vec<Vec<
         })
         .collect();
     let turn = rng.bits();
-    (slices, sample(rng, turn))
+    let number = if rng.below(4) == 0 { rng.one_of(&special()) } else { sample(rng, turn) };
+    (slices, number)
 }
 
 /// Cases of every class at these sides.
