@@ -1,17 +1,15 @@
 -- Laws of doubles and their bit patterns.
 use Prim.Native.Nat.{ℕ, zero, suc, _+_, _*_, _/_, _%_, _^_, _≤_, _<_}
-use native.Mathlib.Nat.{pos-of-ne-zero, mod-eq-of-lt, mod-lt, mul-div-cancel, mul-one, zero-add, eq-or-lt-of-le, div-add-mod', div-lt-iff-lt-mul}
+use native.Mathlib.Nat.{pos-of-ne-zero, mod-eq-of-lt, mod-lt, mul-div-cancel, mul-one, zero-add, eq-or-lt-of-le}
 use native.Mathlib.Omega.{arith}
 use native.Mathlib.Decide.{decLt}
 use mathlib.Core.Path.{_≡_, refl, sym, ap, _∙_, subst, subst⁻¹}
 use mathlib.Core.Logic.{⊎-elim}
 use mathlib.Core.Bool.{Bool, true, false, not, cond}
-use lib.IntN.{ℤ, pos}
 use lib.Dec.{T, ltb, leb, eqb}
 use borrow.Author.Tests.{le-ltb, lt-leb, leb-false, ne-eqb}
-use lib.Ieee.{Float, nan, inf, fin, binary64, isNan, nanBits, ne, fits, ofBits, toBits, ofFields, odd, up, down}
-use lib.Ieee.Bits.{nanBits-above, ofBits-toBits, toBits-lt}
-use lib.Ieee.Digits.{Equals}
+use lib.Ieee.{Float, nan, inf, fin, binary64, isNan, nanBits, ne, fits, ofBits, toBits, ofFields, odd, down}
+use lib.Ieee.Bits.{nanBits-above, ofBits-toBits}
 use lib.Ieee.Exact.{HasValue, odd-sign}
 use lib.Ieee.Fits.{down-pos}
 use lib.Ieee.Scale.{finite}

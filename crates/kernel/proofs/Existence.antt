@@ -4,11 +4,11 @@ use native.Mathlib.Nat.{pos-of-ne-zero, mul-le-mul-right, mul-lt-mul-of-pos-righ
 use native.Mathlib.Omega.{arith}
 use native.Mathlib.Decide.{decLe, decLt}
 use mathlib.Core.Path.{_≡_, refl, sym, ap, _∙_, subst}
-use lib.Pow.{pow-pos, pow-mono, pow-add}
+use lib.Pow.{pow-pos, pow-add}
 use lib.Ieee.{size}
 use lib.Ieee.Digits.{size-lt, size-reaches, size-le}
-use Rattle.kernel.specs.Sqrt.{square, units, rootPattern}
-use Rattle.kernel.specs.Nearest.{Nearest, Significand, Rounds, RootOf}
+use Rattle.kernel.specs.Sqrt.{units, rootPattern}
+use Rattle.kernel.specs.Nearest.{Nearest, Rounds}
 use Rattle.kernel.proofs.Root.{significand-range, rounds-of, root-of, subnormal-argument, normal-argument}
 
 -- ---- whole numbers

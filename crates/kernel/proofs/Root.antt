@@ -1,13 +1,12 @@
 -- The bit pattern of the rounded root: only one meets the condition, `rootPattern` finds it, and the whole-number root gives it.
 use Prim.Native.Nat.{ℕ, zero, suc, _+_, _-_, _*_, _/_, _%_, _^_, _≤_, _<_}
-use native.Mathlib.Nat.{mul-le-mul, mul-le-mul-right, add-le-add, mul-lt-mul-of-pos-right, mul-pos, lt-of-lt-of-le, lt-of-le-of-lt, le-trans, lt-irrefl, eq-or-lt-of-le, le-of-lt, add-sub-cancel, pow-succ', two-pow-succ, zero-add, mul-assoc}
+use native.Mathlib.Nat.{mul-le-mul, mul-le-mul-right, add-le-add, mul-lt-mul-of-pos-right, mul-pos, lt-of-lt-of-le, lt-of-le-of-lt, le-trans, lt-irrefl, eq-or-lt-of-le, le-of-lt, add-sub-cancel, two-pow-succ, mul-assoc}
 use native.Mathlib.Omega.{arith}
 use native.Mathlib.Decide.{decLt}
 use mathlib.Core.Path.{_≡_, refl, sym, ap, _∙_, subst}
 use mathlib.Core.Logic.{⊎-elim}
 use mathlib.Core.Bool.{Bool, true, false, cond}
 use lib.Pow.{pow-pos, pow-mono, pow-add}
-use lib.Dec.{ltb}
 use borrow.Author.Tests.{lt-ltb, le-ltb, ltb-true, ltb-false}
 use Rattle.kernel.specs.Sqrt.{square, units, greatest, notAbove, rootPattern}
 use Rattle.kernel.specs.Nearest.{Nearest, Significand, Rounds, RootOf}

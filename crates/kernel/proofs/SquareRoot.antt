@@ -1,12 +1,11 @@
 -- The theorems of the square root: the doubles next to a double, what `sqrt` meets, that only one double meets it, and the special cases.
-use Prim.Native.Nat.{ℕ, zero, suc, _+_, _-_, _*_, _/_, _%_, _^_, _≤_, _<_}
-use native.Mathlib.Nat.{add-sub-cancel, lt-of-not-le, le-of-lt, not-le-of-lt}
+use Prim.Native.Nat.{ℕ, zero, suc, _+_, _-_, _*_, _^_, _≤_, _<_}
+use native.Mathlib.Nat.{le-of-lt}
 use native.Mathlib.Omega.{arith}
-use native.Mathlib.Decide.{decLe, decLt}
+use native.Mathlib.Decide.{decLt}
 use mathlib.Core.Path.{_≡_, refl, sym, ap, _∙_, subst}
-use mathlib.Core.Bool.{Bool, true, false}
+use mathlib.Core.Bool.{true, false}
 use lib.Dec.{T}
-use lib.IntN.{pos}
 use lib.Ieee.{Float, nan, inf, fin, binary64, fits, ofBits, toBits}
 use lib.Ieee.Bits.{ofBits-toBits, toBits-ofBits, ofBits-fits}
 use lib.Ieee.Fits.{nan-fits, inf-fits}
@@ -14,6 +13,7 @@ use lib.Ieee.Positive.{positive}
 use Rattle.kernel.specs.Sqrt.{square, scaled, above, below, Root, units, rootPattern, sqrt}
 use Rattle.kernel.specs.Nearest.{Rounds}
 use Rattle.kernel.proofs.Doubles.{positive-pattern, pattern-size, pattern-positive, positive-no-nan}
+use Rattle.kernel.proofs.Signs.{negative, isZero}
 use Rattle.kernel.proofs.Units.{units-grows, units-mono}
 use Rattle.kernel.proofs.Root.{one-pattern}
 use Rattle.kernel.proofs.Existence.{root-found}
@@ -119,6 +119,18 @@ pub sqrt-infinity : sqrt (inf false) ≡ inf false
 unfolding sqrt
 sqrt-infinity = refl
 
-pub sqrt-zero : (s : Bool) → sqrt (fin s 0 (pos 0)) ≡ fin s 0 (pos 0)
+pub sqrt-negative : (x : Float) → T (negative x) → sqrt x ≡ nan
 unfolding sqrt
-sqrt-zero s = refl
+sqrt-negative nan h = absurd h
+sqrt-negative (inf true) h = refl
+sqrt-negative (inf false) h = absurd h
+sqrt-negative (fin s zero e) h = absurd h
+sqrt-negative (fin true (suc m) e) h = refl
+sqrt-negative (fin false (suc m) e) h = absurd h
+
+pub sqrt-zero : (x : Float) → T (isZero x) → sqrt x ≡ x
+unfolding sqrt
+sqrt-zero nan h = absurd h
+sqrt-zero (inf s) h = absurd h
+sqrt-zero (fin s zero e) h = refl
+sqrt-zero (fin s (suc m) e) h = absurd h

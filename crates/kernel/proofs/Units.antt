@@ -1,12 +1,12 @@
 -- The doubles in their order: what a bit pattern stands for, in units of 2 ^ -1074, grows with the pattern.
 use Prim.Native.Nat.{ℕ, zero, suc, _+_, _-_, _*_, _/_, _%_, _^_, _≤_, _<_}
-use native.Mathlib.Nat.{mul-lt-mul-of-pos-right, div-add-mod', mod-lt, eq-or-lt-of-le, le-antisymm, le-trans, le-of-lt, le-of-suc-le-suc, pow-succ', suc-pred-eq-of-pos}
+use native.Mathlib.Nat.{mul-lt-mul-of-pos-right, mod-lt, eq-or-lt-of-le, le-trans, le-of-lt, le-of-suc-le-suc, pow-succ'}
 use native.Mathlib.Numerals.{add-one}
 use native.Mathlib.Omega.{arith}
 use native.Mathlib.Decide.{decLt}
-use mathlib.Core.Path.{_≡_, refl, sym, ap, _∙_, subst}
-use mathlib.Core.Logic.{_⊎_, inl, inr, ⊎-elim}
-use mathlib.Core.Bool.{Bool, true, false, cond}
+use mathlib.Core.Path.{_≡_, sym, ap, _∙_, subst}
+use mathlib.Core.Logic.{⊎-elim}
+use mathlib.Core.Bool.{false}
 use lib.Arith.{digits-div, digits-mod, le-zero}
 use lib.Pow.{pow-pos}
 use lib.Dec.{ltb}

@@ -1,6 +1,6 @@
 -- Examples a and b of document 01, computed on the definitions.
 use mathlib.Core.Path.{_≡_, refl}
-use lib.Ieee.{Float, binary64, ofBits, toBits}
+use lib.Ieee.{binary64, ofBits, toBits}
 use Rattle.kernel.specs.Sqrt.{sqrt}
 
 -- a. Root of 2.0, and of the largest finite double.

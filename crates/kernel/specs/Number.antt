@@ -1,5 +1,5 @@
 -- The number helpers of document 01, and the operations of IEEE 754 binary64 under their short names.
-use mathlib.Core.Bool.{Bool, true, false, cond}
+use mathlib.Core.Bool.{false, cond}
 use lib.Ieee as Ieee
 use lib.Ieee.{Float, nan, inf, fin, binary64, isNan, lt}
 

@@ -2,7 +2,6 @@
 use Prim.Native.Nat.{ℕ, zero, suc, _+_, _-_, _*_, _/_, _%_, _^_, _<_}
 use mathlib.Core.Bool.{Bool, true, false, cond}
 use lib.Dec.{T, ltb}
-use lib.IntN.{pos}
 use lib.Ieee.{Float, nan, inf, fin, binary64, fits, ofBits, toBits, up, down}
 use lib.Ieee.Positive.{positive}
 

@@ -3,7 +3,7 @@ use mathlib.Core.Path.{_≡_, refl, sym, subst}
 use mathlib.Core.Bool.{Bool, true, false, cond}
 use lib.Dec.{T}
 use lib.Ieee.{Float, nan, inf, fin, isNan, lt, ne}
-use lib.Ieee.Compare.{differs-from-itself, nan-differs}
+use lib.Ieee.Compare.{differs-from-itself}
 use Rattle.kernel.specs.Number.{max}
 use Rattle.kernel.proofs.number.max.Statement.{statement}
 use Rattle.kernel.proofs.number.max.Tie as tie

@@ -1,39 +1,19 @@
 -- `sqrt` meets its contract: the special cases, and the root of a finite number above 0.
 use mathlib.Core.Path.{_≡_, refl, sym, ap, _∙_, subst}
 use mathlib.Core.Logic.{_⊎_, inl, inr}
-use mathlib.Core.Bool.{Bool, true, false, not}
-use Prim.Native.Nat.{ℕ, zero, suc, _<_}
+use mathlib.Core.Bool.{true, false, not}
+use Prim.Native.Nat.{zero, suc}
 use native.Mathlib.Omega.{arith}
 use lib.Dec.{T, lt→ltb}
 use lib.Ieee.{Float, nan, inf, fin, binary64, fits, isNan, ofBits, toBits, div}
 use lib.Ieee.Compare.{differs-from-itself}
 use lib.Ieee.Positive.{positive}
-use Rattle.kernel.specs.Sqrt.{scaled, units, rootPattern, sqrt}
+use Rattle.kernel.specs.Sqrt.{rootPattern, sqrt}
 use Rattle.kernel.proofs.Signs.{negative, isZero, below-zero, equals-zero}
 use Rattle.kernel.proofs.Doubles.{equals-itself, no-nan-pattern, positive-pattern}
-use Rattle.kernel.proofs.SquareRoot.{sqrt-positive}
+use Rattle.kernel.proofs.SquareRoot.{sqrt-nan, sqrt-zero, sqrt-negative, sqrt-infinity, sqrt-positive}
 use Rattle.kernel.proofs.number.sqrt.Statement.{statement}
 use Rattle.kernel.proofs.number.sqrt.Tie as tie
-
-of-nan : (x : Float) → x ≡ nan → x ≡ sqrt x
-unfolding sqrt
-of-nan x e = rw e
-
-of-zero : (x : Float) → T (isZero x) → x ≡ sqrt x
-unfolding sqrt
-of-zero nan h = absurd h
-of-zero (inf s) h = absurd h
-of-zero (fin s zero e) h = refl
-of-zero (fin s (suc m) e) h = absurd h
-
-of-negative : (x : Float) → T (negative x) → nan ≡ sqrt x
-unfolding sqrt
-of-negative nan h = absurd h
-of-negative (inf true) h = refl
-of-negative (inf false) h = absurd h
-of-negative (fin s zero e) h = absurd h
-of-negative (fin true (suc m) e) h = refl
-of-negative (fin false (suc m) e) h = absurd h
 
 -- what no test has caught
 left : (x : Float) → T (not (isNan x)) → isZero x ≡ false → negative x ≡ false → (x ≡ inf false) ⊎ T (positive x)
@@ -46,8 +26,7 @@ left (fin true (suc m) e) a b c = absurd (subst T c tt)
 left (fin false (suc m) e) a b c = inr (lt→ltb 0 (suc m) (omega arith))
 
 of-infinity : (x : Float) → T (fits binary64 x) → (x ≡ inf false) ⊎ T (positive x) → toBits binary64 x ≡ 0x7FF0_0000_0000_0000 → x ≡ sqrt x
-unfolding sqrt
-of-infinity x f (inl e) h = rw e
+of-infinity x f (inl e) h = rw e (sym sqrt-infinity)
 of-infinity x f (inr p) h = absurd (omega (arith, positive-pattern x f p .below-infinity))
 
 is-positive : (x : Float) → (x ≡ inf false) ⊎ T (positive x) → (toBits binary64 x ≡ 0x7FF0_0000_0000_0000 → ⊥) → T (positive x)
@@ -71,15 +50,15 @@ root-is : (c : tie.Else4) → T (positive (c .before .before .before .before .ar
 root-is c = is-positive _ (remains (c .before)) (c .if4 .left)
 
 returns : tie.Need-returns
-returns c = let x = c .before .args .x in of-nan x (differs-from-itself x (subst T (sym (c .if1 .taken)) tt))
+returns c = let x = c .before .args .x in rw (differs-from-itself x (subst T (sym (c .if1 .taken)) tt)) (sym sqrt-nan)
 
 returns-2 : tie.Need-returns-2
 unfolding ofBits
-returns-2 c = let x = c .before .before .args .x in of-zero x (subst T (sym (c .if2 .taken) ∙ equals-zero x) tt)
+returns-2 c = let x = c .before .before .args .x in sym (sqrt-zero x (subst T (sym (c .if2 .taken) ∙ equals-zero x) tt))
 
 returns-3 : tie.Need-returns-3
 unfolding ofBits div
-returns-3 c = let x = c .before .before .before .args .x in of-negative x (subst T (sym (c .if3 .taken) ∙ below-zero x) tt)
+returns-3 c = let x = c .before .before .before .args .x in sym (sqrt-negative x (subst T (sym (c .if3 .taken) ∙ below-zero x) tt))
 
 float-to-bits-bits : tie.Need-float-to-bits-bits
 float-to-bits-bits c = no-nan c

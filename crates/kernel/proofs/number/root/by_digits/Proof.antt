@@ -1,8 +1,7 @@
 -- `by_digits` meets its contract: before each turn the digits so far are those of `Digits`, and the last choice is one of three.
-use Prim.Native.Nat.{ℕ, suc, pred, _+_, _-_, _*_, _/_, _^_, _≤_, _<_}
-use native.Mathlib.Nat.{suc-pred-eq-of-pos}
+use Prim.Native.Nat.{ℕ, _+_, _-_, _*_, _/_, _≤_, _<_}
 use native.Mathlib.Omega.{arith}
-use mathlib.Core.Path.{_≡_, refl, sym, ap}
+use mathlib.Core.Path.{refl, sym}
 use mathlib.Core.Logic.{⊎-elim}
 use Rattle.kernel.proofs.Whole.{Digits, Sizes, no-digits, sizes, digits-same, digit-even, digit-taken, digit-passed, nearest-same, nearest-next, nearest-second}
 use Rattle.kernel.proofs.number.root.by_digits.Statement.{statement}

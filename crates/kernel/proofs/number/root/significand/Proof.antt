@@ -1,6 +1,4 @@
 -- `significand` meets its contract: the guess where the test admits it, and the digits elsewhere.
-use Prim.Native.Nat.{ℕ, _+_, _*_, _^_, _≤_, _<_}
-use native.Mathlib.Nat.{mul-le-mul-left}
 use native.Mathlib.Omega.{arith}
 use borrow.Author.Needs.{needs}
 use Rattle.kernel.proofs.Whole.{argument-least, argument-most}

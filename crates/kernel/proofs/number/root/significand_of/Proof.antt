@@ -1,8 +1,4 @@
 -- `significand_of` meets its contract: its bit pattern was tested.
-use mathlib.Core.Path.{_≡_, sym, subst}
-use mathlib.Core.Bool.{false, not}
-use lib.Dec.{T}
-use lib.Ieee.{Float, nan, inf, fin, isNan, ne}
 use borrow.Author.Needs.{needs}
 use Rattle.kernel.proofs.Doubles.{equals-itself}
 use Rattle.kernel.proofs.number.root.significand_of.Statement.{statement}
