@@ -44,16 +44,16 @@ const HEAD: f64 = 201326592.0;
 fn guess(n: u64) -> f64 {
     let z = f64::from_bits(ONE + n);
     let rough = f64::from_bits(RECIPROCAL - (ONE + n) / 2);
-    let far = 1.0 - z * rough * rough;
-    let y = rough + rough * far * (0.5 + far * (0.375 + far * 0.3125));
-    let s = z * y;
-    let r = 1.0 - s * y;
-    let series = 0.5 + 0.375 * r;
-    let root = s + s * r * series;
+    let s = z * rough;
+    let t = s * rough;
+    let tt = t * t;
+    let near = (2.462735353900164 - 3.2870044520154824 * t)
+        + tt * ((2.9595980131876254 - 1.4091257683923304 * t) + 0.2737968520139008 * tt);
+    let y = rough * near;
+    let root = s * near;
     let h = 0.5 * y;
-    let k = h + h * r * series;
+    let k = h + 0.25 * y * (1.0 - root * y);
     let head = (root + HEAD) - HEAD;
     let rest = z - head * head;
-    let d = rest * k;
-    head + (d + d * d * k)
+    head + (rest * k + rest * h * (rest * (h * h)))
 }
