@@ -17,26 +17,26 @@ const RECIPROCAL: u64 = 0x5FE6_EB50_C7B5_37A9;
 // 3 * 2 ^ 26: added and taken away again, it leaves the 26 leading digits of a number from 1 to 2.
 const HEAD: f64 = 201326592.0;
 
-// A guess at the root of the double from 1 to 4 whose bit pattern is that of 1.0 and n more: y is one over the root,
-// mended by the series of (1 - r) ^ (-1/2) to the fourth order, then root and k, half of one over the root, to the third;
-// head has half of the root's digits, so that the rest that its square leaves is exact.
+// A guess at the root of the double from 1 to 4 whose bit pattern is that of 1.0 and n more: y is one over the root, by a
+// polynomial of the fourth degree that is near to t ^ (-1/2) for t from 0.93 to 1.07, within 2 ^ -25; k is half of one over
+// the root, to twice the digits; head has half of the root's digits, so that the rest that its square leaves is exact.
 fn guess(n: u64) -> f64
     requires { ⌜ n < 2 ^ 53 ⌝ }
 {
     let z = f64::from_bits(ONE + n);
     let rough = f64::from_bits(RECIPROCAL - (ONE + n) / 2);
-    let far = 1.0 - z * rough * rough;
-    let y = rough + rough * far * (0.5 + far * (0.375 + far * 0.3125));
-    let s = z * y;
-    let r = 1.0 - s * y;
-    let series = 0.5 + 0.375 * r;
-    let root = s + s * r * series;
+    let s = z * rough;
+    let t = s * rough;
+    let tt = t * t;
+    let near = (2.462735353900164 - 3.2870044520154824 * t)
+        + tt * ((2.9595980131876254 - 1.4091257683923304 * t) + 0.2737968520139008 * tt);
+    let y = rough * near;
+    let root = s * near;
     let h = 0.5 * y;
-    let k = h + h * r * series;
+    let k = h + 0.25 * y * (1.0 - root * y);
     let head = (root + HEAD) - HEAD;
     let rest = z - head * head;
-    let d = rest * k;
-    head + (d + d * d * k)
+    head + (rest * k + rest * h * (rest * (h * h)))
 }
 
 // The significand of s, a number from 1 to 2; of any other, that of 1.
