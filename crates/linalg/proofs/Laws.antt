@@ -1,0 +1,172 @@
+-- Laws of sums, of vectors and matrices made by a rule, and of slices that are filled in order; all over the order.
+use Prim.Native.Nat.{ℕ, zero, suc, _+_, _*_, _-_, _<_, _≤_}
+use native.Mathlib.Omega.{arith}
+use native.Mathlib.Nat.{mul-le-mul-right, suc-mul, zero-mul, le-refl, le-antisymm, eq-or-lt-of-le, le-of-suc-le-suc, ne-of-lt, add-sub-cancel-left}
+use native.Mathlib.Numerals.{add-one}
+use native.Mathlib.Decide.{decLt}
+use mathlib.Core.Path.{_≡_, refl, sym, ap, _∙_, subst}
+use mathlib.Core.Logic.{_⊎_, ⊎-elim}
+use mathlib.Core.List.{List, [], _∷_, _++_, append-assoc}
+use lib.ListN.{length, getD, set, take, drop, length-append, length-set, length-drop, List·getD-append}
+use lib.Seq.{getD-set-same, getD-set-other, getD-at, ext-getD, getD-append-add, getD-take, getD-drop, length-take-le, take-all, take-at}
+use borrow.Rule.Slice.PartMut.{midOf, postOf, putMid, same-len-mid}
+use lib.Ieee.{Float, nan}
+use Rattle.kernel.specs.Number.{add, mul}
+use Rattle.linalg.specs.Matrix.{nought, sumFrom, sumRowsFrom, sumPlanesFrom, tabulate, nth, at, rowOf, matrix}
+use Rattle.linalg.specs.Fill.{Filled, FilledRows}
+
+-- ---- places
+
+-- a cell of the first m rows lies before the end of row m - 1
+pub cell : (m n : ℕ) {i j : ℕ} → i < m → j < n → i * n + j < m * n
+cell m n {i} {j} hi hj = omega (arith, mul-le-mul-right n hi, suc-mul i n)
+
+-- row i is among the first m
+pub row-within : (m n : ℕ) {i : ℕ} → i < m → i * n + n ≤ m * n
+row-within m n {i} h = omega (arith, mul-le-mul-right n h, suc-mul i n)
+
+-- ---- sums
+
+-- one term more
+pub sum-more : (x : Float) (f : ℕ → Float) (l : ℕ) {s t : Float} → s ≡ sumFrom x l f → t ≡ f l → add s t ≡ sumFrom x (l + 1) f
+unfolding sumFrom
+sum-more x f l p q = rw (add-one, p, q)
+
+-- the sum at the loop's end
+pub sum-all : (x : Float) (f : ℕ → Float) {l n : ℕ} {s : Float} → l ≤ n → n ≤ l → s ≡ sumFrom x l f → s ≡ sumFrom x n f
+sum-all x f h k p = p ∙ ap (λ (y : ℕ). sumFrom x y f) (le-antisymm h k)
+
+-- the same for a sum that runs through rows, and for one that runs through matrices
+pub sum-rows-more : (x : Float) (n i : ℕ) (f : ℕ → ℕ → Float) {s r : Float} → s ≡ sumRowsFrom x i n f → r ≡ sumFrom s n (f i) → r ≡ sumRowsFrom x (i + 1) n f
+unfolding sumRowsFrom
+sum-rows-more x n i f p q = q ∙ rw (add-one, p)
+
+pub sum-rows-all : (x : Float) (n : ℕ) (f : ℕ → ℕ → Float) {i m : ℕ} {s : Float} → i ≤ m → m ≤ i → s ≡ sumRowsFrom x i n f → s ≡ sumRowsFrom x m n f
+sum-rows-all x n f h k p = p ∙ ap (λ (y : ℕ). sumRowsFrom x y n f) (le-antisymm h k)
+
+pub sum-planes-more : (x : Float) (m n i : ℕ) (f : ℕ → ℕ → ℕ → Float) {s r : Float} → s ≡ sumPlanesFrom x i m n f → r ≡ sumRowsFrom s m n (f i) → r ≡ sumPlanesFrom x (i + 1) m n f
+unfolding sumPlanesFrom
+sum-planes-more x m n i f p q = q ∙ rw (add-one, p)
+
+pub sum-planes-all : (x : Float) (m n : ℕ) (f : ℕ → ℕ → ℕ → Float) {i l : ℕ} {s : Float} → i ≤ l → l ≤ i → s ≡ sumPlanesFrom x i m n f → s ≡ sumPlanesFrom x l m n f
+sum-planes-all x m n f h k p = p ∙ ap (λ (y : ℕ). sumPlanesFrom x y m n f) (le-antisymm h k)
+
+-- equal terms make equal sums
+pub sum-ext : (x : Float) (n : ℕ) (f g : ℕ → Float) → ((l : ℕ) → l < n → f l ≡ g l) → sumFrom x n f ≡ sumFrom x n g
+unfolding sumFrom
+sum-ext x zero f g h = refl
+sum-ext x (suc n) f g h = rw (sum-ext x n f g (λ l k. h l (omega arith)), h n (omega arith))
+
+-- ---- vectors made by a rule
+
+pub length-tabulate : (n : ℕ) (f : ℕ → Float) → length (tabulate n f) ≡ n
+unfolding tabulate
+length-tabulate zero f = refl
+length-tabulate (suc n) f = omega (arith, length-append (tabulate n f) (f n ∷ []), length-tabulate n f)
+
+pub nth-tabulate : (n : ℕ) (f : ℕ → Float) (x : ℕ) → x < n → nth (tabulate n f) x ≡ f x
+unfolding tabulate
+nth-tabulate zero f x h = absurd (omega arith)
+nth-tabulate (suc n) f x h =
+    ⊎-elim
+    (λ (e : x ≡ n). ap (λ (y : ℕ). nth (tabulate n f ++ (f n ∷ [])) y) e ∙ getD-at (tabulate n f) (f n) [] nan n (length-tabulate n f) ∙ ap f (sym e))
+    (λ (l : x < n). List·getD-append (tabulate n f) (f n ∷ []) nan x (omega (arith, length-tabulate n f)) ∙ nth-tabulate n f x l)
+    (eq-or-lt-of-le (le-of-suc-le-suc h))
+
+-- a list is the vector of its entries
+pub by-entries : (n : ℕ) (f : ℕ → Float) (l : List Float) → length l ≡ n → ((q : ℕ) → q < n → nth l q ≡ f q) → l ≡ tabulate n f
+by-entries n f l e h =
+    ext-getD nan l (tabulate n f) (e ∙ sym (length-tabulate n f)) (λ q k. let b : q < n = omega arith in h q b ∙ sym (nth-tabulate n f q b))
+
+pub tabulate-ext : (n : ℕ) (f g : ℕ → Float) → ((q : ℕ) → q < n → f q ≡ g q) → tabulate n f ≡ tabulate n g
+tabulate-ext n f g h = by-entries n g (tabulate n f) (length-tabulate n f) (λ q k. nth-tabulate n f q k ∙ h q k)
+
+-- ---- matrices made by a rule
+
+pub length-matrix : (m n : ℕ) (f : ℕ → ℕ → Float) → length (matrix m n f) ≡ m * n
+unfolding matrix
+length-matrix zero n f = sym (zero-mul n)
+length-matrix (suc m) n f = omega (arith, length-append (matrix m n f) (tabulate n (f m)), length-matrix m n f, length-tabulate n (f m), suc-mul m n)
+
+-- ---- the front of a local array, lent and come back
+
+-- what stands there
+pub front : {n : ℕ} {l d : List Float} (rest : List Float) → length d ≡ n → l ≡ d → take n (l ++ rest) ≡ d
+front {n} {l} {d} rest h e = ap (λ (v : List Float). take n (v ++ rest)) e ∙ take-at d rest n h
+
+-- ---- rows
+
+pub length-row : (a : List Float) (n i : ℕ) → i * n + n ≤ length a → length (rowOf a n i) ≡ n
+unfolding rowOf
+length-row a n i h = length-take-le n (drop (i * n) a) (omega (arith, length-drop (i * n) a))
+
+-- the same, of a part that is lent
+pub length-part : (a : List Float) (n i : ℕ) → i * n + n ≤ length a → length (take (i * n + n - i * n) (drop (i * n) a)) ≡ n
+length-part a n i h = length-take-le _ (drop (i * n) a) (omega (arith, length-drop (i * n) a)) ∙ add-sub-cancel-left (i * n) n
+
+pub nth-row : (a : List Float) (n i j : ℕ) → j < n → nth (rowOf a n i) j ≡ at a n i j
+unfolding rowOf
+nth-row a n i j h = getD-take n (drop (i * n) a) j nan h ∙ getD-drop (i * n) a j nan
+
+-- a factor times an entry of a row
+pub scaled : {u v : Float} {x : List Float} (a : List Float) (n i j : ℕ) → u ≡ v → x ≡ rowOf a n i → j < n → mul u (nth x j) ≡ mul v (at a n i j)
+scaled a n i j e p h = rw (e, p, nth-row a n i j h)
+
+-- a row times a vector
+pub row-sum : (a y : List Float) (n i : ℕ) {x : List Float} → x ≡ rowOf a n i → sumFrom nought n (λ j. mul (nth x j) (nth y j)) ≡ sumFrom nought n (λ j. mul (at a n i j) (nth y j))
+row-sum a y n i {x} e = sum-ext nought n _ _ (λ j h. rw (e, nth-row a n i j h))
+
+-- every entry of a row of running sums gets its next term
+pub sums-more : (x : Float) (n l : ℕ) (f : ℕ → ℕ → Float) (t : ℕ → Float) (y : List Float) → y ≡ tabulate n (λ j. sumFrom x l (f j)) → ((j : ℕ) → j < n → t j ≡ f j l) → tabulate n (λ j. add (nth y j) (t j)) ≡ tabulate n (λ j. sumFrom x (l + 1) (f j))
+sums-more x n l f t y e h = tabulate-ext n _ _ (λ j k. sum-more x (f j) l (ap (λ (v : List Float). nth v j) e ∙ nth-tabulate n _ j k) (h j k))
+
+-- ---- a slice that is filled in order
+
+pub filled-none : (f : ℕ → Float) (l : List Float) → Filled f l 0 l
+filled-none f l = record { size = refl; done = λ q h. absurd (omega arith); left = λ q h. refl }
+
+pub filled-more : (f : ℕ → Float) {old l : List Float} (i : ℕ) {v : Float} → i < length l → v ≡ f i → Filled f old i l → Filled f old (i + 1) (set l i v)
+filled-more f {old} {l} i {v} h e w = record { size = simp length-set (w .size); done = done; left = λ q k. getD-set-other l i q v nan (λ s. absurd (omega arith)) ∙ w .left q (omega arith) }
+  where
+    done : (q : ℕ) → q < i + 1 → nth (set l i v) q ≡ f q
+    done q k =
+        ⊎-elim
+        (λ (s : q ≡ i). rw s (getD-set-same l i v nan h ∙ e))
+        (λ (s : q < i). getD-set-other l i q v nan (ne-of-lt s) ∙ w .done q s)
+        (eq-or-lt-of-le (omega arith))
+
+-- the entry that is written next still has its old value
+pub filled-next : {f : ℕ → Float} {old l : List Float} {i : ℕ} → Filled f old i l → nth l i ≡ nth old i
+filled-next {i = i} w = w .left i (le-refl i)
+
+pub filled-all : (f : ℕ → Float) {old l : List Float} {n i : ℕ} → length old ≡ n → n ≤ i → Filled f old i l → l ≡ tabulate n f
+filled-all f {old} {l} {n} {i} e h w = by-entries n f l (w .size ∙ e) (λ q k. w .done q (omega arith))
+
+-- ---- a matrix that is filled row by row
+
+pub rows-none : (f : ℕ → ℕ → Float) (n : ℕ) (l : List Float) → FilledRows f n l 0 l
+unfolding matrix
+rows-none f n l = record { size = refl; done = ap (λ (k : ℕ). take k l) (zero-mul n) }
+
+-- row i was lent and came back as y
+pub rows-more : (f : ℕ → ℕ → Float) (n i : ℕ) {old l y : List Float} → i * n + n ≤ length l → y ≡ tabulate n (f i) → FilledRows f n old i l → FilledRows f n old (i + 1) (putMid (i * n) (i * n + n - i * n) l y)
+unfolding matrix
+rows-more f n i {old} {l} {y} h e w = record { size = same-len-mid (i * n) (i * n + n - i * n) l y part ∙ w .size; done = done }
+  where
+    count : length y ≡ n
+    count = ap length e ∙ length-tabulate n (f i)
+
+    part : length y ≡ length (midOf (i * n) (i * n + n - i * n) l)
+    part = count ∙ sym (length-part l n i h)
+
+    front : length (take (i * n) l ++ y) ≡ (i + 1) * n
+    front = length-append (take (i * n) l) y ∙ omega (arith, count, length-take-le (i * n) l (omega arith))
+
+    done : take ((i + 1) * n) (putMid (i * n) (i * n + n - i * n) l y) ≡ matrix (i + 1) n f
+    done =
+        ap (λ (z : List Float). take ((i + 1) * n) z) (sym (append-assoc (take (i * n) l) y (postOf (i * n) (i * n + n - i * n) l)))
+        ∙ take-at (take (i * n) l ++ y) (postOf (i * n) (i * n + n - i * n) l) ((i + 1) * n) front
+        ∙ rw (add-one, w .done, e)
+
+pub rows-all : (f : ℕ → ℕ → Float) (m n : ℕ) {i : ℕ} {old l : List Float} → length old ≡ m * n → i ≤ m → m ≤ i → FilledRows f n old i l → l ≡ matrix m n f
+rows-all f m n {i} {old} {l} e h k w = sym (take-all (m * n) l (omega (arith, w .size))) ∙ subst (λ (x : ℕ). take (x * n) l ≡ matrix x n f) (le-antisymm h k) (w .done)

@@ -1,0 +1,4 @@
+pub mod Tests
+pub mod Answers
+pub mod Laws
+pub mod Symmetry

@@ -1,0 +1,93 @@
+-- Sums and products of binary64 numbers do not depend on the order of their two operands; what follows for symmetric matrices.
+use Prim.Native.Nat.{ℕ, _+_, _*_, _<_, _≤_, min, max}
+use native.Mathlib.Omega.{arith}
+use native.Mathlib.Nat.{mul-comm, add-comm}
+use mathlib.Core.Bool.{Bool, true, false, not, Bool·beq, cond, _&&_}
+use mathlib.Core.List.{List}
+use mathlib.Core.Path.{_≡_, refl, sym, ap, _∙_}
+use lib.Dec.{eqb, ltb}
+use native.Mathlib.Decide.{decLt}
+use borrow.Author.Tests.{lt-ltb, le-ltb}
+use lib.Ieee as Ieee
+use lib.Ieee.{Float, nan, inf, fin, binary64, unlike, round, up, down}
+use Rattle.kernel.specs.Number.{add, mul}
+use Rattle.linalg.specs.Matrix.{sum, at}
+use Rattle.linalg.specs.Products.{half, ataEntry, symmetricEntry}
+use Rattle.linalg.proofs.Laws.{sum-ext}
+
+unlike-comm : (s t : Bool) → unlike s t ≡ unlike t s
+unlike-comm true true = refl
+unlike-comm true false = refl
+unlike-comm false true = refl
+unlike-comm false false = refl
+
+pub mul-float-comm : (x y : Float) → mul x y ≡ mul y x
+unfolding Ieee.mul
+mul-float-comm nan nan = refl
+mul-float-comm nan (inf t) = refl
+mul-float-comm nan (fin t n d) = refl
+mul-float-comm (inf s) nan = refl
+mul-float-comm (inf s) (inf t) = ap inf (unlike-comm s t)
+mul-float-comm (inf s) (fin t n d) = ap (λ (u : Bool). cond (eqb n 0) nan (inf u)) (unlike-comm s t)
+mul-float-comm (fin s m e) nan = refl
+mul-float-comm (fin s m e) (inf t) = ap (λ (u : Bool). cond (eqb m 0) nan (inf u)) (unlike-comm s t)
+mul-float-comm (fin s m e) (fin t n d) =
+    ap (λ (u : Bool). round binary64 u (m * up e * (n * up d)) (down e * down d)) (unlike-comm s t)
+    ∙ ap (λ (v : ℕ). round binary64 (unlike t s) v (down e * down d)) (mul-comm (m * up e) (n * up d))
+    ∙ ap (λ (v : ℕ). round binary64 (unlike t s) (n * up d * (m * up e)) v) (mul-comm (down e) (down d))
+
+-- the two magnitudes of a sum change places
+sum-swap : (s t : Bool) (a b c : ℕ) → Dec (a < b) → Dec (b < a) → Ieee.sum binary64 s a t b c ≡ Ieee.sum binary64 t b s a c
+unfolding Ieee.sum
+sum-swap true true a b c p q = ap (λ (v : ℕ). round binary64 true v c) (add-comm a b)
+sum-swap false false a b c p q = ap (λ (v : ℕ). round binary64 false v c) (add-comm a b)
+sum-swap true false a b c (yes p) q = rw (lt-ltb a b p, le-ltb b a (omega arith))
+sum-swap true false a b c (no p) (yes q) = rw (le-ltb a b (omega arith), lt-ltb b a q)
+sum-swap true false a b c (no p) (no q) = let e : a ≡ b = omega arith in rw (e, le-ltb b b (omega arith))
+sum-swap false true a b c (yes p) q = rw (lt-ltb a b p, le-ltb b a (omega arith))
+sum-swap false true a b c (no p) (yes q) = rw (le-ltb a b (omega arith), lt-ltb b a q)
+sum-swap false true a b c (no p) (no q) = let e : a ≡ b = omega arith in rw (e, le-ltb b b (omega arith))
+
+inf-swap : (s t : Bool) → cond (Bool·beq s t) (inf s) nan ≡ cond (Bool·beq t s) (inf t) nan
+inf-swap true true = refl
+inf-swap true false = refl
+inf-swap false true = refl
+inf-swap false false = refl
+
+pub add-float-comm : (x y : Float) → add x y ≡ add y x
+unfolding Ieee.add
+add-float-comm nan nan = refl
+add-float-comm nan (inf t) = refl
+add-float-comm nan (fin t n d) = refl
+add-float-comm (inf s) nan = refl
+add-float-comm (inf s) (inf t) = inf-swap s t
+add-float-comm (inf s) (fin t n d) = refl
+add-float-comm (fin s m e) nan = refl
+add-float-comm (fin s m e) (inf t) = refl
+add-float-comm (fin s m e) (fin t n d) =
+    ap (λ (c : ℕ). Ieee.sum binary64 s (m * up e * down d) t (n * up d * down e) c) (mul-comm (down e) (down d))
+    ∙ sum-swap s t (m * up e * down d) (n * up d * down e) (down d * down e) (decLt _ _) (decLt _ _)
+
+-- ---- matrices that do not depend on which of the two indices is the lesser
+
+greater : {i j : ℕ} → i < j → (max i j ≡ j) × (min i j ≡ i)
+greater h = (omega arith, omega arith)
+
+lesser : {i j : ℕ} → j ≤ i → (max i j ≡ i) × (min i j ≡ j)
+lesser h = (omega arith, omega arith)
+
+-- the sum of the products of two columns, whichever comes first
+pub ata-either : (a : List Float) (m n i j : ℕ) → sum m (λ k. mul (at a n k i) (at a n k j)) ≡ ataEntry a m n i j
+ata-either a m n i j = go (decLt i j)
+  where
+    go : Dec (i < j) → sum m (λ k. mul (at a n k i) (at a n k j)) ≡ ataEntry a m n i j
+    go (yes h) = rw (greater h .0, greater h .1) (sum-ext _ m _ _ (λ k l. mul-float-comm (at a n k i) (at a n k j)))
+    go (no h) = let w = lesser {i = i} {j = j} (omega arith) in rw (w .0, w .1)
+
+-- the mean of two entries that face each other, whichever comes first
+pub mean : (a : List Float) (n i j : ℕ) {x y : Float} → x ≡ at a n i j → y ≡ at a n j i → mul (add x y) half ≡ symmetricEntry a n i j
+mean a n i j p q = rw (p, q) (go (decLt i j))
+  where
+    go : Dec (i < j) → mul (add (at a n i j) (at a n j i)) half ≡ symmetricEntry a n i j
+    go (yes h) = rw (greater h .0, greater h .1)
+    go (no h) = let w = lesser {i = i} {j = j} (omega arith) in rw (w .0, w .1, add-float-comm (at a n i j) (at a n j i))

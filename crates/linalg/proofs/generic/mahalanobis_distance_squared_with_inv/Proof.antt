@@ -1,0 +1,39 @@
+-- `mahalanobis_distance_squared_with_inv` meets its contract: each question is put by its own function, and `distance` has the answer.
+use borrow.Author.Needs.{needs}
+use Prim.Native.Nat.{_*_}
+use Rattle.linalg.specs.Sums.{distanceWithInv}
+use Rattle.linalg.proofs.Tests.{met, unmet, area, side-high, three-long}
+use Rattle.linalg.proofs.Answers.{value}
+use Rattle.linalg.proofs.generic.mahalanobis_distance_squared_with_inv.Statement.{statement}
+use Rattle.linalg.proofs.generic.mahalanobis_distance_squared_with_inv.Tie as tie
+
+is-side-requires : tie.Need-is-side-requires
+is-side-requires c κs = search needs
+
+returns : tie.Need-returns
+unfolding distanceWithInv
+returns c = rw (unmet (c .before .is-side .ensures) (c .if1 .taken))
+
+is-distance-requires : tie.Need-is-distance-requires
+is-distance-requires c κs =
+    let x = c .before .before .before .before .before .args in
+    let s = met (c .before .is-side .ensures) (c .if1 .left) in
+    area (x .n) (x .n) s s
+
+returns-2 : tie.Need-returns-2
+unfolding distanceWithInv
+returns-2 c = rw (met (c .before .before .before .is-side .ensures) (c .before .before .if1 .left), unmet (c .before .is-distance .ensures) (c .if2 .taken))
+
+distance-requires : tie.Need-distance-requires
+distance-requires c κs =
+    let x = c .before .before .before .before .before .before .before .args in
+    let s = met (c .before .before .before .is-side .ensures) (c .before .before .if1 .left) in
+    let l = three-long (x .x .now) (x .mu .now) (x .inv .now) (x .n) (x .n) (x .n * x .n) (met (c .before .is-distance .ensures) (c .if2 .left)) in
+    (side-high (x .n) s, l .0, l .1, l .2)
+
+returns-3 : tie.Need-returns-3
+unfolding distanceWithInv
+returns-3 c = rw (met (c .before .before .before .before .is-side .ensures) (c .before .before .before .if1 .left), met (c .before .before .is-distance .ensures) (c .before .if2 .left)) (value (c .distance .ensures))
+
+pub mahalanobis-distance-squared-with-inv-spec : {M : Type 1} → statement M
+mahalanobis-distance-squared-with-inv-spec = tie.close (tie.spec is-side-requires returns is-distance-requires returns-2 distance-requires returns-3)

@@ -1,0 +1,39 @@
+-- `mat_trace_cube` meets its contract: each question is put by its own function, and `trace_cube_product` has the answer.
+use borrow.Author.Needs.{needs}
+use Prim.Native.Nat.{_*_}
+use Rattle.linalg.specs.Sums.{matTraceCube}
+use Rattle.linalg.proofs.Tests.{met, unmet, area, two-long}
+use Rattle.linalg.proofs.Answers.{value}
+use Rattle.linalg.proofs.generic.mat_trace_cube.Statement.{statement}
+use Rattle.linalg.proofs.generic.mat_trace_cube.Tie as tie
+
+is-side-requires : tie.Need-is-side-requires
+is-side-requires c κs = search needs
+
+returns : tie.Need-returns
+unfolding matTraceCube
+returns c = rw (unmet (c .before .is-side .ensures) (c .if1 .taken))
+
+are-matrices-requires : tie.Need-are-matrices-requires
+are-matrices-requires c κs =
+    let x = c .before .before .before .before .args in
+    let s = met (c .before .is-side .ensures) (c .if1 .left) in
+    (area (x .n) (x .n) s s, area (x .n) (x .n) s s)
+
+returns-2 : tie.Need-returns-2
+unfolding matTraceCube
+returns-2 c = rw (met (c .before .before .before .is-side .ensures) (c .before .before .if1 .left), unmet (c .before .are-matrices .ensures) (c .if2 .taken))
+
+trace-cube-product-requires : tie.Need-trace-cube-product-requires
+trace-cube-product-requires c κs =
+    let x = c .before .before .before .before .before .before .args in
+    let s = met (c .before .before .before .is-side .ensures) (c .before .before .if1 .left) in
+    let l = two-long (x .a .now) (x .b .now) (x .n * x .n) (x .n * x .n) (met (c .before .are-matrices .ensures) (c .if2 .left)) in
+    (area (x .n) (x .n) s s, l .0, l .1)
+
+returns-3 : tie.Need-returns-3
+unfolding matTraceCube
+returns-3 c = rw (met (c .before .before .before .before .is-side .ensures) (c .before .before .before .if1 .left), met (c .before .before .are-matrices .ensures) (c .before .if2 .left)) (value (c .trace-cube-product .ensures))
+
+pub mat-trace-cube-spec : {M : Type 1} → statement M
+mat-trace-cube-spec = tie.close (tie.spec is-side-requires returns are-matrices-requires returns-2 trace-cube-product-requires returns-3)

@@ -1,0 +1,61 @@
+-- `product` meets its contract: before turn i the rows above row i are written.
+use Prim.Native.Nat.{_+_, _*_, _-_, _≤_}
+use native.Mathlib.Omega.{arith}
+use lib.ListN.{length}
+use Rattle.linalg.specs.Products.{productEntry}
+use Rattle.linalg.specs.Fill.{FilledRows}
+use Rattle.linalg.proofs.Laws.{row-within, length-part, rows-none, rows-more, rows-all}
+use Rattle.linalg.proofs.product.product.Statement.{statement}
+use Rattle.linalg.proofs.product.product.Tie as tie
+
+abbrev Inv-loop : tie.InvT-loop
+Inv-loop a b m k n out₀ i₀ out i = (i ≤ m) × FilledRows (productEntry a b k n) n out₀ i out
+
+abbrev μ-loop : tie.MeasureT-loop
+μ-loop a b m k n out₀ i₀ out i = m - i
+
+-- row i lies within the slice
+within : (c : tie.In-loop Inv-loop μ-loop) → c .before .loop .i * c .before .before .before .before .before .args .n + c .before .before .before .before .before .args .n ≤ length (c .before .loop .out)
+within c = omega (arith, row-within (c .before .before .before .before .before .args .m) (c .before .before .before .before .before .args .n) {i = c .before .loop .i} (omega arith))
+
+loop-holds : tie.Need-loop-holds Inv-loop μ-loop
+loop-holds c = (omega arith, rows-none _ _ _)
+
+mul-start : tie.Need-mul-start Inv-loop μ-loop
+mul-start c = omega (arith, within c)
+
+add-product-row : tie.Need-add-product-row Inv-loop μ-loop
+add-product-row c = omega (arith, within c)
+
+mul-product-row : tie.Need-mul-product-row Inv-loop μ-loop
+mul-product-row c = omega (arith, within c)
+
+sub-product-row : tie.Need-sub-product-row Inv-loop μ-loop
+sub-product-row c = omega arith
+
+part-product-row-start : tie.Need-part-product-row-start Inv-loop μ-loop
+part-product-row-start c = omega arith
+
+part-product-row-end : tie.Need-part-product-row-end Inv-loop μ-loop
+part-product-row-end c = omega (arith, within c)
+
+product-row-requires : tie.Need-product-row-requires Inv-loop μ-loop
+product-row-requires c κs = (omega (arith, row-within (c .before .before .before .before .before .before .args .m) (c .before .before .before .before .before .before .args .k) {i = c .before .before .loop .i} (omega arith)), omega arith, length-part (c .before .before .loop .out) (c .before .before .before .before .before .before .args .n) (c .before .before .loop .i) (within (c .before)))
+
+add-i : tie.Need-add-i Inv-loop μ-loop
+add-i c = omega arith
+
+loop-less : tie.Need-loop-less Inv-loop μ-loop
+loop-less c = omega arith
+
+loop-again : tie.Need-loop-again Inv-loop μ-loop
+loop-again c = (omega arith, rows-more _ (c .before .before .before .before .before .before .before .before .before .args .n) (c .before .before .before .before .before .loop .i) (within (c .before .before .before .before)) (c .before .before .product-row .ensures) (c .before .before .before .before .before .loop .inv .1))
+
+same-length : tie.Need-same-length Inv-loop μ-loop
+same-length c = c .before .loop .inv .1 .size
+
+returns : tie.Need-returns Inv-loop μ-loop
+returns c = rows-all _ _ _ (omega arith) (c .before .loop .inv .0) (c .loop-test .left) (c .before .loop .inv .1)
+
+pub product-spec : {M : Type 1} → statement M
+product-spec = tie.close (tie.spec Inv-loop μ-loop loop-holds mul-start add-product-row mul-product-row sub-product-row part-product-row-start part-product-row-end product-row-requires add-i loop-less loop-again same-length returns)

@@ -1,0 +1,49 @@
+-- `times_vector` meets its contract: before turn i the entries before i are written.
+use mathlib.Core.Path.{_≡_, _∙_, ap}
+use Prim.Native.Nat.{_-_, _≤_}
+use native.Mathlib.Omega.{arith}
+use Rattle.linalg.specs.Matrix.{nought}
+use Rattle.linalg.specs.Products.{vectorEntry}
+use Rattle.linalg.specs.Fill.{Filled}
+use Rattle.linalg.proofs.Laws.{row-within, row-sum, filled-none, filled-more, filled-all}
+use Rattle.linalg.proofs.product.times_vector.Statement.{statement}
+use Rattle.linalg.proofs.product.times_vector.Tie as tie
+
+abbrev Inv-loop : tie.InvT-loop
+Inv-loop a x n y₀ i₀ y i = (i ≤ n) × Filled (vectorEntry a x n) y₀ i y
+
+abbrev μ-loop : tie.MeasureT-loop
+μ-loop a x n y₀ i₀ y i = n - i
+
+loop-holds : tie.Need-loop-holds Inv-loop μ-loop
+loop-holds c = (omega arith, filled-none _ _)
+
+row-requires : tie.Need-row-requires Inv-loop μ-loop
+row-requires c κs = omega (arith, row-within (c .before .before .before .before .before .args .n) (c .before .before .before .before .before .args .n) {i = c .before .loop .i} (omega arith))
+
+dot-requires : tie.Need-dot-requires Inv-loop μ-loop
+dot-requires c κs = omega arith
+
+mul-y : tie.Need-mul-y Inv-loop μ-loop
+mul-y c = omega arith
+
+slice-write-y : tie.Need-slice-write-y Inv-loop μ-loop
+slice-write-y c = omega arith
+
+add-i : tie.Need-add-i Inv-loop μ-loop
+add-i c = omega arith
+
+loop-less : tie.Need-loop-less Inv-loop μ-loop
+loop-less c = omega arith
+
+loop-again : tie.Need-loop-again Inv-loop μ-loop
+loop-again c = (omega arith, filled-more _ (c .before .before .before .loop .i) (omega arith) (c .dot .ensures ∙ row-sum (c .before .before .before .before .before .before .before .args .a .now) (c .before .before .before .before .before .before .before .args .x .now) (c .before .before .before .before .before .before .before .args .n) (c .before .before .before .loop .i) (c .before .row .ensures .1)) (c .before .before .before .loop .inv .1))
+
+same-length : tie.Need-same-length Inv-loop μ-loop
+same-length c = c .before .loop .inv .1 .size
+
+returns : tie.Need-returns Inv-loop μ-loop
+returns c = filled-all _ (c .before .before .before .before .before .pre .2) (c .loop-test .left) (c .before .loop .inv .1)
+
+pub times-vector-spec : {M : Type 1} → statement M
+times-vector-spec = tie.close (tie.spec Inv-loop μ-loop loop-holds row-requires dot-requires mul-y slice-write-y add-i loop-less loop-again same-length returns)

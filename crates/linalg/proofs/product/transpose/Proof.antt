@@ -1,0 +1,61 @@
+-- `transpose` meets its contract: before turn i the rows above row i are written.
+use Prim.Native.Nat.{_+_, _*_, _-_, _≤_}
+use native.Mathlib.Omega.{arith}
+use lib.ListN.{length}
+use Rattle.linalg.specs.Products.{transposeEntry}
+use Rattle.linalg.specs.Fill.{FilledRows}
+use Rattle.linalg.proofs.Laws.{row-within, length-part, rows-none, rows-more, rows-all}
+use Rattle.linalg.proofs.product.transpose.Statement.{statement}
+use Rattle.linalg.proofs.product.transpose.Tie as tie
+
+abbrev Inv-loop : tie.InvT-loop
+Inv-loop a m n out₀ i₀ out i = (i ≤ n) × FilledRows (transposeEntry a n) m out₀ i out
+
+abbrev μ-loop : tie.MeasureT-loop
+μ-loop a m n out₀ i₀ out i = n - i
+
+-- row i lies within the slice
+within : (c : tie.In-loop Inv-loop μ-loop) → c .before .loop .i * c .before .before .before .before .args .m + c .before .before .before .before .args .m ≤ length (c .before .loop .out)
+within c = omega (arith, row-within (c .before .before .before .before .args .n) (c .before .before .before .before .args .m) {i = c .before .loop .i} (omega arith))
+
+loop-holds : tie.Need-loop-holds Inv-loop μ-loop
+loop-holds c = (omega arith, rows-none _ _ _)
+
+mul-start : tie.Need-mul-start Inv-loop μ-loop
+mul-start c = omega (arith, within c)
+
+add-transpose-row : tie.Need-add-transpose-row Inv-loop μ-loop
+add-transpose-row c = omega (arith, within c)
+
+mul-transpose-row : tie.Need-mul-transpose-row Inv-loop μ-loop
+mul-transpose-row c = omega (arith, within c)
+
+sub-transpose-row : tie.Need-sub-transpose-row Inv-loop μ-loop
+sub-transpose-row c = omega arith
+
+part-transpose-row-start : tie.Need-part-transpose-row-start Inv-loop μ-loop
+part-transpose-row-start c = omega arith
+
+part-transpose-row-end : tie.Need-part-transpose-row-end Inv-loop μ-loop
+part-transpose-row-end c = omega (arith, within c)
+
+transpose-row-requires : tie.Need-transpose-row-requires Inv-loop μ-loop
+transpose-row-requires c κs = (omega arith, omega arith, length-part (c .before .before .loop .out) (c .before .before .before .before .before .args .m) (c .before .before .loop .i) (within (c .before)))
+
+add-i : tie.Need-add-i Inv-loop μ-loop
+add-i c = omega arith
+
+loop-less : tie.Need-loop-less Inv-loop μ-loop
+loop-less c = omega arith
+
+loop-again : tie.Need-loop-again Inv-loop μ-loop
+loop-again c = (omega arith, rows-more _ (c .before .before .before .before .before .before .before .before .args .m) (c .before .before .before .before .before .loop .i) (within (c .before .before .before .before)) (c .before .before .transpose-row .ensures) (c .before .before .before .before .before .loop .inv .1))
+
+same-length : tie.Need-same-length Inv-loop μ-loop
+same-length c = c .before .loop .inv .1 .size
+
+returns : tie.Need-returns Inv-loop μ-loop
+returns c = rows-all _ _ _ (omega arith) (c .before .loop .inv .0) (c .loop-test .left) (c .before .loop .inv .1)
+
+pub transpose-spec : {M : Type 1} → statement M
+transpose-spec = tie.close (tie.spec Inv-loop μ-loop loop-holds mul-start add-transpose-row mul-transpose-row sub-transpose-row part-transpose-row-start part-transpose-row-end transpose-row-requires add-i loop-less loop-again same-length returns)

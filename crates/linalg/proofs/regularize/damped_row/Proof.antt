@@ -1,0 +1,55 @@
+-- `damped_row` meets its contract: the row is copied, and its entry on the diagonal gets alpha.
+use Prim.Native.Nat.{ℕ, _<_}
+use native.Mathlib.Decide.{ℕ-discrete}
+use native.Mathlib.Omega.{arith}
+use mathlib.Core.List.{List}
+use mathlib.Core.Path.{_≡_, refl, sym, ap, _∙_}
+use borrow.Author.Tests.{eq-eqb, ne-eqb}
+use lib.Ieee.{Float, nan}
+use lib.ListN.{length, set, length-set}
+use lib.Seq.{getD-set-same, getD-set-other}
+use Rattle.kernel.specs.Number.{add}
+use Rattle.linalg.specs.Matrix.{nth, at, rowOf, tabulate}
+use Rattle.linalg.specs.Regularize.{dampedEntry}
+use Rattle.linalg.proofs.Laws.{row-within, nth-row, by-entries}
+use Rattle.linalg.proofs.regularize.damped_row.Statement.{statement}
+use Rattle.linalg.proofs.regularize.damped_row.Tie as tie
+
+on-diagonal : (a : List Float) (n i : ℕ) (alpha : Float) (y : List Float) → i < n → length y ≡ n → y ≡ rowOf a n i → set y i (add (nth y i) alpha) ≡ tabulate n (dampedEntry a n alpha i)
+on-diagonal a n i alpha y h e r = by-entries n _ _ (length-set y i _ ∙ e) (λ q k. go q k (ℕ-discrete i q))
+  where
+    entry : (q : ℕ) → q < n → nth y q ≡ at a n i q
+    entry q k = ap (λ (v : List Float). nth v q) r ∙ nth-row a n i q k
+
+    go : (q : ℕ) → q < n → Dec (i ≡ q) → nth (set y i (add (nth y i) alpha)) q ≡ dampedEntry a n alpha i q
+    go q k (yes s) = rw (← s, eq-eqb i i refl, getD-set-same y i (add (nth y i) alpha) nan (omega arith), entry i h)
+    go q k (no s) = getD-set-other y i q (add (nth y i) alpha) nan (λ w. s (sym w)) ∙ rw (ne-eqb i q s, entry q k)
+
+row-requires : tie.Need-row-requires
+row-requires c κs = omega (arith, row-within (c .before .before .args .n) (c .before .before .args .n) {i = c .before .before .args .i} (omega arith))
+
+copy-requires : tie.Need-copy-requires
+copy-requires c κs = omega arith
+
+mul-y : tie.Need-mul-y
+mul-y c = omega (arith, c .before .before .copy .kept .1 .1 .0)
+
+slice-read-y : tie.Need-slice-read-y
+slice-read-y c = omega (arith, c .before .before .before .copy .kept .1 .1 .0)
+
+mul-y-2 : tie.Need-mul-y-2
+mul-y-2 c = omega (arith, c .before .before .before .copy .kept .1 .1 .0)
+
+slice-write-y : tie.Need-slice-write-y
+slice-write-y c = omega (arith, c .before .before .before .copy .kept .1 .1 .0)
+
+same-length : tie.Need-same-length
+same-length c = simp length-set (c .before .before .before .copy .kept .1 .1 .0)
+
+returns : tie.Need-returns
+returns c =
+    let x = c .before .before .before .before .before .before .before .before .args in
+    on-diagonal (x .a .now) (x .n) (x .i) (x .alpha) _ (c .before .before .before .before .before .before .before .before .pre .0) (c .before .before .before .copy .kept .1 .1 .0 ∙ c .before .before .before .before .before .before .before .before .pre .2) (c .before .before .before .copy .ensures ∙ c .before .before .before .before .before .row .ensures .1)
+
+pub damped-row-spec : {M : Type 1} → statement M
+damped-row-spec = tie.close (tie.spec row-requires copy-requires mul-y slice-read-y mul-y-2 slice-write-y same-length returns)

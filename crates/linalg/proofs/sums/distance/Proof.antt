@@ -1,0 +1,35 @@
+-- `distance` meets its contract: the differences stand in the first n entries of a local array.
+use mathlib.Core.Path.{_≡_, sym, ap, _∙_}
+use mathlib.Core.List.{List}
+use native.Mathlib.Omega.{arith}
+use lib.Ieee.{Float}
+use lib.ListN.{length}
+use lib.Seq.{length-take-le, length-front}
+use Rattle.linalg.specs.Sums.{quadraticForm}
+use Rattle.linalg.proofs.Laws.{length-tabulate, front}
+use Rattle.linalg.proofs.sums.distance.Statement.{statement}
+use Rattle.linalg.proofs.sums.distance.Tie as tie
+
+array-borrow-prefix-delta : tie.Need-array-borrow-prefix-delta
+array-borrow-prefix-delta c = omega arith
+
+slice-aggregate-subtract : tie.Need-slice-aggregate-subtract
+slice-aggregate-subtract c = sym (length-take-le _ _ (omega arith))
+
+subtract-requires : tie.Need-subtract-requires
+subtract-requires c κs = (c .before .before .before .before .pre .1, c .before .before .before .before .pre .2, length-take-le _ _ (omega arith))
+
+array-share-prefix-delta : tie.Need-array-share-prefix-delta
+array-share-prefix-delta c = omega (arith, length-front _ (c .before .subtract .last .1 .1 .1 .0) (c .before .before .before .before .before .before .args .n) (c .before .subtract .kept .1 .1 .1 .0))
+
+slice-aggregate-quadratic-form : tie.Need-slice-aggregate-quadratic-form
+slice-aggregate-quadratic-form c = sym (ap length (front _ (length-tabulate _ _) (c .before .before .subtract .ensures)) ∙ length-tabulate _ _)
+
+quadratic-form-requires : tie.Need-quadratic-form-requires
+quadratic-form-requires c κs = (ap length (front _ (length-tabulate _ _) (c .before .before .subtract .ensures)) ∙ length-tabulate _ _, c .before .before .before .before .before .before .before .pre .3)
+
+returns : tie.Need-returns
+returns c = c .quadratic-form .ensures ∙ ap (λ (d : List Float). quadraticForm d (c .before .before .before .before .before .before .before .before .args .inv .now) (c .before .before .before .before .before .before .before .before .args .n)) (front _ (length-tabulate _ _) (c .before .before .before .subtract .ensures))
+
+pub distance-spec : {M : Type 1} → statement M
+distance-spec = tie.close (tie.spec array-borrow-prefix-delta slice-aggregate-subtract subtract-requires array-share-prefix-delta slice-aggregate-quadratic-form quadratic-form-requires returns)

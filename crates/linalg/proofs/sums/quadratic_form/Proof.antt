@@ -1,0 +1,44 @@
+-- `quadratic_form` meets its contract: before turn i the sum has the terms of the rows above row i.
+use mathlib.Core.Path.{_≡_, refl}
+use mathlib.Core.List.{List}
+use Prim.Native.Nat.{ℕ, _-_, _≤_}
+use native.Mathlib.Omega.{arith}
+use lib.Ieee.{Float}
+use Rattle.kernel.specs.Number.{mul}
+use Rattle.linalg.specs.Matrix.{nought, nth, at, sumRowsFrom}
+use Rattle.linalg.specs.Sums.{quadraticForm}
+use Rattle.linalg.proofs.Laws.{sum-rows-more, sum-rows-all}
+use Rattle.linalg.proofs.sums.quadratic_form.Statement.{statement}
+use Rattle.linalg.proofs.sums.quadratic_form.Tie as tie
+
+abbrev term : List Float → List Float → ℕ → ℕ → ℕ → Float
+term x a n i j = mul (mul (nth x i) (at a n i j)) (nth x j)
+
+abbrev Inv-loop : tie.InvT-loop
+Inv-loop x a n s₀ i₀ s i = (i ≤ n) × (s ≡ sumRowsFrom nought i n (term x a n))
+
+abbrev μ-loop : tie.MeasureT-loop
+μ-loop x a n s₀ i₀ s i = n - i
+
+loop-holds : tie.Need-loop-holds Inv-loop μ-loop
+unfolding sumRowsFrom
+loop-holds c = (omega arith, refl)
+
+form-row-requires : tie.Need-form-row-requires Inv-loop μ-loop
+form-row-requires c κs = omega arith
+
+add-i : tie.Need-add-i Inv-loop μ-loop
+add-i c = omega arith
+
+loop-less : tie.Need-loop-less Inv-loop μ-loop
+loop-less c = omega arith
+
+loop-again : tie.Need-loop-again Inv-loop μ-loop
+loop-again c = (omega arith, sum-rows-more nought (c .before .before .before .before .before .args .n) (c .before .before .loop .i) (term (c .before .before .before .before .before .args .x .now) (c .before .before .before .before .before .args .a .now) (c .before .before .before .before .before .args .n)) (c .before .before .loop .inv .1) (c .form-row .ensures))
+
+returns : tie.Need-returns Inv-loop μ-loop
+unfolding quadraticForm
+returns c = sum-rows-all nought (c .before .before .before .before .args .n) (term (c .before .before .before .before .args .x .now) (c .before .before .before .before .args .a .now) (c .before .before .before .before .args .n)) (c .before .loop .inv .0) (c .loop-test .left) (c .before .loop .inv .1)
+
+pub quadratic-form-spec : {M : Type 1} → statement M
+quadratic-form-spec = tie.close (tie.spec Inv-loop μ-loop loop-holds form-row-requires add-i loop-less loop-again returns)

@@ -1,0 +1,44 @@
+-- `trace_cube` meets its contract: before turn i the sum has the terms of the rows above row i.
+use mathlib.Core.Path.{_≡_, refl}
+use mathlib.Core.List.{List}
+use Prim.Native.Nat.{ℕ, _-_, _≤_}
+use native.Mathlib.Omega.{arith}
+use lib.Ieee.{Float}
+use Rattle.kernel.specs.Number.{mul}
+use Rattle.linalg.specs.Matrix.{nought, at, sumPlanesFrom}
+use Rattle.linalg.specs.Sums.{traceCube}
+use Rattle.linalg.proofs.Laws.{sum-planes-more, sum-planes-all}
+use Rattle.linalg.proofs.sums.trace_cube.Statement.{statement}
+use Rattle.linalg.proofs.sums.trace_cube.Tie as tie
+
+abbrev term : List Float → ℕ → ℕ → ℕ → ℕ → Float
+term m n i j k = mul (mul (at m n i j) (at m n j k)) (at m n k i)
+
+abbrev Inv-loop : tie.InvT-loop
+Inv-loop m n s₀ i₀ s i = (i ≤ n) × (s ≡ sumPlanesFrom nought i n n (term m n))
+
+abbrev μ-loop : tie.MeasureT-loop
+μ-loop m n s₀ i₀ s i = n - i
+
+loop-holds : tie.Need-loop-holds Inv-loop μ-loop
+unfolding sumPlanesFrom
+loop-holds c = (omega arith, refl)
+
+cube-row-requires : tie.Need-cube-row-requires Inv-loop μ-loop
+cube-row-requires c κs = omega arith
+
+add-i : tie.Need-add-i Inv-loop μ-loop
+add-i c = omega arith
+
+loop-less : tie.Need-loop-less Inv-loop μ-loop
+loop-less c = omega arith
+
+loop-again : tie.Need-loop-again Inv-loop μ-loop
+loop-again c = (omega arith, sum-planes-more nought (c .before .before .before .before .args .n) (c .before .before .before .before .args .n) (c .before .before .loop .i) (term (c .before .before .before .before .args .m .now) (c .before .before .before .before .args .n)) (c .before .before .loop .inv .1) (c .cube-row .ensures))
+
+returns : tie.Need-returns Inv-loop μ-loop
+unfolding traceCube
+returns c = sum-planes-all nought (c .before .before .before .args .n) (c .before .before .before .args .n) (term (c .before .before .before .args .m .now) (c .before .before .before .args .n)) (c .before .loop .inv .0) (c .loop-test .left) (c .before .loop .inv .1)
+
+pub trace-cube-spec : {M : Type 1} → statement M
+trace-cube-spec = tie.close (tie.spec Inv-loop μ-loop loop-holds cube-row-requires add-i loop-less loop-again returns)

@@ -1,0 +1,39 @@
+-- `trace_cube_product` meets its contract: the product stands in the first n * n entries of a local array.
+use mathlib.Core.Path.{_≡_, sym, ap, _∙_}
+use mathlib.Core.List.{List}
+use Prim.Native.Nat.{_*_}
+use native.Mathlib.Omega.{arith}
+use lib.Ieee.{Float}
+use lib.ListN.{length, length-replicate}
+use lib.Seq.{length-take-le, length-front}
+use Rattle.linalg.specs.Sums.{traceCube}
+use Rattle.linalg.proofs.Laws.{length-matrix, front}
+use Rattle.linalg.proofs.sums.trace_cube_product.Statement.{statement}
+use Rattle.linalg.proofs.sums.trace_cube_product.Tie as tie
+
+mul-size : tie.Need-mul-size
+mul-size c = omega arith
+
+array-borrow-prefix-m : tie.Need-array-borrow-prefix-m
+array-borrow-prefix-m c = omega arith
+
+slice-aggregate-product : tie.Need-slice-aggregate-product
+slice-aggregate-product c = sym (length-take-le _ _ (omega arith))
+
+product-requires : tie.Need-product-requires
+product-requires c κs = (c .before .before .before .pre .1, c .before .before .before .pre .2, length-take-le _ _ (omega arith))
+
+array-share-prefix-m : tie.Need-array-share-prefix-m
+array-share-prefix-m c = omega (arith, length-front _ (c .before .product .last .1 .1 .1 .1 .1 .0) (c .before .before .before .before .before .args .n * c .before .before .before .before .before .args .n) (c .before .product .kept .1 .1 .1 .1 .1 .0))
+
+slice-aggregate-trace-cube : tie.Need-slice-aggregate-trace-cube
+slice-aggregate-trace-cube c = sym (ap length (front _ (length-matrix _ _ _) (c .before .before .product .ensures)) ∙ length-matrix _ _ _)
+
+trace-cube-requires : tie.Need-trace-cube-requires
+trace-cube-requires c κs = ap length (front _ (length-matrix _ _ _) (c .before .before .product .ensures)) ∙ length-matrix _ _ _
+
+returns : tie.Need-returns
+returns c = c .trace-cube .ensures ∙ ap (λ (d : List Float). traceCube d (c .before .before .before .before .before .before .before .args .n)) (front _ (length-matrix _ _ _) (c .before .before .before .product .ensures))
+
+pub trace-cube-product-spec : {M : Type 1} → statement M
+trace-cube-product-spec = tie.close (tie.spec mul-size array-borrow-prefix-m slice-aggregate-product product-requires array-share-prefix-m slice-aggregate-trace-cube trace-cube-requires returns)

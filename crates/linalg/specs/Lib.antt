@@ -1,0 +1,6 @@
+pub mod Answer
+pub mod Matrix
+pub mod Fill
+pub mod Products
+pub mod Sums
+pub mod Regularize

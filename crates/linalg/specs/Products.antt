@@ -1,0 +1,72 @@
+-- The calls of linalg/generic.rs that write a matrix or a vector by a rule for each entry.
+use Prim.Native.Nat.{ℕ, _*_, min, max}
+use mathlib.Core.Bool.{_&&_}
+use mathlib.Core.List.{List}
+use lib.Ieee.{Float, binary64, ofBits}
+use Rattle.kernel.specs.Number.{add, mul}
+use Rattle.kernel.specs.Answer.{Outcome, answered, ask}
+use Rattle.linalg.specs.Matrix.{sum, sumFrom, nth, at, matrix, tabulate, side, long}
+
+-- 0.5
+abbrev pub half : Float
+half = ofBits binary64 0x3fe0000000000000
+
+-- entry (i, j) of a b, where a has k columns and b has n
+abbrev pub productEntry : List Float → List Float → ℕ → ℕ → ℕ → ℕ → Float
+productEntry a b k n i j = sum k (λ l. mul (at a k i l) (at b n l j))
+
+-- `mat_mul`: the m by n product of a, m by k, and b, k by n
+unfoldable pub matMul : List Float → List Float → ℕ → ℕ → ℕ → List Float → Outcome (List Float)
+unfolding matrix sumFrom tabulate side long
+matMul a b m k n out =
+    ask 1 (side m && (side k && side n))
+    (ask 2 (long a (m * k) && (long b (k * n) && long out (m * n)))
+    (answered (matrix m n (productEntry a b k n))))
+
+-- entry (i, j) of the transpose of a, which has n columns
+abbrev pub transposeEntry : List Float → ℕ → ℕ → ℕ → Float
+transposeEntry a n i j = at a n j i
+
+-- `mat_transpose`: the n by m transpose of a, m by n
+unfoldable pub matTranspose : List Float → ℕ → ℕ → List Float → Outcome (List Float)
+unfolding matrix tabulate side long
+matTranspose a m n out =
+    ask 1 (side m && side n)
+    (ask 2 (long a (m * n) && long out (n * m))
+    (answered (matrix n m (transposeEntry a n))))
+
+-- entry (i, j) of the product of the transpose of a, m by n, and a: those on and below the diagonal are summed, and mirrored
+abbrev pub ataEntry : List Float → ℕ → ℕ → ℕ → ℕ → Float
+ataEntry a m n i j = sum m (λ k. mul (at a n k (max i j)) (at a n k (min i j)))
+
+-- `mat_ata`: the n by n product of the transpose of a, m by n, and a
+unfoldable pub matAta : List Float → ℕ → ℕ → List Float → Outcome (List Float)
+unfolding matrix sumFrom tabulate side long
+matAta a m n out =
+    ask 1 (side m && side n)
+    (ask 2 (long a (m * n) && long out (n * n))
+    (answered (matrix n n (ataEntry a m n))))
+
+-- the mean of entries (i, j) and (j, i): that above the diagonal comes first
+abbrev pub symmetricEntry : List Float → ℕ → ℕ → ℕ → Float
+symmetricEntry a n i j = mul (add (at a n (min i j) (max i j)) (at a n (max i j) (min i j))) half
+
+-- `mat_symmetrize`: half the sum of a, n by n, and its transpose
+unfoldable pub matSymmetrize : List Float → ℕ → List Float → Outcome (List Float)
+unfolding matrix tabulate side long
+matSymmetrize a n out =
+    ask 1 (side n)
+    (ask 2 (long a (n * n) && long out (n * n))
+    (answered (matrix n n (symmetricEntry a n))))
+
+-- entry i of the product of a, of n columns, and the vector x
+abbrev pub vectorEntry : List Float → List Float → ℕ → ℕ → Float
+vectorEntry a x n i = sum n (λ j. mul (at a n i j) (nth x j))
+
+-- `mat_vec_mul`: the product of a, n by n, and the vector x
+unfoldable pub matVecMul : List Float → List Float → ℕ → List Float → Outcome (List Float)
+unfolding sumFrom tabulate side long
+matVecMul a x n out =
+    ask 1 (side n)
+    (ask 2 (long a (n * n) && (long x n && long out n))
+    (answered (tabulate n (vectorEntry a x n))))

@@ -1,0 +1,21 @@
+-- The damping of linalg/regularize.rs.
+use Prim.Native.Nat.{ℕ, _*_}
+use mathlib.Core.Bool.{_&&_, cond}
+use mathlib.Core.List.{List}
+use lib.Dec.{eqb}
+use lib.Ieee.{Float}
+use Rattle.kernel.specs.Number.{add}
+use Rattle.kernel.specs.Answer.{Outcome, answered, ask}
+use Rattle.linalg.specs.Matrix.{at, matrix, tabulate, side, long}
+
+-- entry (i, j) of a with alpha added on the diagonal
+abbrev pub dampedEntry : List Float → ℕ → Float → ℕ → ℕ → Float
+dampedEntry a n alpha i j = cond (eqb i j) (add (at a n i j) alpha) (at a n i j)
+
+-- `tikhonov`: a, n by n, plus alpha times the identity
+unfoldable pub tikhonov : List Float → Float → ℕ → List Float → Outcome (List Float)
+unfolding matrix tabulate side long
+tikhonov a alpha n out =
+    ask 1 (side n)
+    (ask 2 (long a (n * n) && long out (n * n))
+    (answered (matrix n n (dampedEntry a n alpha))))

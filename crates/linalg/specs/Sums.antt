@@ -1,0 +1,57 @@
+-- The calls of linalg/generic.rs that give one sum: traces, the quadratic form and the distance under a given inverse.
+use Prim.Native.Nat.{ℕ, _*_}
+use mathlib.Core.Bool.{_&&_}
+use mathlib.Core.List.{List}
+use lib.Ieee.{Float}
+use Rattle.kernel.specs.Number.{add, sub, mul}
+use Rattle.kernel.specs.Answer.{Outcome, answered, ask}
+use Rattle.linalg.specs.Matrix.{nought, sum, sumFrom, sumRowsFrom, sumPlanesFrom, nth, at, matrix, tabulate, side, long}
+use Rattle.linalg.specs.Products.{productEntry}
+
+-- `mat_trace`: the sum of the diagonal of a, n by n
+unfoldable pub matTrace : List Float → ℕ → Outcome Float
+unfolding sumFrom side long
+matTrace a n = ask 1 (side n) (ask 2 (long a (n * n)) (answered (sum n (λ i. at a n i i))))
+
+-- `mat_trace_product`: the trace of a b, both n by n, as one sum of a_ij b_ji
+unfoldable pub matTraceProduct : List Float → List Float → ℕ → Outcome Float
+unfolding sumRowsFrom side long
+matTraceProduct a b n =
+    ask 1 (side n)
+    (ask 2 (long a (n * n) && long b (n * n))
+    (answered (sumRowsFrom nought n n (λ i j. mul (at a n i j) (at b n j i)))))
+
+-- the trace of the cube of m, n by n, as one sum of (m_ij m_jk) m_ki
+unfoldable pub traceCube : List Float → ℕ → Float
+unfolding sumPlanesFrom
+traceCube m n = sumPlanesFrom nought n n n (λ i j k. mul (mul (at m n i j) (at m n j k)) (at m n k i))
+
+-- `mat_trace_cube`: the trace of the cube of a b, both n by n
+unfoldable pub matTraceCube : List Float → List Float → ℕ → Outcome Float
+unfolding traceCube matrix side long
+matTraceCube a b n =
+    ask 1 (side n)
+    (ask 2 (long a (n * n) && long b (n * n))
+    (answered (traceCube (matrix n n (productEntry a b n n)) n)))
+
+-- xᵀ a x, for a n by n, as one sum of (x_i a_ij) x_j
+unfoldable pub quadraticForm : List Float → List Float → ℕ → Float
+unfolding sumRowsFrom
+quadraticForm x a n = sumRowsFrom nought n n (λ i j. mul (mul (nth x i) (at a n i j)) (nth x j))
+
+-- `mat_quadratic_form`
+unfoldable pub matQuadraticForm : List Float → List Float → ℕ → Outcome Float
+unfolding quadraticForm side long
+matQuadraticForm x a n = ask 1 (side n) (ask 2 (long x n && long a (n * n)) (answered (quadraticForm x a n)))
+
+-- x - mu, of n entries
+abbrev pub difference : List Float → List Float → ℕ → List Float
+difference x mu n = tabulate n (λ i. sub (nth x i) (nth mu i))
+
+-- `mahalanobis_distance_squared_with_inv`: the quadratic form of x - mu under the inverse that is given
+unfoldable pub distanceWithInv : List Float → List Float → List Float → ℕ → Outcome Float
+unfolding quadraticForm tabulate side long
+distanceWithInv x mu inv n =
+    ask 1 (side n)
+    (ask 2 (long x n && (long mu n && long inv (n * n)))
+    (answered (quadraticForm (difference x mu n) inv n)))
