@@ -19,6 +19,22 @@ double pel_sqrt(double x);
 double pel_value(double x);
 double pel_constant(double c);
 
+/* Matrices: row by row, each side from 1 to 16. A single number is written to *out. */
+uint32_t pel_mat_mul(const double *a, size_t a_len, const double *b, size_t b_len, size_t m, size_t k, size_t n,
+                     double *out, size_t out_len);
+uint32_t pel_mat_transpose(const double *a, size_t a_len, size_t m, size_t n, double *out, size_t out_len);
+uint32_t pel_mat_ata(const double *a, size_t a_len, size_t m, size_t n, double *out, size_t out_len);
+uint32_t pel_mat_symmetrize(const double *a, size_t a_len, size_t n, double *out, size_t out_len);
+uint32_t pel_mat_vec_mul(const double *a, size_t a_len, const double *x, size_t x_len, size_t n, double *out,
+                         size_t out_len);
+uint32_t pel_mat_trace(const double *a, size_t a_len, size_t n, double *out);
+uint32_t pel_mat_trace_product(const double *a, size_t a_len, const double *b, size_t b_len, size_t n, double *out);
+uint32_t pel_mat_trace_cube(const double *a, size_t a_len, const double *b, size_t b_len, size_t n, double *out);
+uint32_t pel_mat_quadratic_form(const double *x, size_t x_len, const double *a, size_t a_len, size_t n, double *out);
+uint32_t pel_mahalanobis_distance_squared_with_inv(const double *x, size_t x_len, const double *mu, size_t mu_len,
+                                                   const double *inv, size_t inv_len, size_t n, double *out);
+uint32_t pel_tikhonov(const double *cov, size_t cov_len, double alpha, size_t n, double *out, size_t out_len);
+
 #ifdef __cplusplus
 }
 #endif

@@ -1,0 +1,28 @@
+-- What C is told follows from what the call promises.
+use Prim.Native.Nat.{ℕ}
+use mathlib.Core.Path.{_≡_, refl, ap, _∙_}
+use mathlib.Core.List.{List}
+use lib.Ieee.{Float}
+use Rattle.kernel.specs.Answer.{Outcome, refused, answered}
+use Rattle.linalg.specs.declared.Written.{Written}
+use Rattle.linalg.specs.declared.Number.{Number}
+use Rattle.linalg.specs.Answer.{after, Leaves, given}
+use Rattle.capi.specs.Told.{told, Tells, code, entered}
+
+after-told : (outcome : Outcome (List Float)) (old : List Float) → (code (after outcome old .0), after outcome old .1) ≡ told outcome old
+after-told (refused k) old = refl
+after-told (answered v) old = refl
+
+-- a call that writes a slice
+pub leaves-tells : (outcome : Outcome (List Float)) (old new : List Float) (answer : Written) (r : ℕ) → r ≡ code answer → Leaves outcome old answer new → Tells outcome old r new
+unfolding Tells
+leaves-tells outcome old new answer r h l = ap (λ (n : ℕ). (n, new)) h ∙ ap (λ (p : Written × List Float). (code (p .0), p .1)) l ∙ after-told outcome old
+
+entered-told : (outcome : Outcome Float) (old : Float) → entered (given outcome) old ≡ told outcome old
+entered-told (refused k) old = refl
+entered-told (answered v) old = refl
+
+-- a call that gives a number
+pub gives-tells : (outcome : Outcome Float) (old new : Float) (answer : Number) (r : ℕ) → (r, new) ≡ entered answer old → answer ≡ given outcome → Tells outcome old r new
+unfolding Tells
+gives-tells outcome old new answer r h g = h ∙ ap (λ (a : Number). entered a old) g ∙ entered-told outcome old
