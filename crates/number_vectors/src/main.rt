@@ -3,6 +3,7 @@
 use kernel::number;
 
 const RECORD: usize = 32;
+
 const CALLS: usize = 5;
 
 // The answer of a call, by its number in a record.

@@ -6,6 +6,7 @@ ghost use Rattle.replay.specs.Replay.{short, half, word, same};
 
 // The bit pattern of +infinity: above it, below the sign, are those of NaNs.
 const INFINITY: u64 = 0x7FF0_0000_0000_0000;
+
 const SIGN: u64 = 0x8000_0000_0000_0000;
 
 fn wide(x: u8) -> u64
