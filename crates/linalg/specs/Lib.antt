@@ -4,3 +4,4 @@ pub mod Fill
 pub mod Products
 pub mod Sums
 pub mod Regularize
+pub mod Mat3
