@@ -34,6 +34,9 @@ uint32_t pel_mat_quadratic_form(const double *x, size_t x_len, const double *a, 
 uint32_t pel_mahalanobis_distance_squared_with_inv(const double *x, size_t x_len, const double *mu, size_t mu_len,
                                                    const double *inv, size_t inv_len, size_t n, double *out);
 uint32_t pel_tikhonov(const double *cov, size_t cov_len, double alpha, size_t n, double *out, size_t out_len);
+uint32_t pel_mat3_det(const double *m, size_t m_len, double *out);
+uint32_t pel_mat3_inv(const double *m, size_t m_len, double *out, size_t out_len);
+uint32_t pel_mat3_solve(const double *a, size_t a_len, const double *b, size_t b_len, double *out, size_t out_len);
 
 #ifdef __cplusplus
 }

@@ -3,10 +3,12 @@ ghost use mathlib.Core.Path.{_≡_};
 ghost use Rattle.linalg.specs.Products as Products;
 ghost use Rattle.linalg.specs.Sums as Sums;
 ghost use Rattle.linalg.specs.Regularize as Regularize;
+ghost use Rattle.linalg.specs.Mat3 as Mat3;
 ghost use Rattle.capi.specs.Told.{Tells};
 use crate::told::code;
 use crate::told::enter;
 use linalg::generic;
+use linalg::mat3;
 use linalg::regularize;
 
 // The m by n product of a, m by k, and b, k by n, into out.
@@ -111,4 +113,28 @@ pub extern "C" fn pel_tikhonov(cov: &[f64], alpha: f64, n: usize, out: &mut [f64
     ensures { λ r. ⌜ Tells (Regularize.tikhonov (now (cov .entry)) alpha n (now (out .entry))) (now (out .entry)) r (now (out .exit)) ⌝ }
 {
     code(regularize::tikhonov(cov, alpha, n, out))
+}
+
+// The determinant of m, 3 by 3, into out.
+#[no_mangle]
+pub extern "C" fn pel_mat3_det(m: &[f64], out: &mut f64) -> u32
+    ensures { λ r. ⌜ Tells (Mat3.mat3Det (now (m .entry))) (now (out .entry)) r (now (out .exit)) ⌝ }
+{
+    enter(mat3::mat3_det(m), out)
+}
+
+// The inverse of m, 3 by 3, into out.
+#[no_mangle]
+pub extern "C" fn pel_mat3_inv(m: &[f64], out: &mut [f64]) -> u32
+    ensures { λ r. ⌜ Tells (Mat3.mat3Inv (now (m .entry)) (now (out .entry))) (now (out .entry)) r (now (out .exit)) ⌝ }
+{
+    code(mat3::mat3_inv(m, out))
+}
+
+// The solution of a, 3 by 3, for b, into out.
+#[no_mangle]
+pub extern "C" fn pel_mat3_solve(a: &[f64], b: &[f64], out: &mut [f64]) -> u32
+    ensures { λ r. ⌜ Tells (Mat3.mat3Solve (now (a .entry)) (now (b .entry)) (now (out .entry))) (now (out .entry)) r (now (out .exit)) ⌝ }
+{
+    code(mat3::mat3_solve(a, b, out))
 }
