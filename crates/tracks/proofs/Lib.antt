@@ -1,0 +1,5 @@
+pub mod Items
+pub mod Bytes
+pub mod Accepted
+pub mod Over
+pub mod Lists

@@ -1,0 +1,4 @@
+pub mod Format
+pub mod Read
+pub mod Write
+pub mod Calls

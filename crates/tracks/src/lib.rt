@@ -1,0 +1,2 @@
+// The list record: reading and writing track lists, and handing out a track's own bytes.
+pub mod format;
