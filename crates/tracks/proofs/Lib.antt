@@ -3,3 +3,4 @@ pub mod Bytes
 pub mod Accepted
 pub mod Over
 pub mod Lists
+pub mod Written

@@ -4,7 +4,7 @@ use native.Mathlib.Omega.{arith}
 use native.Mathlib.Nat.{add-assoc, add-zero}
 use native.Mathlib.Numerals.{add-one}
 use mathlib.Core.Path.{_≡_, refl, sym, ap, _∙_, subst}
-use mathlib.Core.List.{List, [], _∷_, _++_, map, append-assoc}
+use mathlib.Core.List.{List, [], _∷_, _++_, map, append-assoc, map-append}
 use lib.Ieee.{Float, binary64, ofBits}
 use lib.ListN.{length, take, drop, set, length-append, take-append-drop, length-drop, length-map}
 use lib.Seq.{set-split, drop-append-add, take-at, drop-at, length-take-le, drop-drop, take-append-le, drop-append-le}
@@ -43,11 +43,13 @@ module _ {A : Type 0} where
   pub over-more : (old : List A) (i j : ℕ) (new : List A) (v : A) → j ≡ i + length new → j < length old → set (over old i new) j v ≡ over old i (new ++ (v ∷ []))
   over-more old i j new v e h = over-set (over old i new) j v (omega (arith, length-over old i new (omega arith))) ∙ over-over old i j new (v ∷ []) e (omega arith)
 
--- two parts of doubles, one where the other ends
-map-append : {A : Type 0} {B : Type 0} (g : A → B) (us vs : List A) → map g (us ++ vs) ≡ map g us ++ map g vs
-map-append g [] vs = refl
-map-append g (u ∷ us) vs = rw (map-append g us vs) refl
+  -- two elements in front, and a part after them
+  pub over-two : (old : List A) (a b : A) (new : List A) → 2 ≤ length old → over (set (set old 0 a) 1 b) 2 new ≡ over old 0 (a ∷ b ∷ new)
+  over-two old a b new h =
+      ap (λ (l : List A). over (set l 1 b) 2 new) (over-set old 0 a (omega arith)) ∙ ap (λ (l : List A). over l 2 new) (over-more old 0 1 (a ∷ []) b refl (omega arith))
+      ∙ over-over old 0 2 (a ∷ b ∷ []) new refl (omega arith)
 
+-- two parts of doubles, one where the other ends
 pub over-doubles : (old : List Float) (i j : ℕ) (us vs : List ℕ) → j ≡ i + length us → i + length us ≤ length old → over (over old i (doubles us)) j (doubles vs) ≡ over old i (doubles (us ++ vs))
 over-doubles old i j us vs e h =
     let n : length (doubles us) ≡ length us = length-map us (ofBits binary64) in

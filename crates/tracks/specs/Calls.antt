@@ -1,7 +1,7 @@
 -- What the calls answer, and what they leave in lent memory.
 use Prim.Native.Nat.{ℕ, _+_}
 use mathlib.Core.Path.{_≡_}
-use mathlib.Core.List.{List, [], _∷_, _++_, map}
+use mathlib.Core.List.{List, [], _∷_, _++_, map, flatMap}
 use lib.ListN.{length, take, drop}
 use lib.Ieee.{Float, binary64, ofBits, toBits}
 use Rattle.kernel.specs.Answer.{Outcome, refused, answered}
@@ -10,6 +10,8 @@ use Rattle.tracks.specs.declared.format.Checked.{Checked}
 use Rattle.tracks.specs.declared.format.Checked.the-variants.{End, Refused}
 use Rattle.tracks.specs.declared.format.ReadList.{ReadList}
 use Rattle.tracks.specs.declared.format.ReadList.the-variants as ReadList
+use Rattle.tracks.specs.declared.format.WrittenList.{WrittenList}
+use Rattle.tracks.specs.declared.format.WrittenList.the-variants as WrittenList
 
 -- A list with other elements from an index on.
 unfoldable pub over : {A : Type 0} → List A → ℕ → List A → List A
@@ -24,8 +26,8 @@ patterns v = map (toBits binary64) v
 
 -- Lists one after another.
 unfoldable pub joined : {A : Type 0} → List (List A) → List A
-joined [] = []
-joined (v ∷ vs) = v ++ joined vs
+unfolding flatMap
+joined vs = flatMap (λ v. v) vs
 
 -- Where an item ends, or the number of the question that it does not meet.
 abbrev pub ends : {A : Type 0} → Outcome (Item A) → Checked
@@ -49,3 +51,17 @@ readAnswer l (answered ts) = ReadList.Read (count l) (dimension l)
 abbrev pub readValues : Outcome (List (List ℕ)) → List Float → List Float
 readValues (refused q) old = old
 readValues (answered ts) old = over old 0 (doubles (joined ts))
+
+-- The answer to a list that is written: its length.
+abbrev pub writeAnswer : Outcome (List ℕ) → WrittenList
+writeAnswer (refused q) = WrittenList.Refused q
+writeAnswer (answered l) = WrittenList.Length (length l)
+
+-- The buffer afterwards: the list in front, and the rest as it was.
+abbrev pub writeBytes : Outcome (List ℕ) → List ℕ → List ℕ
+writeBytes (refused q) old = old
+writeBytes (answered l) old = over old 0 l
+
+-- That bytes are left in a buffer from an offset on, and the offset after them is given.
+abbrev pub Writes : List ℕ → List ℕ → ℕ → ℕ → List ℕ → Type 0
+Writes bytes old at next new = (next ≡ at + length bytes) × (new ≡ over old at bytes)

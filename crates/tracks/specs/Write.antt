@@ -1,7 +1,7 @@
 -- Writing a list record of document 01: the bytes of tracks.
 use Prim.Native.Nat.{ℕ, zero, suc, _+_, _*_, _^_}
 use mathlib.Core.Bool.{Bool, true, false, not, _&&_, cond}
-use mathlib.Core.List.{List, [], _∷_, _++_}
+use mathlib.Core.List.{List, [], _∷_, _++_, flatMap}
 use lib.Dec.{eqb, leb}
 use lib.ListN.{length, getD, take, drop}
 use Rattle.kernel.specs.Answer.{Outcome, refused, answered, ask}
@@ -37,9 +37,8 @@ unfolding bytes
 fieldBytes x = cond (nonzero x) (bytes 8 x) []
 
 unfoldable pub storedBytes : List ℕ → List ℕ
-unfolding fieldBytes
-storedBytes [] = []
-storedBytes (x ∷ v) = fieldBytes x ++ storedBytes v
+unfolding flatMap fieldBytes
+storedBytes v = flatMap fieldBytes v
 
 -- A track's own bytes: its map, then the fields whose bits stand.
 unfoldable pub recordOf : List ℕ → List ℕ
@@ -47,9 +46,8 @@ unfolding mapOf storedBytes
 recordOf v = mapOf v ++ storedBytes v
 
 unfoldable pub recordsOf : List (List ℕ) → List ℕ
-unfolding recordOf
-recordsOf [] = []
-recordsOf (t ∷ ts) = recordOf t ++ recordsOf ts
+unfolding flatMap recordOf
+recordsOf ts = flatMap recordOf ts
 
 -- The list of tracks of dimension d.
 unfoldable pub listOf : ℕ → List (List ℕ) → List ℕ

@@ -3,7 +3,7 @@ use mathlib.Core.Path.{_≡_, refl, sym, ap, _∙_}
 use Prim.Native.Nat.{ℕ, _+_, _*_, _-_, _≤_}
 use native.Mathlib.Nat.{le-antisymm, zero-mul}
 use native.Mathlib.Omega.{arith}
-use mathlib.Core.List.{List, [], _∷_, _++_}
+use mathlib.Core.List.{List, [], _∷_, _++_, flatMap}
 use denote.Ref.{now}
 use lib.ListN.{length, length-append}
 use lib.Ieee.{Float}
@@ -36,7 +36,7 @@ room : (c : tie.In-loop Inv-loop μ-loop) → c .before .loop .i + c .before .be
 room c = let x = c .before .before .before .before .args in omega (arith, row (x .n) (x .f) (c .before .loop .counter) (c .loop-test .taken))
 
 loop-holds : tie.Need-loop-holds Inv-loop μ-loop
-unfolding tracks items joined
+unfolding tracks items joined flatMap
 loop-holds c = (omega arith, sym (zero-mul _), refl, (record { value = []; next = 2 }, refl, refl, refl, sym (over-none _ _)))
 
 put-track-requires : tie.Need-put-track-requires Inv-loop μ-loop
