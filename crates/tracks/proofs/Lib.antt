@@ -4,3 +4,8 @@ pub mod Accepted
 pub mod Over
 pub mod Lists
 pub mod Written
+pub mod Stream
+pub mod Bits
+pub mod Track
+pub mod Values
+pub mod Records

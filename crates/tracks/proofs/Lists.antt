@@ -1,12 +1,13 @@
 -- Laws of lists one after another, of lists made by a rule, and of their places.
 use Prim.Native.Nat.{ℕ, zero, suc, _+_, _-_, _*_, _<_, _≤_}
 use native.Mathlib.Omega.{arith}
-use native.Mathlib.Nat.{mul-le-mul-right, suc-mul, le-of-suc-le-suc, add-zero, le-refl}
+use native.Mathlib.Nat.{mul-le-mul-right, suc-mul, eq-or-lt-of-le, le-of-suc-le-suc, add-zero, le-refl}
+use mathlib.Core.Logic.{⊎-elim}
 use native.Mathlib.Numerals.{add-one}
 use mathlib.Core.Path.{_≡_, refl, sym, ap, _∙_, subst}
 use mathlib.Core.List.{List, [], _∷_, _++_, map, flatMap, append-assoc, append-nil}
-use lib.ListN.{length, getD, take, drop, length-append}
-use lib.Seq.{take-suc}
+use lib.ListN.{length, getD, take, drop, length-append, List·getD-append}
+use lib.Seq.{take-suc, getD-at}
 use Rattle.tracks.specs.Write.{tabulate}
 use Rattle.tracks.specs.Calls.{joined}
 
@@ -70,3 +71,19 @@ pub map-drop : {A B : Type 0} (g : A → B) (n : ℕ) (l : List A) → map g (dr
 map-drop g zero l = refl
 map-drop g (suc n) [] = refl
 map-drop g (suc n) (x ∷ l) = map-drop g n l
+
+pub getD-tabulate : {A : Type 0} (n : ℕ) (g : ℕ → A) (d : A) (i : ℕ) → i < n → getD (tabulate n g) i d ≡ g i
+unfolding tabulate
+getD-tabulate zero g d i h = absurd (omega arith)
+getD-tabulate (suc n) g d i h =
+    ⊎-elim
+    (λ (e : i ≡ n). ap (λ (k : ℕ). getD (tabulate n g ++ (g n ∷ [])) k d) e ∙ getD-at (tabulate n g) (g n) [] d n (length-tabulate n g) ∙ ap g (sym e))
+    (λ (l : i < n). List·getD-append (tabulate n g) (g n ∷ []) d i (omega (arith, length-tabulate n g)) ∙ getD-tabulate n g d i l)
+    (eq-or-lt-of-le (le-of-suc-le-suc h))
+
+-- an element of a list with one more at its end
+pub getD-more : {A : Type 0} (P : A → Type 0) (d : A) (l : List A) (x : A) → P d → ((i : ℕ) → P (getD l i d)) → P x → (i : ℕ) → P (getD (l ++ (x ∷ [])) i d)
+getD-more P d [] x n h p zero = p
+getD-more P d [] x n h p (suc i) = n
+getD-more P d (y ∷ l) x n h p zero = h 0
+getD-more P d (y ∷ l) x n h p (suc i) = getD-more P d l x n (λ j. h (suc j)) p i

@@ -62,6 +62,13 @@ all-not (y ∷ v) (suc i) h e = later (finite y) (all-not v i (le-of-suc-le-suc 
     later true p = p
     later false p = refl
 
+pub all-at : (v : List ℕ) (i : ℕ) → allFinite v ≡ true → i < length v → finite (getD v i 0) ≡ true
+all-at v i e h = split (finite (getD v i 0)) refl
+  where
+    split : (b : Bool) → finite (getD v i 0) ≡ b → finite (getD v i 0) ≡ true
+    split true p = p
+    split false p = let z : true ≡ false = sym e ∙ all-not v i h p in let y : _≡_ {A = ℕ} 0 1 = cc in absurd (omega arith)
+
 -- ---- a field's bytes
 
 pub field-none : (x : ℕ) → x ≡ 0 → fieldBytes x ≡ []

@@ -2,8 +2,9 @@
 use Prim.Native.Nat.{ℕ, _+_}
 use mathlib.Core.Path.{_≡_}
 use mathlib.Core.List.{List, [], _∷_, _++_, map, flatMap}
-use lib.ListN.{length, take, drop}
-use lib.Ieee.{Float, binary64, ofBits, toBits}
+use lib.Dec.{T}
+use lib.ListN.{length, getD, take, drop}
+use lib.Ieee.{Float, nan, binary64, fits, ofBits, toBits}
 use Rattle.kernel.specs.Answer.{Outcome, refused, answered}
 use Rattle.tracks.specs.Read.{Item, count, dimension}
 use Rattle.tracks.specs.declared.format.Checked.{Checked}
@@ -23,6 +24,10 @@ doubles v = map (ofBits binary64) v
 
 abbrev pub patterns : List Float → List ℕ
 patterns v = map (toBits binary64) v
+
+-- That values are doubles.
+abbrev pub Doubles : List Float → Type 0
+Doubles v = (i : ℕ) → T (fits binary64 (getD v i nan))
 
 -- Lists one after another.
 unfoldable pub joined : {A : Type 0} → List (List A) → List A

@@ -1,9 +1,21 @@
 -- The list record of document 01: its layout, its bits and its numbers.
-use Prim.Native.Nat.{ℕ, zero, suc, _+_, _-_, _*_, _/_, _%_, _^_}
+use Prim.Native.Nat.{ℕ, zero, suc, _+_, _-_, _*_, _/_, _%_, _^_, _<_}
 use mathlib.Core.Bool.{Bool, true, false, not, _&&_}
 use mathlib.Core.List.{List, [], _∷_}
 use lib.Dec.{eqb, ltb}
 use lib.ListN.{getD, take, drop}
+
+-- The bytes of a list from an offset up to another.
+abbrev pub part : List ℕ → ℕ → ℕ → List ℕ
+part l from to = take (to - from) (drop from l)
+
+-- That the elements of a list are bytes.
+abbrev pub Bytes : List ℕ → Type 0
+Bytes l = (i : ℕ) → getD l i 0 < 256
+
+-- That they are patterns of 64 bits.
+abbrev pub Words : List ℕ → Type 0
+Words v = (i : ℕ) → getD v i 0 < 2 ^ 64
 
 -- The fields of a track of dimension d: the d state values, then the covariance's lower triangle.
 unfoldable pub fields : ℕ → ℕ

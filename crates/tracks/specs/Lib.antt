@@ -2,3 +2,4 @@ pub mod Format
 pub mod Read
 pub mod Write
 pub mod Calls
+pub mod Record
