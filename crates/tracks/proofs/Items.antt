@@ -1,12 +1,14 @@
 -- Laws of items that are read one after another: each step of a loop over them, its way out, and what an accepted run says of its steps.
 use Prim.Native.Nat.{ℕ, zero, suc, _+_, _-_, _<_, _≤_}
 use native.Mathlib.Omega.{arith}
-use native.Mathlib.Nat.{add-zero, add-suc}
+use native.Mathlib.Nat.{add-zero, add-suc, eq-or-lt-of-le}
+use mathlib.Core.Logic.{⊎-elim}
 use native.Mathlib.Numerals.{add-one}
 use mathlib.Core.Path.{_≡_, refl, sym, ap, _∙_, subst}
 use mathlib.Core.Bool.{Bool, true, false}
 use mathlib.Core.List.{List, [], _∷_, _++_}
-use lib.ListN.{length, length-append}
+use lib.ListN.{length, getD, length-append, List·getD-append}
+use lib.Seq.{getD-at}
 use Rattle.kernel.specs.Answer.{Outcome, refused, answered, ask}
 use Rattle.tracks.specs.Read.{Item, oneMore, followed, items}
 use Rattle.tracks.specs.Calls.{ends}
@@ -99,3 +101,27 @@ module _ {A : Type 0} (read : ℕ → ℕ → Outcome (Item A)) (start : ℕ) wh
 
   pub items-length : (n : ℕ) (ys : Item (List A)) → items read start n ≡ answered ys → length (ys .value) ≡ n
   items-length = items-ind (λ n ys. length (ys .value) ≡ n) refl (λ k xs x p e. length-append (xs .value) (x .value ∷ []) ∙ ap (λ (i : ℕ). i + 1) p)
+
+  -- item j of an accepted run
+  abbrev Run : A → ℕ → Item (List A) → Type 0
+  Run d n ys =
+      (items read start n ≡ answered ys)
+      × ((j : ℕ) → j < n → (xs : Item (List A)) (x : Item A) → items read start j ≡ answered xs → read j (xs .next) ≡ answered x → getD (ys .value) j d ≡ x .value)
+
+  run : (d : A) (n : ℕ) (ys : Item (List A)) → items read start n ≡ answered ys → Run d n ys
+  unfolding items
+  run d =
+      items-ind (Run d) (refl, λ j lt xs x p q. absurd (omega arith)) (λ k ys y r e. (
+        items-more k ys y (r .0) e,
+        λ j lt xs x p q.
+            ⊎-elim
+            (λ (s : j ≡ k).
+            let same : xs ≡ ys = answered-inj (sym p ∙ ap (items read start) s ∙ r .0) in
+            let v : x ≡ y = answered-inj (sym q ∙ ap (λ (i : ℕ). read i (xs .next)) s ∙ ap (λ (z : Item (List A)). read k (z .next)) same ∙ e) in
+            getD-at (ys .value) (y .value) [] d j (items-length k ys (r .0) ∙ sym s) ∙ sym (ap (λ (z : Item A). z .value) v))
+            (λ (s : j < k). List·getD-append (ys .value) (y .value ∷ []) d j (omega (arith, items-length k ys (r .0))) ∙ r .1 j s xs x p q)
+            (eq-or-lt-of-le (omega arith)),
+      ))
+
+  pub items-get : (d : A) (n : ℕ) (ys : Item (List A)) → items read start n ≡ answered ys → (j : ℕ) → j < n → (xs : Item (List A)) (x : Item A) → items read start j ≡ answered xs → read j (xs .next) ≡ answered x → getD (ys .value) j d ≡ x .value
+  items-get d n ys e = run d n ys e .1

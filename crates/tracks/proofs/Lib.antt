@@ -9,3 +9,5 @@ pub mod Bits
 pub mod Track
 pub mod Values
 pub mod Records
+pub mod RoundTrip
+pub mod RecordParts

@@ -3,3 +3,4 @@ pub mod Read
 pub mod Write
 pub mod Calls
 pub mod Record
+pub mod Examples
