@@ -1,0 +1,166 @@
+-- What an accepted field, and an accepted track, says of its bytes.
+use Prim.Native.Nat.{ℕ, zero, suc, _+_, _-_, _*_, _/_, _%_, _^_, _<_, _≤_}
+use native.Mathlib.Omega.{arith}
+use mathlib.Core.Path.{_≡_, refl, sym, ap, _∙_, subst}
+use mathlib.Core.Logic.{_⊎_, inl, inr, ⊎-elim}
+use mathlib.Core.Bool.{Bool, true, false, not, _&&_}
+use mathlib.Core.List.{List, [], _∷_, _++_}
+use lib.Dec.{T, leb, eqb}
+use lib.Ieee.{binary64, nanBits}
+use lib.Ieee.Bits.{nanBits-above}
+use lib.ListN.{length}
+use borrow.Author.Tests.{leb-true, eqb-true, eqb-false, not-true, ltb-true, le-ltb, le-leb, lt-leb}
+use Rattle.kernel.specs.Answer.{Outcome, refused, answered, ask}
+use Rattle.tracks.specs.Format.{fields, mapBytes, stands, word, finite, spare}
+use Rattle.tracks.specs.Read.{Item, stored, storedIf, field, items, track, tracks, count, dimension, countMet, dimensionMet, whole, contents, fitting, reading}
+use Rattle.tracks.specs.Calls.{ends, readAnswer}
+use Rattle.tracks.specs.declared.format.ReadList.the-variants as ReadList
+use Rattle.tracks.specs.declared.format.Checked.{Checked}
+use Rattle.tracks.specs.declared.format.Checked.the-variants.{End, Refused}
+use Rattle.tracks.proofs.Items.{ended, stopped, answered-inj, ask-met, items-ind, items-length}
+
+-- a stored field: it is all there, finite, and not all zero bits
+pub record Stored (l : List ℕ) (at : ℕ) (x : Item ℕ) : Type 0 where
+  pub there : at + 8 ≤ length l
+  pub finite : finite (word l at) ≡ true
+  pub nonzero : eqb (word l at) 0 ≡ false
+  pub value : x .value ≡ word l at
+  pub next : x .next ≡ at + 8
+
+pub stored-met : (l : List ℕ) (at : ℕ) {x : Item ℕ} → stored l at ≡ answered x → Stored l at x
+unfolding stored
+stored-met l at e =
+    let a = ask-met 12 (leb (at + 8) (length l)) _ e in
+    let b = ask-met 14 (finite (word l at)) _ (a .1) in
+    let d = ask-met 15 (not (eqb (word l at) 0)) _ (b .1) in
+    record { there = leb-true _ _ (a .0); finite = b .0; nonzero = not-true _ (d .0); value = cc; next = cc }
+
+-- a field stands and is stored, or is left out
+pub field-met : (l : List ℕ) (map k at : ℕ) {x : Item ℕ} → field l map k at ≡ answered x
+    → ((stands l map k ≡ true) × Stored l at x) ⊎ ((stands l map k ≡ false) × (x ≡ record { value = 0; next = at }))
+unfolding field
+field-met l map k at {x} e = split (stands l map k) refl e
+  where
+    split : (b : Bool) → stands l map k ≡ b → storedIf b l at ≡ answered x → ((stands l map k ≡ true) × Stored l at x) ⊎ ((stands l map k ≡ false) × (x ≡ record { value = 0; next = at }))
+    split true p q = inl (p, stored-met l at q)
+    split false p q = inr (p, cc)
+
+-- an accepted field ends within the list
+next-within : (l : List ℕ) (map k at : ℕ) (x : Item ℕ) → at ≤ length l → field l map k at ≡ answered x → (at ≤ x .next) × (x .next ≤ length l)
+next-within l map k at x h p =
+    ⊎-elim
+    (λ (s : (stands l map k ≡ true) × Stored l at x). omega (arith, s .1 .there, s .1 .next))
+    (λ (s : (stands l map k ≡ false) × (x ≡ record { value = 0; next = at })). omega (arith, ap (λ (y : Item ℕ). y .next) (s .1)))
+    (field-met l map k at p)
+
+pub field-within : (l : List ℕ) (map k at : ℕ) {e : ℕ} → at ≤ length l → ends (field l map k at) ≡ End e → e ≤ length l
+field-within l map k at {e} h p = let a = ended (field l map k at) e p in omega (arith, next-within l map k at (a .0) h (a .1), a .2)
+
+-- accepted fields end within the list
+pub fields-within : (l : List ℕ) (map base : ℕ) → base ≤ length l → (n : ℕ) (ys : Item (List ℕ)) → items (field l map) base n ≡ answered ys → (base ≤ ys .next) × (ys .next ≤ length l)
+fields-within l map base h =
+    items-ind (field l map) base (λ n ys. (base ≤ ys .next) × (ys .next ≤ length l)) (omega arith, h)
+    (λ k xs x p e. omega (arith, next-within l map k (xs .next) x (p .1) e))
+
+-- an accepted track: its map is all there, its spare bits are 0, and its fields are accepted
+pub record Track (l : List ℕ) (f at : ℕ) (ys : Item (List ℕ)) : Type 0 where
+  pub there : at + mapBytes f ≤ length l
+  pub spare : spare l f at ≡ true
+  pub fields : items (field l at) (at + mapBytes f) f ≡ answered ys
+  pub long : length (ys .value) ≡ f
+  pub from : at + mapBytes f ≤ ys .next
+  pub within : ys .next ≤ length l
+
+pub track-met : (l : List ℕ) (f at : ℕ) (ys : Item (List ℕ)) → track l f at ≡ answered ys → Track l f at ys
+unfolding track
+track-met l f at ys e =
+    let a = ask-met 12 (leb (at + mapBytes f) (length l)) _ e in
+    let b = ask-met 13 (spare l f at) _ (a .1) in
+    let h : at + mapBytes f ≤ length l = leb-true _ _ (a .0) in
+    let w = fields-within l at (at + mapBytes f) h f ys (b .1) in
+    record { there = h; spare = b .0; fields = b .1; long = items-length (field l at) (at + mapBytes f) f ys (b .1); from = w .0; within = w .1 }
+
+pub track-within : (l : List ℕ) (f at : ℕ) {e : ℕ} → ends (track l f at) ≡ End e → e ≤ length l
+track-within l f at {e} p = let a = ended (track l f at) e p in omega (arith, track-met l f at (a .0) (a .1) .within, a .2)
+
+-- which of the two an accepted field is, by its bit
+pub field-stored : (l : List ℕ) (map k at : ℕ) {x : Item ℕ} → stands l map k ≡ true → field l map k at ≡ answered x → Stored l at x
+unfolding field
+field-stored l map k at b e = stored-met l at (rw b at e)
+
+pub field-absent : (l : List ℕ) (map k at : ℕ) {x : Item ℕ} → stands l map k ≡ false → field l map k at ≡ answered x → x ≡ record { value = 0; next = at }
+unfolding field
+field-absent l map k at b e = sym (answered-inj (rw b at e))
+
+-- a finite double is no NaN
+pub finite-no-nan : (b : ℕ) → finite b ≡ true → T (not (nanBits binary64 b))
+finite-no-nan b h = rw (nanBits-above binary64 b ∙ le-ltb (2047 * 2 ^ 52) (b % 2 ^ 63) (omega (arith, ltb-true (b % 2 ^ 63) (2047 * 2 ^ 52) h))) tt
+
+-- a list whose first two bytes are accepted, by its tracks
+pub contents-head : (l : List ℕ) → 2 ≤ length l → countMet (count l) ≡ true → dimensionMet (dimension l) ≡ true → contents l ≡ whole (length l) (tracks l (fields (dimension l)) (count l))
+unfolding contents
+contents-head l h n d = simp (le-leb 2 (length l) h, n, d)
+
+-- a dimension that is accepted is at most 9
+pub dimension-small : (d : ℕ) → dimensionMet d ≡ true → d ≤ 9
+dimension-small d h = leb-true d 9 (and-right (leb 1 d) (leb d 9) h)
+  where
+    and-right : (a b : Bool) → a && b ≡ true → b ≡ true
+    and-right true b e = e
+    and-right false b e = let z : _≡_ {A = ℕ} 0 1 = cc in absurd (omega arith)
+
+-- question 16, after tracks that end, and after a refusal
+pub whole-ended : (l : List ℕ) (n : ℕ) (o : Outcome (Item (List (List ℕ)))) {e : ℕ} → ends o ≡ End e → (b : Bool) → eqb e n ≡ b → readAnswer l (whole n o) ≡ readAnswer l (ask 16 b (answered []))
+unfolding whole
+whole-ended l n (refused q) p b e = let z : _≡_ {A = ℕ} 0 1 = cc in absurd (omega arith)
+whole-ended l n (answered x) {e = k} p b e = let s : x .next ≡ k = cc in rw (ap (λ (i : ℕ). eqb i n) s ∙ e) (by b)
+  where
+    by : (b : Bool) → readAnswer l (ask 16 b (answered (x .value))) ≡ readAnswer l (ask 16 b (answered []))
+    by true = refl
+    by false = refl
+
+pub whole-stopped : (l : List ℕ) (n : ℕ) (o : Outcome (Item (List (List ℕ)))) {q : ℕ} → ends o ≡ Refused q → readAnswer l (whole n o) ≡ ReadList.Refused q
+unfolding whole
+whole-stopped l n o {q} p = rw (stopped o q p) refl
+
+-- an accepted list
+pub record Whole (l : List ℕ) (ts : List (List ℕ)) : Type 0 where
+  pub two : 2 ≤ length l
+  pub few : countMet (count l) ≡ true
+  pub sized : dimensionMet (dimension l) ≡ true
+  pub read : tracks l (fields (dimension l)) (count l) ≡ answered (record { value = ts; next = length l })
+
+pub contents-met : (l : List ℕ) {ts : List (List ℕ)} → contents l ≡ answered ts → Whole l ts
+unfolding contents whole
+contents-met l {ts} e =
+    let a = ask-met 9 (leb 2 (length l)) _ e in
+    let b = ask-met 10 (countMet (count l)) _ (a .1) in
+    let d = ask-met 11 (dimensionMet (dimension l)) _ (b .1) in
+    record { two = leb-true _ _ (a .0); few = b .0; sized = d .0; read = last _ (d .1) }
+  where
+    last : (o : Outcome (Item (List (List ℕ)))) → whole (length l) o ≡ answered ts → o ≡ answered (record { value = ts; next = length l })
+    last (refused q) e = let z : _≡_ {A = ℕ} 0 1 = cc in absurd (omega arith)
+    last (answered x) e = let a = ask-met 16 (eqb (x .next) (length l)) _ e in let n : x .next ≡ length l = eqb-true _ _ (a .0) in
+        ap (λ (v : List (List ℕ)). answered (record { value = v; next = x .next })) (answered-inj (a .1)) ∙ ap (λ (k : ℕ). answered (record { value = ts; next = k })) n
+
+-- a list is accepted exactly if its answer is its first two bytes
+pub read-accepted : (l : List ℕ) {n d : ℕ} (o : Outcome (List (List ℕ))) → readAnswer l o ≡ ReadList.Read n d → (ts : List (List ℕ)) × (o ≡ answered ts) × (n ≡ count l) × (d ≡ dimension l)
+read-accepted l (refused q) e = let z : _≡_ {A = ℕ} 0 1 = cc in absurd (omega arith)
+read-accepted l (answered ts) e = (ts, refl, cc, cc)
+
+pub read-refused : (l : List ℕ) {q : ℕ} (o : Outcome (List (List ℕ))) → readAnswer l o ≡ ReadList.Refused q → o ≡ refused q
+read-refused l (refused q) e = cc
+read-refused l (answered ts) e = let z : _≡_ {A = ℕ} 0 1 = cc in absurd (omega arith)
+
+-- question 2 after the others
+pub reading-fits : (l : List ℕ) (room : ℕ) {ts : List (List ℕ)} → contents l ≡ answered ts → count l * fields (dimension l) ≤ room → reading l room ≡ answered ts
+unfolding reading fitting
+reading-fits l room e h = rw e (simp (le-leb (count l * fields (dimension l)) room h))
+
+pub reading-short : (l : List ℕ) (room : ℕ) {ts : List (List ℕ)} → contents l ≡ answered ts → room < count l * fields (dimension l) → reading l room ≡ refused 2
+unfolding reading fitting
+reading-short l room e h = rw e (simp (lt-leb (count l * fields (dimension l)) room h))
+
+pub reading-refused : (l : List ℕ) (room : ℕ) {q : ℕ} → contents l ≡ refused q → reading l room ≡ refused q
+unfolding reading fitting
+reading-refused l room e = rw e refl

@@ -1,0 +1,106 @@
+-- Laws of numbers and their bytes, and of a byte and its bits, both ways.
+use Prim.Native.Nat.{ℕ, zero, suc, _+_, _-_, _*_, _/_, _%_, _^_, _<_, _≤_}
+use native.Mathlib.Omega.{arith}
+use native.Mathlib.Nat.{pow-suc, pow-succ', div-lt-iff-lt-mul, mod-lt, mod-eq-of-lt, div-eq-of-lt, add-mul-div-right, mul-comm, mul-assoc, eq-or-lt-of-le, le-of-suc-le-suc}
+use mathlib.Core.Logic.{⊎-elim}
+use lib.Arith.{mod-mul}
+use lib.Pow.{pow-add, pow-pos}
+use mathlib.Core.Path.{_≡_, refl, sym, ap, _∙_, subst}
+use mathlib.Core.Bool.{Bool, true, false, cond}
+use mathlib.Core.List.{List, [], _∷_}
+use borrow.Author.Tests.{eqb-true, eqb-false, eq-eqb, ne-eqb}
+use lib.Dec.{eqb}
+use lib.ListN.{length}
+use Rattle.tracks.specs.Format.{Bytes, number, bytes}
+use Rattle.tracks.specs.Write.{packed}
+use Rattle.tracks.proofs.Written.{packed-lt}
+
+-- ---- numbers
+
+-- bytes are the bytes of their number
+pub bytes-number : (s : List ℕ) → Bytes s → bytes (length s) (number s) ≡ s
+unfolding bytes number
+bytes-number [] h = refl
+bytes-number (b ∷ s) h =
+    let small : b < 256 = h 0 in
+    let low : (b + 256 * number s) % 256 ≡ b = omega arith in
+    let high : (b + 256 * number s) / 256 ≡ number s = omega arith in
+    rw (low, high, bytes-number s (λ i. h (suc i))) refl
+
+-- a number that fits its bytes is theirs
+pub number-bytes : (n x : ℕ) → x < 256 ^ n → number (bytes n x) ≡ x
+unfolding bytes number
+number-bytes zero x h = omega arith
+number-bytes (suc n) x h = omega (arith, number-bytes n (x / 256) (div-lt-iff-lt-mul (omega arith) .1 (rw (pow-suc 256 n) at h)))
+
+-- ---- bits
+
+-- a test as a bit
+abbrev bit : Bool → ℕ
+bit b = cond b 1 0
+
+bit-small : (b : Bool) → bit b ≤ 1
+bit-small true = omega arith
+bit-small false = omega arith
+
+weighed : (b : Bool) (w : ℕ) → cond b w 0 ≡ bit b * w
+weighed true w = omega arith
+weighed false w = omega arith
+
+bit-of : (y : ℕ) → bit (eqb (y % 2) 1) ≡ y % 2
+bit-of y = split (eqb (y % 2) 1) refl
+  where
+    split : (b : Bool) → eqb (y % 2) 1 ≡ b → bit b ≡ y % 2
+    split true e = sym (eqb-true (y % 2) 1 e)
+    split false e = let n = eqb-false (y % 2) 1 e in omega (arith, n)
+
+bit-back : (b : Bool) (y : ℕ) → y % 2 ≡ bit b → eqb (y % 2) 1 ≡ b
+bit-back true y e = eq-eqb (y % 2) 1 e
+bit-back false y e = rw e refl
+
+-- a number's low bits, packed, are its low part
+pub packed-bits : (x n : ℕ) → packed (λ i. eqb (x / 2 ^ i % 2) 1) n ≡ x % 2 ^ n
+unfolding packed
+packed-bits x zero = omega arith
+packed-bits x (suc n) =
+    let b = eqb (x / 2 ^ n % 2) 1 in
+    ap (λ (k : ℕ). k + cond b (2 ^ n) 0) (packed-bits x n)
+    ∙ (let w : cond b (2 ^ n) 0 ≡ x / 2 ^ n % 2 * 2 ^ n = weighed b (2 ^ n) ∙ ap (λ (k : ℕ). k * 2 ^ n) (bit-of (x / 2 ^ n)) in
+    omega (arith, w, ap (λ (k : ℕ). x % k) (pow-succ' 2 n), mod-mul x {m = 2} {c = 2 ^ n} (omega arith) (pow-pos n)))
+
+-- a byte is its eight bits
+pub byte-packed : (x : ℕ) → x < 256 → packed (λ i. eqb (x / 2 ^ i % 2) 1) 8 ≡ x
+byte-packed x h = packed-bits x 8 ∙ mod-eq-of-lt h
+
+pub packed-same : (s t : ℕ → Bool) (n : ℕ) → ((i : ℕ) → i < n → s i ≡ t i) → packed s n ≡ packed t n
+unfolding packed
+packed-same s t zero h = refl
+packed-same s t (suc n) h = rw (packed-same s t n (λ i l. h i (omega arith)), h n (omega arith)) refl
+
+-- what is added above a bit does not change it
+above : (p c i m : ℕ) → (p + c * 2 ^ (i + suc m)) / 2 ^ i % 2 ≡ p / 2 ^ i % 2
+above p c i m =
+    let e : c * 2 ^ (i + suc m) ≡ c * 2 ^ m * 2 * 2 ^ i =
+    ap (λ (k : ℕ). c * k) (pow-add 2 i (suc m) ∙ mul-comm (2 ^ i) (2 ^ suc m) ∙ ap (λ (k : ℕ). k * 2 ^ i) (pow-suc 2 m)) ∙ sym (mul-assoc c (2 ^ m * 2) (2 ^ i)) ∙ ap (λ (k : ℕ). k * 2 ^ i) (sym (mul-assoc c (2 ^ m) 2)) in
+    let d : (p + c * 2 ^ m * 2 * 2 ^ i) / 2 ^ i ≡ p / 2 ^ i + c * 2 ^ m * 2 = add-mul-div-right p (c * 2 ^ m * 2) (pow-pos i) in
+    ap (λ (k : ℕ). (p + k) / 2 ^ i % 2) e ∙ ap (λ (k : ℕ). k % 2) d ∙ even (p / 2 ^ i) (c * 2 ^ m)
+  where
+    even : (a k : ℕ) → (a + k * 2) % 2 ≡ a % 2
+    even a k = omega arith
+
+-- a bit of packed tests is the test
+pub packed-bit : (test : ℕ → Bool) (n i : ℕ) → i < n → eqb (packed test n / 2 ^ i % 2) 1 ≡ test i
+unfolding packed
+packed-bit test n i h = bit-back (test i) (packed test n / 2 ^ i) (by n h)
+  where
+    last : (p : ℕ) (b : Bool) (n : ℕ) → p < 2 ^ n → (p + bit b * 2 ^ n) / 2 ^ n % 2 ≡ bit b
+    last p b n h = ap (λ (k : ℕ). k % 2) (add-mul-div-right p (bit b) (pow-pos n) ∙ ap (λ (k : ℕ). k + bit b) (div-eq-of-lt h)) ∙ (let s = bit-small b in omega arith)
+
+    by : (n : ℕ) → i < n → packed test n / 2 ^ i % 2 ≡ bit (test i)
+    by zero h = absurd (omega arith)
+    by (suc n) h =
+        ap (λ (k : ℕ). (packed test n + k) / 2 ^ i % 2) (weighed (test n) (2 ^ n))
+        ∙ ⊎-elim
+        (λ (e : i ≡ n). ap (λ (k : ℕ). (packed test n + bit (test n) * 2 ^ n) / 2 ^ k % 2) e ∙ last (packed test n) (test n) n (packed-lt test n) ∙ ap (λ (k : ℕ). bit (test k)) (sym e))
+        (λ (l : i < n). let m : i + suc (n - suc i) ≡ n = omega arith in ap (λ (k : ℕ). (packed test n + bit (test n) * 2 ^ k) / 2 ^ i % 2) (sym m) ∙ above (packed test n) (bit (test n)) i (n - suc i) ∙ by n l)
+        (eq-or-lt-of-le (le-of-suc-le-suc h))

@@ -1,0 +1,127 @@
+-- Laws of items that are read one after another: each step of a loop over them, its way out, and what an accepted run says of its steps.
+use Prim.Native.Nat.{ℕ, zero, suc, _+_, _-_, _<_, _≤_}
+use native.Mathlib.Omega.{arith}
+use native.Mathlib.Nat.{add-zero, add-suc, eq-or-lt-of-le}
+use mathlib.Core.Logic.{⊎-elim}
+use native.Mathlib.Numerals.{add-one}
+use mathlib.Core.Path.{_≡_, refl, sym, ap, _∙_, subst}
+use mathlib.Core.Bool.{Bool, true, false}
+use mathlib.Core.List.{List, [], _∷_, _++_}
+use lib.ListN.{length, getD, length-append, List·getD-append}
+use lib.Seq.{getD-at}
+use Rattle.kernel.specs.Answer.{Outcome, refused, answered, ask}
+use Rattle.tracks.specs.Read.{Item, oneMore, followed, items}
+use Rattle.tracks.specs.Calls.{ends}
+use Rattle.tracks.specs.declared.format.Checked.{Checked}
+use Rattle.tracks.specs.declared.format.Checked.the-variants.{End, Refused}
+
+-- an item that ends is read
+pub ended : {A : Type 0} (o : Outcome (Item A)) (e : ℕ) → ends o ≡ End e → (x : Item A) × (o ≡ answered x) × (x .next ≡ e)
+ended (refused q) e p = let z : _≡_ {A = ℕ} 0 1 = cc in absurd (omega arith)
+ended (answered x) e p = (x, refl, cc)
+
+-- one that is refused carries its number
+pub stopped : {A : Type 0} (o : Outcome (Item A)) (q : ℕ) → ends o ≡ Refused q → o ≡ refused q
+stopped (refused n) q p = cc
+stopped (answered x) q p = let z : _≡_ {A = ℕ} 0 1 = cc in absurd (omega arith)
+
+pub answered-inj : {A : Type 0} {x y : A} → answered x ≡ answered y → x ≡ y
+answered-inj e = cc
+
+-- a question that was met
+pub ask-met : {A : Type 0} (q : ℕ) (b : Bool) (o : Outcome A) {x : A} → ask q b o ≡ answered x → (b ≡ true) × (o ≡ answered x)
+ask-met q true o e = (refl, e)
+ask-met q false o e = let z : _≡_ {A = ℕ} 0 1 = cc in absurd (omega arith)
+
+-- the items so far, and one more
+abbrev pub push : {A : Type 0} → Item (List A) → Item A → Item (List A)
+push xs x = record { value = xs .value ++ (x .value ∷ []); next = x .next }
+
+module _ {A : Type 0} (read : ℕ → ℕ → Outcome (Item A)) (start : ℕ) where
+  pub items-more : (k : ℕ) (xs : Item (List A)) (x : Item A) → items read start k ≡ answered xs → read k (xs .next) ≡ answered x → items read start (k + 1) ≡ answered (push xs x)
+  unfolding items followed oneMore
+  items-more k xs x p q = rw (add-one, p, q) refl
+
+  stays : (m i q : ℕ) → items read start m ≡ refused q → items read start (m + i) ≡ refused q
+  unfolding items followed
+  stays m zero q p = rw add-zero p
+  stays m (suc i) q p = rw (add-suc, stays m i q p) refl
+
+  pub items-stop : (k n q : ℕ) (xs : Item (List A)) → k < n → items read start k ≡ answered xs → read k (xs .next) ≡ refused q → items read start n ≡ refused q
+  unfolding items followed oneMore
+  items-stop k n q xs h p r =
+      let m : suc k + (n - suc k) ≡ n = omega arith in
+      let s : items read start (suc k) ≡ refused q = rw (p, r) refl in
+      subst (λ (i : ℕ). items read start i ≡ refused q) m (stays (suc k) (n - suc k) q s)
+
+  -- the loop that checks: one more item, and the first that is refused
+  pub ends-more : (k : ℕ) {at next : ℕ} → ends (items read start k) ≡ End at → ends (read k at) ≡ End next → ends (items read start (k + 1)) ≡ End next
+  ends-more k {at} {next} p q =
+      let a = ended (items read start k) at p in
+      let b = ended (read k at) next q in
+      rw (items-more k (a .0) (b .0) (a .1) (ap (read k) (a .2) ∙ b .1)) (ap End (b .2))
+
+  pub ends-stop : (k n : ℕ) {at q : ℕ} → k < n → ends (items read start k) ≡ End at → ends (read k at) ≡ Refused q → ends (items read start n) ≡ Refused q
+  ends-stop k n {at} {q} h p r =
+      let a = ended (items read start k) at p in
+      rw (items-stop k n q (a .0) h (a .1) (ap (read k) (a .2) ∙ stopped (read k at) q r)) refl
+
+  -- an accepted run: what was read before item k, and item k
+  pub items-back : (k n : ℕ) (ys : Item (List A)) → k < n → items read start n ≡ answered ys
+      → (xs : Item (List A)) × (x : Item A) × (items read start k ≡ answered xs) × (read k (xs .next) ≡ answered x)
+  items-back k n ys h e = split (items read start k) refl
+    where
+      one : (xs : Item (List A)) (o : Outcome (Item A)) → items read start k ≡ answered xs → read k (xs .next) ≡ o → (xs : Item (List A)) × (x : Item A) × (items read start k ≡ answered xs) × (read k (xs .next) ≡ answered x)
+      one xs (answered x) p q = (xs, x, p, q)
+      one xs (refused r) p q = let z : answered ys ≡ refused r = sym e ∙ items-stop k n r xs h p q in let y : _≡_ {A = ℕ} 0 1 = cc in absurd (omega arith)
+
+      split : (o : Outcome (Item (List A))) → items read start k ≡ o → (xs : Item (List A)) × (x : Item A) × (items read start k ≡ answered xs) × (read k (xs .next) ≡ answered x)
+      split (answered xs) p = one xs (read k (xs .next)) p refl
+      split (refused r) p =
+          let m : k + (n - k) ≡ n = omega arith in
+          let z : answered ys ≡ refused r = sym e ∙ subst (λ (i : ℕ). items read start i ≡ refused r) m (stays k (n - k) r p) in
+          let y : _≡_ {A = ℕ} 0 1 = cc in absurd (omega arith)
+
+  -- the next item of an accepted run
+  pub items-at : (k n : ℕ) (xs ys : Item (List A)) → k < n → items read start n ≡ answered ys → items read start k ≡ answered xs → (x : Item A) × (read k (xs .next) ≡ answered x)
+  items-at k n xs ys h e p =
+      let b = items-back k n ys h e in
+      (b .1, ap (λ (y : Item (List A)). read k (y .next)) (answered-inj (sym p ∙ b .2)) ∙ b .3)
+
+  -- what holds of no item, and with each accepted item of one more, holds of an accepted run
+  pub items-ind : (P : ℕ → Item (List A) → Type 0) → P 0 (record { value = []; next = start })
+      → ((k : ℕ) (xs : Item (List A)) (x : Item A) → P k xs → read k (xs .next) ≡ answered x → P (k + 1) (push xs x))
+      → (n : ℕ) (ys : Item (List A)) → items read start n ≡ answered ys → P n ys
+  unfolding items followed oneMore
+  items-ind P none more zero ys e = subst (P 0) (answered-inj e) none
+  items-ind P none more (suc n) ys e =
+      let b = items-back n (suc n) ys (omega arith) e in
+      let q : push (b .0) (b .1) ≡ ys = answered-inj (sym (items-more n (b .0) (b .1) (b .2) (b .3)) ∙ rw add-one e) in
+      subst (λ (i : ℕ). P i ys) (add-one n) (subst (P (n + 1)) q (more n (b .0) (b .1) (items-ind P none more n (b .0) (b .2)) (b .3)))
+
+  pub items-length : (n : ℕ) (ys : Item (List A)) → items read start n ≡ answered ys → length (ys .value) ≡ n
+  items-length = items-ind (λ n ys. length (ys .value) ≡ n) refl (λ k xs x p e. length-append (xs .value) (x .value ∷ []) ∙ ap (λ (i : ℕ). i + 1) p)
+
+  -- item j of an accepted run
+  abbrev Run : A → ℕ → Item (List A) → Type 0
+  Run d n ys =
+      (items read start n ≡ answered ys)
+      × ((j : ℕ) → j < n → (xs : Item (List A)) (x : Item A) → items read start j ≡ answered xs → read j (xs .next) ≡ answered x → getD (ys .value) j d ≡ x .value)
+
+  run : (d : A) (n : ℕ) (ys : Item (List A)) → items read start n ≡ answered ys → Run d n ys
+  unfolding items
+  run d =
+      items-ind (Run d) (refl, λ j lt xs x p q. absurd (omega arith)) (λ k ys y r e. (
+        items-more k ys y (r .0) e,
+        λ j lt xs x p q.
+            ⊎-elim
+            (λ (s : j ≡ k).
+            let same : xs ≡ ys = answered-inj (sym p ∙ ap (items read start) s ∙ r .0) in
+            let v : x ≡ y = answered-inj (sym q ∙ ap (λ (i : ℕ). read i (xs .next)) s ∙ ap (λ (z : Item (List A)). read k (z .next)) same ∙ e) in
+            getD-at (ys .value) (y .value) [] d j (items-length k ys (r .0) ∙ sym s) ∙ sym (ap (λ (z : Item A). z .value) v))
+            (λ (s : j < k). List·getD-append (ys .value) (y .value ∷ []) d j (omega (arith, items-length k ys (r .0))) ∙ r .1 j s xs x p q)
+            (eq-or-lt-of-le (omega arith)),
+      ))
+
+  pub items-get : (d : A) (n : ℕ) (ys : Item (List A)) → items read start n ≡ answered ys → (j : ℕ) → j < n → (xs : Item (List A)) (x : Item A) → items read start j ≡ answered xs → read j (xs .next) ≡ answered x → getD (ys .value) j d ≡ x .value
+  items-get d n ys e = run d n ys e .1

@@ -1,0 +1,13 @@
+pub mod Items
+pub mod Bytes
+pub mod Accepted
+pub mod Over
+pub mod Lists
+pub mod Written
+pub mod Stream
+pub mod Bits
+pub mod Track
+pub mod Values
+pub mod Records
+pub mod RoundTrip
+pub mod RecordParts

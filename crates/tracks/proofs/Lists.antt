@@ -1,0 +1,89 @@
+-- Laws of lists one after another, of lists made by a rule, and of their places.
+use Prim.Native.Nat.{ℕ, zero, suc, _+_, _-_, _*_, _<_, _≤_}
+use native.Mathlib.Omega.{arith}
+use native.Mathlib.Nat.{mul-le-mul-right, suc-mul, eq-or-lt-of-le, le-of-suc-le-suc, add-zero, le-refl}
+use mathlib.Core.Logic.{⊎-elim}
+use native.Mathlib.Numerals.{add-one}
+use mathlib.Core.Path.{_≡_, refl, sym, ap, _∙_, subst}
+use mathlib.Core.List.{List, [], _∷_, _++_, map, flatMap, append-assoc, append-nil}
+use lib.ListN.{length, getD, take, drop, length-append, List·getD-append}
+use lib.Seq.{take-suc, getD-at}
+use Rattle.tracks.specs.Write.{tabulate}
+use Rattle.tracks.specs.Calls.{joined}
+
+-- the places of one list after j of n lists of f elements
+pub row : (n f j : ℕ) → j < n → j * f + f ≤ n * f
+row n f j h = omega (arith, mul-le-mul-right f h, suc-mul j f)
+
+-- the place after one list more
+pub row-next : (f j : ℕ) → j * f + f ≡ (j + 1) * f
+row-next f j = sym (ap (λ (k : ℕ). k * f) (add-one j) ∙ suc-mul j f)
+
+-- what is made of one more element
+pub flatMap-append : {A B : Type 0} (g : A → List B) (us vs : List A) → flatMap g (us ++ vs) ≡ flatMap g us ++ flatMap g vs
+unfolding flatMap
+flatMap-append g [] vs = refl
+flatMap-append g (u ∷ us) vs = rw (flatMap-append g us vs) (sym (append-assoc (g u) (flatMap g us) (flatMap g vs)))
+
+pub flatMap-more : {A B : Type 0} (g : A → List B) (us : List A) (v : A) → flatMap g (us ++ (v ∷ [])) ≡ flatMap g us ++ g v
+unfolding flatMap
+flatMap-more g us v = rw (flatMap-append g us (v ∷ []), append-nil (g v)) refl
+
+pub joined-more : {A : Type 0} (vs : List (List A)) (v : List A) → joined (vs ++ (v ∷ [])) ≡ joined vs ++ v
+unfolding joined
+joined-more vs v = flatMap-more (λ v. v) vs v
+
+-- an index within a list needs no default
+pub getD-any : {A : Type 0} (l : List A) (i : ℕ) (d e : A) → i < length l → getD l i d ≡ getD l i e
+getD-any [] i d e h = absurd (omega arith)
+getD-any (x ∷ l) zero d e h = refl
+getD-any (x ∷ l) (suc i) d e h = getD-any l i d e (le-of-suc-le-suc h)
+
+-- one element more of a list
+pub take-more : (l : List ℕ) (i : ℕ) → i < length l → take (i + 1) l ≡ take i l ++ (getD l i 0 ∷ [])
+take-more l i h = rw (add-one, take-suc l i 0) refl
+
+pub length-tabulate : {A : Type 0} (n : ℕ) (g : ℕ → A) → length (tabulate n g) ≡ n
+unfolding tabulate
+length-tabulate zero g = refl
+length-tabulate (suc n) g = omega (arith, length-append (tabulate n g) (g n ∷ []), length-tabulate n g)
+
+pub tabulate-more : {A : Type 0} (n : ℕ) (g : ℕ → A) → tabulate (n + 1) g ≡ tabulate n g ++ (g n ∷ [])
+unfolding tabulate
+tabulate-more n g = rw add-one refl
+
+-- what is made of the first elements of a rule is no longer than what is made of more of them
+pub flatMap-part : {A B : Type 0} (g : A → List B) (h : ℕ → A) (j n : ℕ) → j ≤ n → length (flatMap g (tabulate j h)) ≤ length (flatMap g (tabulate n h))
+flatMap-part g h j n le = let e : j + (n - j) ≡ n = omega arith in subst (λ (k : ℕ). length (flatMap g (tabulate j h)) ≤ length (flatMap g (tabulate k h))) e (grows (n - j))
+  where
+    grows : (i : ℕ) → length (flatMap g (tabulate j h)) ≤ length (flatMap g (tabulate (j + i) h))
+    grows zero = rw add-zero (le-refl _)
+    grows (suc i) =
+        let e : j + suc i ≡ j + i + 1 = omega arith in
+        omega (arith, grows i, ap (λ (k : ℕ). length (flatMap g (tabulate k h))) e, ap (λ u. length (flatMap g u)) (tabulate-more (j + i) h), ap length (flatMap-more g (tabulate (j + i) h) (h (j + i))), length-append (flatMap g (tabulate (j + i) h)) (g (h (j + i))))
+
+pub map-take : {A B : Type 0} (g : A → B) (n : ℕ) (l : List A) → map g (take n l) ≡ take n (map g l)
+map-take g zero l = refl
+map-take g (suc n) [] = refl
+map-take g (suc n) (x ∷ l) = rw (map-take g n l) refl
+
+pub map-drop : {A B : Type 0} (g : A → B) (n : ℕ) (l : List A) → map g (drop n l) ≡ drop n (map g l)
+map-drop g zero l = refl
+map-drop g (suc n) [] = refl
+map-drop g (suc n) (x ∷ l) = map-drop g n l
+
+pub getD-tabulate : {A : Type 0} (n : ℕ) (g : ℕ → A) (d : A) (i : ℕ) → i < n → getD (tabulate n g) i d ≡ g i
+unfolding tabulate
+getD-tabulate zero g d i h = absurd (omega arith)
+getD-tabulate (suc n) g d i h =
+    ⊎-elim
+    (λ (e : i ≡ n). ap (λ (k : ℕ). getD (tabulate n g ++ (g n ∷ [])) k d) e ∙ getD-at (tabulate n g) (g n) [] d n (length-tabulate n g) ∙ ap g (sym e))
+    (λ (l : i < n). List·getD-append (tabulate n g) (g n ∷ []) d i (omega (arith, length-tabulate n g)) ∙ getD-tabulate n g d i l)
+    (eq-or-lt-of-le (le-of-suc-le-suc h))
+
+-- an element of a list with one more at its end
+pub getD-more : {A : Type 0} (P : A → Type 0) (d : A) (l : List A) (x : A) → P d → ((i : ℕ) → P (getD l i d)) → P x → (i : ℕ) → P (getD (l ++ (x ∷ [])) i d)
+getD-more P d [] x n h p zero = p
+getD-more P d [] x n h p (suc i) = n
+getD-more P d (y ∷ l) x n h p zero = h 0
+getD-more P d (y ∷ l) x n h p (suc i) = getD-more P d l x n (λ j. h (suc j)) p i

@@ -1,0 +1,145 @@
+-- The return trip, both ways: what is read is written as the same bytes, and what is written is read as the same values.
+use Prim.Native.Nat.{ℕ, zero, suc, _+_, _-_, _*_, _<_, _≤_}
+use native.Mathlib.Omega.{arith}
+use native.Mathlib.Nat.{eq-or-lt-of-le, zero-mul, suc-mul}
+use mathlib.Core.Path.{_≡_, refl, sym, ap, _∙_, subst}
+use mathlib.Core.Logic.{⊎-elim}
+use mathlib.Core.Bool.{Bool, true, false}
+use mathlib.Core.List.{List, [], _∷_, _++_, flatMap, append-nil}
+use borrow.Author.Tests.{le-leb, leb-true, eq-eqb}
+use lib.ListN.{length, getD, take, drop, length-append, length-drop, List·getD-append}
+use lib.Seq.{take-all, getD-at, length-take-le}
+use lib.Ieee.{Float}
+use Rattle.kernel.specs.Answer.{Outcome, refused, answered}
+use Rattle.tracks.specs.Format.{Bytes, Words, part, fields}
+use Rattle.tracks.specs.Read.{Item, items, track, tracks, count, dimension, countMet, dimensionMet, whole, contents}
+use Rattle.tracks.specs.Write.{tabulate, allFinite, recordOf, recordsOf, listOf, tracksOf, written}
+use Rattle.tracks.specs.Calls.{doubles, patterns, Doubles, joined}
+use Rattle.tracks.proofs.Items.{push, items-ind, items-length}
+use Rattle.tracks.proofs.Accepted.{Whole, contents-met, contents-head}
+use Rattle.tracks.proofs.Lists.{length-tabulate, getD-tabulate, row}
+use Rattle.tracks.proofs.Stream.{Part, read-bytes, bytes-read}
+use Rattle.tracks.proofs.Track.{Fit, track-read, track-of}
+use Rattle.tracks.proofs.Written.{Listed, written-met, length-patterns}
+use Rattle.tracks.proofs.Values.{patterns-doubles, doubles-patterns, patterns-words, all-append, all-take, all-drop, words-append, words-take, words-drop, joined-tracks, tracks-joined}
+
+-- ---- tracks that a list can hold
+
+-- each of them has f finite fields of 64 bits
+abbrev pub Fits : ℕ → List (List ℕ) → Type 0
+Fits f ts = (k : ℕ) → k < length ts → Fit f (getD ts k [])
+
+-- the tracks of an accepted list are such
+pub tracks-fit : (l : List ℕ) → Bytes l → (f n : ℕ) (ys : Item (List (List ℕ))) → tracks l f n ≡ answered ys → Fits f (ys .value)
+unfolding tracks
+tracks-fit l h f =
+    items-ind (λ _. track l f) 2 (λ n ys. Fits f (ys .value)) (λ k lt. absurd (omega arith)) (λ n xs x p e k lt.
+    let r = track-read l f (xs .next) h x e .fields in
+    ⊎-elim
+    (λ (s : k ≡ length (xs .value)). subst (Fit f) (sym (getD-at (xs .value) (x .value) [] [] k (sym s))) (record { long = r .long; finite = r .finite; words = r .words }))
+    (λ (s : k < length (xs .value)). subst (Fit f) (sym (List·getD-append (xs .value) (x .value ∷ []) [] k s)) (p k s))
+    (eq-or-lt-of-le (omega (arith, length-append (xs .value) (x .value ∷ [])))))
+
+-- and the bytes after the first two are their records
+pub tracks-bytes : (l : List ℕ) → Bytes l → 2 ≤ length l → (f n : ℕ) (ys : Item (List (List ℕ))) → tracks l f n ≡ answered ys → Part l 2 (ys .next) (recordsOf (ys .value))
+unfolding tracks recordsOf
+tracks-bytes l h le f n ys e = read-bytes recordOf l (λ _. track l f) 2 (λ k at x s p. track-read l f at h x p .bytes) le n ys e
+
+-- ---- an accepted list is the list of its tracks
+
+two-first : (l : List ℕ) → 2 ≤ length l → l ≡ count l ∷ dimension l ∷ drop 2 l
+two-first [] h = absurd (omega arith)
+two-first (x ∷ []) h = absurd (omega arith)
+two-first (x ∷ y ∷ l) h = refl
+
+pub accepted-length : (l : List ℕ) (ts : List (List ℕ)) → contents l ≡ answered ts → length ts ≡ count l
+unfolding tracks
+accepted-length l ts e = items-length (λ _. track l (fields (dimension l))) 2 (count l) _ (contents-met l e .read)
+
+-- The bytes after the first two, one record after another.
+pub accepted-records : (l : List ℕ) → Bytes l → (ts : List (List ℕ)) → contents l ≡ answered ts → drop 2 l ≡ recordsOf ts
+accepted-records l h ts e =
+    let w = contents-met l e in
+    let p = tracks-bytes l h (w .two) (fields (dimension l)) (count l) _ (w .read) in
+    sym (take-all (length l - 2) (drop 2 l) (omega (arith, length-drop 2 l))) ∙ p .bytes
+
+-- An accepted list is the list of its tracks, byte for byte.
+pub accepted-list : (l : List ℕ) → Bytes l → (ts : List (List ℕ)) → contents l ≡ answered ts → listOf (dimension l) ts ≡ l
+unfolding listOf
+accepted-list l h ts e =
+    let w = contents-met l e in
+    ap (λ (n : ℕ). n ∷ dimension l ∷ recordsOf ts) (accepted-length l ts e) ∙ ap (λ (s : List ℕ). count l ∷ dimension l ∷ s) (sym (accepted-records l h ts e)) ∙ sym (two-first l (w .two))
+
+-- ---- the list of tracks is accepted, with those tracks
+
+pub some-fields : (d : ℕ) → dimensionMet d ≡ true → 0 < fields d
+unfolding fields
+some-fields zero h = let z : _≡_ {A = ℕ} 0 1 = cc in absurd (omega arith)
+some-fields (suc d) h = omega arith
+
+pub list-accepted : (d : ℕ) (ts : List (List ℕ)) → countMet (length ts) ≡ true → dimensionMet d ≡ true → Fits (fields d) ts → contents (listOf d ts) ≡ answered ts
+unfolding listOf recordsOf tracks whole
+list-accepted d ts few sized fit =
+    let l = listOf d ts in
+    let f = fields d in
+    let run : tracks l f (length ts) ≡ answered (record { value = ts; next = 2 + length (recordsOf ts) }) =
+    bytes-read recordOf l (λ _. track l f) 2 [] ts (λ k at rest lt e. track-of l f at (getD ts k []) rest (some-fields d sized) (fit k lt) e) [] (sym (append-nil (recordsOf ts))) in
+    contents-head l (omega arith) few sized ∙ ap (whole (length l)) run ∙ simp (eq-eqb (2 + length (recordsOf ts)) (length l) (omega arith))
+
+-- ---- values of tracks one after another
+
+joined-fit : (f : ℕ) (ts : List (List ℕ)) → Fits f ts → (length (joined ts) ≡ length ts * f) × (allFinite (joined ts) ≡ true) × Words (joined ts)
+unfolding joined flatMap allFinite
+joined-fit f [] h = (sym (zero-mul f), refl, λ i. omega arith)
+joined-fit f (t ∷ ts) h =
+    let a = h 0 (omega arith) in
+    let b = joined-fit f ts (λ k lt. h (suc k) (omega arith)) in
+    (omega (arith, length-append t (joined ts), a .long, b .0, suc-mul (length ts) f), all-append t (joined ts) (a .finite) (b .1), words-append t (joined ts) (a .words) (b .2))
+
+cut-fit : (n f : ℕ) (v : List ℕ) → length v ≡ n * f → allFinite v ≡ true → Words v → Fits f (tracksOf n f v)
+unfolding tracksOf
+cut-fit n f v long fin w k lt =
+    let cut : ℕ → List ℕ = λ j. take f (drop (j * f) v) in
+    let kn : k < n = omega (arith, length-tabulate n cut) in
+    let e : cut k ≡ getD (tabulate n cut) k [] = sym (getD-tabulate n cut [] k kn) in
+    subst (Fit f) e (record {
+      long = length-take-le f (drop (k * f) v) (omega (arith, length-drop (k * f) v, row n f k kn));
+      finite = all-take f (drop (k * f) v) (all-drop (k * f) v fin);
+      words = words-take f (drop (k * f) v) (words-drop (k * f) v w);
+    })
+
+-- ---- the return trip of the two calls
+
+-- What is read is written as the same bytes: the values of an accepted list, written with its count and dimension into any buffer that is long enough, give the list.
+pub read-then-written : (l : List ℕ) → Bytes l → (ts : List (List ℕ)) → contents l ≡ answered ts → (room : ℕ) → length l ≤ room
+    → written (count l) (dimension l) (patterns (doubles (joined ts))) room ≡ answered l
+unfolding written
+read-then-written l h ts e room le =
+    let w = contents-met l e in
+    let d = dimension l in
+    let f = fields d in
+    let fit = tracks-fit l h f (count l) _ (w .read) in
+    let j = joined-fit f ts fit in
+    let n = accepted-length l ts e in
+    let back : tracksOf (count l) f (joined ts) ≡ ts = ap (λ (k : ℕ). tracksOf k f (joined ts)) (sym n) ∙ tracks-joined f ts (λ k lt. fit k lt .long) in
+    let same : listOf d (tracksOf (count l) f (joined ts)) ≡ l = ap (listOf d) back ∙ accepted-list l h ts e in
+    ap (λ (v : List ℕ). written (count l) d v room) (patterns-doubles (joined ts) (j .1) (j .2))
+    ∙ simp (w .few, w .sized, eq-eqb (length (joined ts)) (count l * f) (j .0 ∙ ap (λ (k : ℕ). k * f) n), j .1, le-leb (length (listOf d (tracksOf (count l) f (joined ts)))) room (omega (arith, ap length same)), same)
+
+-- What is written is read as the same values, signs of zero included, with the same count and dimension.
+pub written-then-read : (n d : ℕ) (values : List Float) → Doubles values → (room : ℕ) (l : List ℕ) → written n d (patterns values) room ≡ answered l
+    → (ts : List (List ℕ)) × (contents l ≡ answered ts) × (doubles (joined ts) ≡ values) × (count l ≡ n) × (dimension l ≡ d)
+unfolding listOf tracksOf
+written-then-read n d values h room l e =
+    let v = patterns values in
+    let w = written-met n d v room e in
+    let f = fields d in
+    let ts = tracksOf n f v in
+    let fit = cut-fit n f v (w .long) (w .finite) (patterns-words values h) in
+    let long : length ts ≡ n = length-tabulate n (λ (j : ℕ). take f (drop (j * f) v)) in (
+      ts,
+      ap contents (w .same) ∙ list-accepted d ts (rw long (w .few)) (w .sized) fit,
+      ap doubles (joined-tracks n f v (w .long)) ∙ doubles-patterns values h,
+      ap count (w .same) ∙ long,
+      ap dimension (w .same),
+    )

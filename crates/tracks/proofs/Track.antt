@@ -1,0 +1,211 @@
+-- A track and its bytes: what is read is what its bytes are made of, and the bytes of a track are read as that track.
+use Prim.Native.Nat.{ℕ, zero, suc, _+_, _-_, _*_, _/_, _%_, _^_, _<_, _≤_}
+use native.Mathlib.Omega.{arith}
+use native.Mathlib.Nat.{add-sub-cancel-left, add-zero, eq-or-lt-of-le}
+use native.Mathlib.Numerals.{add-one}
+use native.Mathlib.Decide.{decLt}
+use mathlib.Core.Path.{_≡_, refl, sym, ap, _∙_, subst}
+use mathlib.Core.Logic.{_⊎_, inl, inr, ⊎-elim}
+use mathlib.Core.Bool.{Bool, true, false, not, cond}
+use mathlib.Core.List.{List, [], _∷_, _++_, flatMap, append-assoc}
+use borrow.Author.Tests.{le-leb, eqb-true, eqb-false}
+use lib.Dec.{eqb, leb}
+use lib.ListN.{length, getD, take, drop, length-append, length-drop, List·getD-append, List·getD-eq-default}
+use lib.Seq.{getD-take, getD-drop, getD-at, length-take-le, ext-getD, take-at, drop-drop, drop-at}
+use Rattle.kernel.specs.Answer.{Outcome, refused, answered, ask}
+use Rattle.tracks.specs.Format.{Bytes, Words, part, mapBytes, stands, number, bytes, word, finite, none, spare}
+use Rattle.tracks.specs.Read.{Item, stored, storedIf, field, items, track}
+use Rattle.tracks.specs.Write.{tabulate, nonzero, packed, mapByte, mapOf, fieldBytes, storedBytes, recordOf, allFinite}
+use Rattle.tracks.proofs.Items.{push, items-ind}
+use Rattle.tracks.proofs.Accepted.{Stored, field-met, Track, track-met}
+use Rattle.tracks.proofs.Bytes.{none-each, none-all, bytes-take, bytes-drop, word-lt}
+use Rattle.tracks.proofs.Bits.{bytes-number, number-bytes, byte-packed, packed-same, packed-bit}
+use Rattle.tracks.proofs.Lists.{length-tabulate, getD-tabulate, getD-more}
+use Rattle.tracks.proofs.Written.{all-more, all-at, length-bytes, field-none, field-some, record-length}
+use Rattle.tracks.proofs.Stream.{Part, parts-join, read-bytes, bytes-read}
+
+-- ---- what is read is what the bytes are made of
+
+-- eight bytes are those of their word
+word-bytes : (l : List ℕ) (at : ℕ) → Bytes l → at + 8 ≤ length l → part l at (at + 8) ≡ bytes 8 (word l at)
+unfolding word
+word-bytes l at h le =
+    let s = take 8 (drop at l) in
+    let n : length s ≡ 8 = length-take-le 8 (drop at l) (omega (arith, length-drop at l)) in
+    ap (λ (k : ℕ). take k (drop at l)) (add-sub-cancel-left at 8) ∙ sym (bytes-number s (bytes-take 8 (drop at l) (bytes-drop at l h))) ∙ ap (λ (k : ℕ). bytes k (number s)) n
+
+field-part : (l : List ℕ) (map : ℕ) → Bytes l → (k at : ℕ) (x : Item ℕ) → at ≤ length l → field l map k at ≡ answered x → Part l at (x .next) (fieldBytes (x .value))
+field-part l map h k at x le e =
+    ⊎-elim
+    (λ (s : (stands l map k ≡ true) × Stored l at x).
+    let v = s .1 .value in
+    let n = s .1 .next in
+    record {
+      from = omega (arith, n);
+      within = omega (arith, n, s .1 .there);
+      bytes = ap (part l at) n ∙ word-bytes l at h (s .1 .there) ∙ ap (bytes 8) (sym v) ∙ sym (field-some (x .value) (λ z. eqb-false (word l at) 0 (s .1 .nonzero) (sym v ∙ z)));
+    })
+    (λ (s : (stands l map k ≡ false) × (x ≡ record { value = 0; next = at })).
+    let n : x .next ≡ at = ap (λ (y : Item ℕ). y .next) (s .1) in
+    record {
+      from = omega (arith, n);
+      within = omega (arith, n);
+      bytes = (let z : x .next - at ≡ 0 = omega (arith, n) in ap (λ (i : ℕ). take i (drop at l)) z) ∙ sym (field-none (x .value) (ap (λ (y : Item ℕ). y .value) (s .1)));
+    })
+    (field-met l map k at e)
+
+-- what the fields that were read say
+pub record Fields (l : List ℕ) (map k : ℕ) (v : List ℕ) : Type 0 where
+  pub long : length v ≡ k
+  pub finite : allFinite v ≡ true
+  pub words : Words v
+  pub bits : (i : ℕ) → i < k → stands l map i ≡ nonzero (getD v i 0)
+
+-- one field more
+field-more : (l : List ℕ) (map : ℕ) → Bytes l → (k : ℕ) (xs : Item (List ℕ)) (x : Item ℕ) → Fields l map k (xs .value) → field l map k (xs .next) ≡ answered x → Fields l map (k + 1) (push xs x .value)
+field-more l map h k xs x p e =
+    let one : (finite (x .value) ≡ true) × (x .value < 2 ^ 64) × (stands l map k ≡ nonzero (x .value)) = ⊎-elim
+    (λ (s : (stands l map k ≡ true) × Stored l (xs .next) x).
+    let v = s .1 .value in
+    (rw v (s .1 .finite), rw v (word-lt l (xs .next) h (s .1 .there)), s .0 ∙ sym (ap not (ap (λ (y : ℕ). eqb y 0) v ∙ s .1 .nonzero))))
+    (λ (s : (stands l map k ≡ false) × (x ≡ record { value = 0; next = xs .next })).
+    let v : x .value ≡ 0 = ap (λ (y : Item ℕ). y .value) (s .1) in
+    (rw v refl, rw v (omega arith), s .0 ∙ sym (ap nonzero v)))
+    (field-met l map k (xs .next) e) in
+    record {
+      long = length-append (xs .value) (x .value ∷ []) ∙ ap (λ (n : ℕ). n + 1) (p .long);
+      finite = all-more (xs .value) (x .value) (p .finite) (one .0);
+      words = getD-more (λ y. y < 2 ^ 64) 0 (xs .value) (x .value) (omega arith) (p .words) (one .1);
+      bits = λ i le. ⊎-elim
+          (λ (s : i ≡ k). ap (stands l map) s ∙ one .2 ∙ ap nonzero (sym (getD-at (xs .value) (x .value) [] 0 i (p .long ∙ sym s))))
+          (λ (s : i < k). p .bits i s ∙ ap nonzero (sym (List·getD-append (xs .value) (x .value ∷ []) 0 i (rw (p .long) s))))
+          (eq-or-lt-of-le (omega arith));
+    }
+
+fields-read : (l : List ℕ) (map base : ℕ) → Bytes l → (k : ℕ) (ys : Item (List ℕ)) → items (field l map) base k ≡ answered ys → Fields l map k (ys .value)
+unfolding allFinite
+fields-read l map base h =
+    items-ind (field l map) base (λ k ys. Fields l map k (ys .value)) (record { long = refl; finite = refl; words = λ i. omega arith; bits = λ i le. absurd (omega arith) }) (field-more l map h)
+
+-- ---- a map's bits
+
+-- bit i of byte b
+stands-at : (l : List ℕ) (map b i : ℕ) → i < 8 → stands l map (8 * b + i) ≡ eqb (getD l (map + b) 0 / 2 ^ i % 2) 1
+unfolding stands
+stands-at l map b i h =
+    let q : (8 * b + i) / 8 ≡ b = omega arith in
+    let r : (8 * b + i) % 8 ≡ i = omega arith in
+    ap (λ (k : ℕ). eqb (getD l (map + k) 0 / 2 ^ ((8 * b + i) % 8) % 2) 1) q ∙ ap (λ (k : ℕ). eqb (getD l (map + b) 0 / 2 ^ k % 2) 1) r
+
+-- the map's bits are the fields', and 0 past the last
+map-bits : (l : List ℕ) (f at : ℕ) (v : List ℕ) → spare l f at ≡ true → Fields l at f v → (k : ℕ) → k < 8 * mapBytes f → stands l at k ≡ nonzero (getD v k 0)
+unfolding spare
+map-bits l f at v s p k h = split (decLt k f)
+  where
+    split : Dec (k < f) → stands l at k ≡ nonzero (getD v k 0)
+    split (yes le) = p .bits k le
+    split (no no-lt) =
+        let ge : f ≤ k = omega (arith, no-lt) in
+        let e : f + (k - f) ≡ k = omega arith in
+        ap (stands l at) (sym e) ∙ none-each (λ i. stands l at (f + i)) (8 * mapBytes f - f) s (k - f) (omega arith) ∙ ap nonzero (sym (List·getD-eq-default v 0 (omega (arith, p .long))))
+
+map-read : (l : List ℕ) (f at : ℕ) (v : List ℕ) → Bytes l → at + mapBytes f ≤ length l → spare l f at ≡ true → Fields l at f v → Part l at (at + mapBytes f) (mapOf v)
+unfolding mapOf mapByte
+map-read l f at v h le s p =
+    let m = mapBytes f in
+    let n : length (take m (drop at l)) ≡ m = length-take-le m (drop at l) (omega (arith, length-drop at l)) in
+    let w : mapBytes (length v) ≡ m = ap mapBytes (p .long) in
+    record {
+      from = omega arith;
+      within = le;
+      bytes = ap (λ (k : ℕ). take k (drop at l)) (add-sub-cancel-left at m) ∙ ext-getD 0 (take m (drop at l)) (mapOf v) (n ∙ sym (length-tabulate (mapBytes (length v)) (mapByte v) ∙ w)) (λ b lb.
+          let lt : b < m = rw n at lb in
+          getD-take m (drop at l) b 0 lt ∙ getD-drop at l b 0 ∙ sym (byte-packed (getD l (at + b) 0) (h (at + b)))
+          ∙ packed-same _ _ 8 (λ i li. sym (stands-at l at b i li) ∙ map-bits l f at v s p (8 * b + i) (omega arith))
+          ∙ sym (getD-tabulate (mapBytes (length v)) (mapByte v) 0 b (omega (arith, w))));
+    }
+
+-- an accepted track is its record
+pub record Read (l : List ℕ) (f at : ℕ) (ys : Item (List ℕ)) : Type 0 where
+  pub fields : Fields l at f (ys .value)
+  pub bytes : Part l at (ys .next) (recordOf (ys .value))
+
+pub track-read : (l : List ℕ) (f at : ℕ) → Bytes l → (ys : Item (List ℕ)) → track l f at ≡ answered ys → Read l f at ys
+unfolding recordOf storedBytes
+track-read l f at h ys e =
+    let t = track-met l f at ys e in
+    let p = fields-read l at (at + mapBytes f) h f ys (t .fields) in
+    record {
+      fields = p;
+      bytes = parts-join l (map-read l f at (ys .value) h (t .there) (t .spare) p) (read-bytes fieldBytes l (field l at) (at + mapBytes f) (field-part l at h) (t .there) f ys (t .fields));
+    }
+
+-- ---- the bytes of a track are read as that track
+
+-- fields that a list can hold
+pub record Fit (f : ℕ) (v : List ℕ) : Type 0 where
+  pub long : length v ≡ f
+  pub finite : allFinite v ≡ true
+  pub words : Words v
+
+-- a field of which the list has the bytes
+field-of : (l : List ℕ) (map k at x : ℕ) (rest : List ℕ) → stands l map k ≡ nonzero x → finite x ≡ true → x < 2 ^ 64 → drop at l ≡ fieldBytes x ++ rest
+    → field l map k at ≡ answered (record { value = x; next = at + length (fieldBytes x) })
+unfolding field stored word
+field-of l map k at x rest s fin small e = split (eqb x 0) refl
+  where
+    split : (b : Bool) → eqb x 0 ≡ b → field l map k at ≡ answered (record { value = x; next = at + length (fieldBytes x) })
+    split true p =
+        let z : x ≡ 0 = eqb-true x 0 p in
+        let n : at ≡ at + length (fieldBytes x) = omega (arith, ap length (field-none x z)) in
+        ap (λ (c : Bool). storedIf c l at) (s ∙ ap not p) ∙ ap (λ (i : ℕ). answered (record { value = 0; next = i })) n ∙ ap (λ (y : ℕ). answered (record { value = y; next = at + length (fieldBytes x) })) (sym z)
+    split false p =
+        let g : fieldBytes x ≡ bytes 8 x = field-some x (eqb-false x 0 p) in
+        let d : drop at l ≡ bytes 8 x ++ rest = e ∙ ap (λ (u : List ℕ). u ++ rest) g in
+        let w : number (take 8 (drop at l)) ≡ x = ap (λ (u : List ℕ). number (take 8 u)) d ∙ ap number (take-at (bytes 8 x) rest 8 (length-bytes 8 x)) ∙ number-bytes 8 x small in
+        let there : at + 8 ≤ length l = omega (arith, ap length d, length-append (bytes 8 x) rest, length-bytes 8 x, length-drop at l) in
+        let n : at + 8 ≡ at + length (fieldBytes x) = omega (arith, ap length g, length-bytes 8 x) in
+        ap (λ (c : Bool). storedIf c l at) (s ∙ ap not p)
+        ∙ simp (le-leb (at + 8) (length l) there, w, fin, p)
+        (ap (λ (i : ℕ). answered (record { value = x; next = i })) n)
+
+module _ (l : List ℕ) (f at : ℕ) (v rest : List ℕ) (some : 0 < f) (fit : Fit f v) (here : drop at l ≡ recordOf v ++ rest) where
+  -- the map, and what follows it
+  split-map : drop at l ≡ mapOf v ++ (storedBytes v ++ rest)
+  unfolding recordOf
+  split-map = here ∙ append-assoc (mapOf v) (storedBytes v) rest
+
+  map-long : length (mapOf v) ≡ mapBytes f
+  unfolding mapOf
+  map-long = length-tabulate (mapBytes (length v)) (mapByte v) ∙ ap mapBytes (fit .long)
+
+  there : at + mapBytes f ≤ length l
+  there = omega (arith, ap length split-map, length-append (mapOf v) (storedBytes v ++ rest), map-long, length-drop at l)
+
+  record-bits : (k : ℕ) → k < 8 * mapBytes f → stands l at k ≡ nonzero (getD v k 0)
+  unfolding stands mapOf mapByte
+  record-bits k h =
+      let b = k / 8 in
+      let e : 8 * b + k % 8 ≡ k = omega arith in
+      let lt : b < mapBytes f = omega arith in
+      let byte : getD l (at + b) 0 ≡ mapByte v b =
+      sym (getD-drop at l b 0) ∙ ap (λ (u : List ℕ). getD u b 0) split-map ∙ List·getD-append (mapOf v) (storedBytes v ++ rest) 0 b (omega (arith, map-long))
+      ∙ getD-tabulate (mapBytes (length v)) (mapByte v) 0 b (omega (arith, ap mapBytes (fit .long))) in
+      ap (λ (x : ℕ). eqb (x / 2 ^ (k % 8) % 2) 1) byte ∙ packed-bit (λ i. nonzero (getD v (8 * b + i) 0)) 8 (k % 8) (omega arith) ∙ ap (λ (i : ℕ). nonzero (getD v i 0)) e
+
+  spare-zero : spare l f at ≡ true
+  unfolding spare
+  spare-zero = none-all (λ i. stands l at (f + i)) (8 * mapBytes f - f) (λ i h. record-bits (f + i) (omega arith) ∙ ap nonzero (List·getD-eq-default v 0 (omega (arith, fit .long))))
+
+  fields-here : drop (at + mapBytes f) l ≡ storedBytes v ++ rest
+  fields-here = sym (drop-drop (mapBytes f) at l) ∙ ap (drop (mapBytes f)) split-map ∙ drop-at (mapOf v) (storedBytes v ++ rest) (mapBytes f) map-long
+
+  -- the bytes of a track are read as that track
+  pub track-of : track l f at ≡ answered (record { value = v; next = at + length (recordOf v) })
+  unfolding track storedBytes
+  track-of =
+      let run = bytes-read fieldBytes l (field l at) (at + mapBytes f) 0 v
+      (λ k p r h e. field-of l at k p (getD v k 0) r (record-bits k (omega (arith, fit .long))) (all-at v k (fit .finite) h) (fit .words k) e) rest fields-here in
+      let n : at + mapBytes f + length (storedBytes v) ≡ at + length (recordOf v) = omega (arith, record-length v, ap mapBytes (fit .long)) in
+      simp (le-leb (at + mapBytes f) (length l) there, spare-zero)
+      (ap (items (field l at) (at + mapBytes f)) (sym (fit .long)) ∙ run ∙ ap (λ (i : ℕ). answered (record { value = v; next = i })) n)

@@ -1,0 +1,104 @@
+-- Laws of values and their bits, and of tracks and their values one after another.
+use Prim.Native.Nat.{ℕ, zero, suc, _+_, _*_, _^_, _<_, _≤_}
+use native.Mathlib.Omega.{arith}
+use native.Mathlib.Nat.{zero-mul, suc-mul, le-of-suc-le-suc, add-comm}
+use mathlib.Core.Path.{_≡_, refl, sym, ap, _∙_, subst}
+use mathlib.Core.Bool.{Bool, true, false, not, _&&_}
+use mathlib.Core.List.{List, [], _∷_, _++_, flatMap}
+use lib.Dec.{T}
+use lib.ListN.{length, getD, take, drop, length-append, length-drop}
+use lib.Seq.{take-add, take-all, take-at, drop-at, drop-drop, ext-getD, getD-drop}
+use lib.Ieee.{Float, nan, binary64, fits, isNan, nanBits, ofBits, toBits}
+use lib.Ieee.Bits.{ofBits-toBits, toBits-ofBits, toBits-lt, nanBits-is}
+use Rattle.tracks.specs.Format.{Words, finite}
+use Rattle.tracks.specs.Write.{tabulate, allFinite, tracksOf}
+use Rattle.tracks.specs.Calls.{doubles, patterns, Doubles, joined}
+use Rattle.tracks.proofs.Accepted.{finite-no-nan}
+use Rattle.tracks.proofs.Lists.{length-tabulate, getD-tabulate, tabulate-more, joined-more}
+
+-- ---- values and their bits
+
+and-both : (a b : Bool) → a && b ≡ true → (a ≡ true) × (b ≡ true)
+and-both true b e = (refl, e)
+and-both false b e = let z : _≡_ {A = ℕ} 0 1 = cc in absurd (omega arith)
+
+-- the bits of finite doubles come back
+pub patterns-doubles : (v : List ℕ) → allFinite v ≡ true → Words v → patterns (doubles v) ≡ v
+unfolding allFinite
+patterns-doubles [] e w = refl
+patterns-doubles (x ∷ v) e w =
+    let b = and-both (finite x) (allFinite v) e in
+    let n : T (not (isNan (ofBits binary64 x))) = subst (λ (c : Bool). T (not c)) (nanBits-is binary64 x) (finite-no-nan x (b .0)) in
+    rw (toBits-ofBits binary64 x (w 0) n, patterns-doubles v (b .1) (λ i. w (suc i))) refl
+
+-- doubles come back from their bits, signs of zero included
+pub doubles-patterns : (v : List Float) → Doubles v → doubles (patterns v) ≡ v
+doubles-patterns [] h = refl
+doubles-patterns (x ∷ v) h = rw (ofBits-toBits binary64 x (h 0), doubles-patterns v (λ i. h (suc i))) refl
+
+pub patterns-words : (v : List Float) → Doubles v → Words (patterns v)
+patterns-words [] h i = omega arith
+patterns-words (x ∷ v) h zero = toBits-lt binary64 x (h 0)
+patterns-words (x ∷ v) h (suc i) = patterns-words v (λ j. h (suc j)) i
+
+-- ---- parts of values
+
+pub all-append : (u v : List ℕ) → allFinite u ≡ true → allFinite v ≡ true → allFinite (u ++ v) ≡ true
+unfolding allFinite
+all-append [] v p q = q
+all-append (x ∷ u) v p q = let b = and-both (finite x) (allFinite u) p in rw (b .0, all-append u v (b .1) q) refl
+
+pub all-take : (n : ℕ) (v : List ℕ) → allFinite v ≡ true → allFinite (take n v) ≡ true
+unfolding allFinite
+all-take zero v p = refl
+all-take (suc n) [] p = refl
+all-take (suc n) (x ∷ v) p = let b = and-both (finite x) (allFinite v) p in rw (b .0, all-take n v (b .1)) refl
+
+pub all-drop : (n : ℕ) (v : List ℕ) → allFinite v ≡ true → allFinite (drop n v) ≡ true
+unfolding allFinite
+all-drop zero v p = p
+all-drop (suc n) [] p = refl
+all-drop (suc n) (x ∷ v) p = all-drop n v (and-both (finite x) (allFinite v) p .1)
+
+pub words-append : (u v : List ℕ) → Words u → Words v → Words (u ++ v)
+words-append [] v p q i = q i
+words-append (x ∷ u) v p q zero = p 0
+words-append (x ∷ u) v p q (suc i) = words-append u v (λ j. p (suc j)) q i
+
+pub words-take : (n : ℕ) (v : List ℕ) → Words v → Words (take n v)
+words-take zero v p i = omega arith
+words-take (suc n) [] p i = omega arith
+words-take (suc n) (x ∷ v) p zero = p 0
+words-take (suc n) (x ∷ v) p (suc i) = words-take n v (λ j. p (suc j)) i
+
+pub words-drop : (n : ℕ) (v : List ℕ) → Words v → Words (drop n v)
+words-drop n v p i = rw (getD-drop n v i 0) (p (n + i))
+
+-- ---- tracks and their values
+
+-- tracks cut from values, one after another, are the values
+pub joined-tracks : (n f : ℕ) (v : List ℕ) → length v ≡ n * f → joined (tracksOf n f v) ≡ v
+unfolding tracksOf tabulate joined flatMap
+joined-tracks n f v h = first n ∙ take-all (n * f) v (omega arith)
+  where
+    first : (j : ℕ) → joined (tracksOf j f v) ≡ take (j * f) v
+    first zero = rw (zero-mul f) refl
+    first (suc j) =
+        joined-more (tracksOf j f v) (take f (drop (j * f) v)) ∙ ap (λ (u : List ℕ). u ++ take f (drop (j * f) v)) (first j)
+        ∙ sym (ap (λ (k : ℕ). take k v) (suc-mul j f) ∙ take-add (j * f) f v)
+
+cut-at : (f : ℕ) (ts : List (List ℕ)) → ((k : ℕ) → k < length ts → length (getD ts k []) ≡ f) → (k : ℕ) → k < length ts → take f (drop (k * f) (joined ts)) ≡ getD ts k []
+unfolding joined flatMap
+cut-at f [] h k lt = absurd (omega arith)
+cut-at f (t ∷ ts) h zero lt = ap (λ (i : ℕ). take f (drop i (t ++ joined ts))) (zero-mul f) ∙ take-at t (joined ts) f (h 0 lt)
+cut-at f (t ∷ ts) h (suc k) lt =
+    ap (λ (i : ℕ). take f (drop i (t ++ joined ts))) (suc-mul k f ∙ add-comm (k * f) f) ∙ ap (take f) (sym (drop-drop (k * f) f (t ++ joined ts)) ∙ ap (drop (k * f)) (drop-at t (joined ts) f (h 0 (omega arith))))
+    ∙ cut-at f ts (λ i l. h (suc i) (omega arith)) k (le-of-suc-le-suc lt)
+
+-- values of tracks, one after another, are cut into the tracks
+pub tracks-joined : (f : ℕ) (ts : List (List ℕ)) → ((k : ℕ) → k < length ts → length (getD ts k []) ≡ f) → tracksOf (length ts) f (joined ts) ≡ ts
+unfolding tracksOf
+tracks-joined f ts h =
+    ext-getD [] (tracksOf (length ts) f (joined ts)) ts (length-tabulate (length ts) _) (λ k lk.
+    let lt : k < length ts = rw (length-tabulate (length ts) (λ (j : ℕ). take f (drop (j * f) (joined ts)))) at lk in
+    getD-tabulate (length ts) _ [] k lt ∙ cut-at f ts h k lt)

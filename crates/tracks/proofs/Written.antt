@@ -1,0 +1,207 @@
+-- Laws of the bytes of fields and of maps, as a loop writes them.
+use Prim.Native.Nat.{ℕ, zero, suc, _+_, _-_, _*_, _/_, _%_, _^_, _<_, _≤_}
+use native.Mathlib.Omega.{arith}
+use native.Mathlib.Nat.{zero-mul, suc-mul, le-of-suc-le-suc, pow-suc, div-div-eq-div-mul}
+use native.Mathlib.Numerals.{add-one}
+use mathlib.Core.Path.{_≡_, refl, sym, ap, _∙_, subst}
+use mathlib.Core.Bool.{Bool, true, false, not, _&&_, cond}
+use mathlib.Core.List.{List, [], _∷_, _++_, map, flatMap, append-assoc}
+use borrow.Author.Tests.{eq-eqb, ne-eqb, eqb-true, leb-true}
+use lib.Dec.{T, eqb, leb}
+use lib.ListN.{length, getD, take, drop, set, length-append, length-map, take-append-drop, length-drop, List·getD-map}
+use lib.Seq.{sets-eq, take-add, take-all, length-take-le}
+use lib.Ieee.{Float, nan, inf, fin, binary64, toBits, isNan, ne}
+use lib.Ieee.Compare.{differs-from-itself, nan-differs}
+use Rattle.tracks.specs.Format.{fields, mapBytes, bytes, finite}
+use Rattle.tracks.specs.Write.{tabulate, nonzero, packed, mapByte, mapOf, fieldBytes, storedBytes, recordOf, recordsOf, listOf, tracksOf, allFinite, written}
+use Rattle.kernel.specs.Answer.{Outcome, refused, answered, ask}
+use Rattle.tracks.specs.Read.{countMet, dimensionMet}
+use Rattle.tracks.specs.Calls.{over, patterns, writeAnswer}
+use Rattle.tracks.specs.declared.format.WrittenList.the-variants as WrittenList
+use Rattle.tracks.proofs.Items.{answered-inj, ask-met}
+use Rattle.tracks.proofs.Lists.{flatMap-append, flatMap-more, flatMap-part, getD-any, take-more, length-tabulate, tabulate-more, map-take, map-drop}
+
+-- ---- the bits of values
+
+pub length-patterns : (v : List Float) → length (patterns v) ≡ length v
+length-patterns v = length-map v (toBits binary64)
+
+pub pattern-at : (v : List Float) (i : ℕ) → i < length v → getD (patterns v) i 0 ≡ toBits binary64 (getD v i nan)
+pattern-at v i h = getD-any (patterns v) i 0 (toBits binary64 nan) (rw length-patterns h) ∙ List·getD-map (toBits binary64) v i nan
+
+-- a value that equals itself is no NaN
+pub same-no-nan : (x : Float) → ne x x ≡ false → T (not (isNan x))
+unfolding isNan
+same-no-nan nan e = let z : true ≡ false = sym nan-differs ∙ e in let y : _≡_ {A = ℕ} 0 1 = cc in absurd (omega arith)
+same-no-nan (inf s) e = tt
+same-no-nan (fin s m n) e = tt
+
+-- one that does not is written as `toBits` writes a NaN
+pub nan-bits : (x : Float) → ne x x ≡ true → toBits binary64 x ≡ 0x7FF8_0000_0000_0000
+unfolding toBits
+nan-bits x e = ap (toBits binary64) (differs-from-itself x (rw e tt))
+
+-- ---- question 14
+
+pub all-more : (v : List ℕ) (x : ℕ) → allFinite v ≡ true → finite x ≡ true → allFinite (v ++ (x ∷ [])) ≡ true
+unfolding allFinite
+all-more [] x p q = rw q refl
+all-more (y ∷ v) x p q = both (finite y) p (λ r. all-more v x r q)
+  where
+    both : (b : Bool) → b && allFinite v ≡ true → (allFinite v ≡ true → allFinite (v ++ (x ∷ [])) ≡ true) → b && allFinite (v ++ (x ∷ [])) ≡ true
+    both true p r = r p
+    both false p r = p
+
+pub all-not : (v : List ℕ) (i : ℕ) → i < length v → finite (getD v i 0) ≡ false → allFinite v ≡ false
+unfolding allFinite
+all-not [] i h e = absurd (omega arith)
+all-not (y ∷ v) zero h e = rw e refl
+all-not (y ∷ v) (suc i) h e = later (finite y) (all-not v i (le-of-suc-le-suc h) e)
+  where
+    later : (b : Bool) {d : Bool} → d ≡ false → b && d ≡ false
+    later true p = p
+    later false p = refl
+
+pub all-at : (v : List ℕ) (i : ℕ) → allFinite v ≡ true → i < length v → finite (getD v i 0) ≡ true
+all-at v i e h = split (finite (getD v i 0)) refl
+  where
+    split : (b : Bool) → finite (getD v i 0) ≡ b → finite (getD v i 0) ≡ true
+    split true p = p
+    split false p = let z : true ≡ false = sym e ∙ all-not v i h p in let y : _≡_ {A = ℕ} 0 1 = cc in absurd (omega arith)
+
+-- ---- a field's bytes
+
+pub field-none : (x : ℕ) → x ≡ 0 → fieldBytes x ≡ []
+unfolding fieldBytes
+field-none x e = rw (eq-eqb x 0 e) refl
+
+pub field-some : (x : ℕ) → (x ≡ 0 → ⊥) → fieldBytes x ≡ bytes 8 x
+unfolding fieldBytes
+field-some x e = rw (ne-eqb x 0 e) refl
+
+pub length-bytes : (n x : ℕ) → length (bytes n x) ≡ n
+unfolding bytes
+length-bytes zero x = refl
+length-bytes (suc n) x = ap suc (length-bytes n (x / 256))
+
+-- ---- the stored fields
+
+pub stored-more : (v : List ℕ) (k : ℕ) → k < length v → storedBytes (take (k + 1) v) ≡ storedBytes (take k v) ++ fieldBytes (getD v k 0)
+unfolding storedBytes
+stored-more v k h = ap storedBytes (take-more v k h) ∙ flatMap-more fieldBytes (take k v) (getD v k 0)
+
+pub stored-part : (v : List ℕ) (k : ℕ) → length (storedBytes (take k v)) ≤ length (storedBytes v)
+unfolding storedBytes
+stored-part v k =
+    omega (arith, ap (λ (u : List ℕ). length (flatMap fieldBytes u)) (take-append-drop k v), ap length (flatMap-append fieldBytes (take k v) (drop k v)), length-append (flatMap fieldBytes (take k v)) (flatMap fieldBytes (drop k v)))
+
+-- ---- a word's eight stores
+
+pub stores : (l : List ℕ) (at a b c d e f g h : ℕ) → at + 8 ≤ length l
+    → set (set (set (set (set (set (set (set l at a) (at + 1) b) (at + 2) c) (at + 3) d) (at + 4) e) (at + 5) f) (at + 6) g) (at + 7) h
+    ≡ over l at (a ∷ b ∷ c ∷ d ∷ e ∷ f ∷ g ∷ h ∷ [])
+unfolding over
+stores l at a b c d e f g h le =
+    let n1 : at + 1 ≡ suc at = omega arith in
+    let n2 : at + 2 ≡ suc (suc at) = omega arith in
+    let n3 : at + 3 ≡ suc (suc (suc at)) = omega arith in
+    let n4 : at + 4 ≡ suc (suc (suc (suc at))) = omega arith in
+    let n5 : at + 5 ≡ suc (suc (suc (suc (suc at)))) = omega arith in
+    let n6 : at + 6 ≡ suc (suc (suc (suc (suc (suc at))))) = omega arith in
+    let n7 : at + 7 ≡ suc (suc (suc (suc (suc (suc (suc at)))))) = omega arith in
+    rw (n1, n2, n3, n4, n5, n6, n7) (sets-eq (a ∷ b ∷ c ∷ d ∷ e ∷ f ∷ g ∷ h ∷ []) l at le ∙ append-assoc (take at l) (a ∷ b ∷ c ∷ d ∷ e ∷ f ∷ g ∷ h ∷ []) (drop (at + 8) l))
+
+pub bytes-8 : (x : ℕ) → bytes 8 x
+    ≡ x % 256 ∷ x / 0x100 % 256 ∷ x / 0x1_0000 % 256 ∷ x / 0x100_0000 % 256 ∷ x / 0x1_0000_0000 % 256 ∷ x / 0x100_0000_0000 % 256 ∷ x / 0x1_0000_0000_0000 % 256 ∷ x / 0x100_0000_0000_0000 % 256 ∷ []
+unfolding bytes
+bytes-8 x = simp div-div-eq-div-mul
+
+-- ---- a map's bits
+
+pub packed-more : (test : ℕ → Bool) (i : ℕ) {b : Bool} → test i ≡ b → packed test (i + 1) ≡ packed test i + cond b (2 ^ i) 0
+unfolding packed
+packed-more test i e = rw (add-one, e) refl
+
+pub packed-lt : (test : ℕ → Bool) (n : ℕ) → packed test n < 2 ^ n
+unfolding packed
+packed-lt test zero = omega arith
+packed-lt test (suc n) = omega (arith, packed-lt test n, pow-suc 2 n, small (test n))
+  where
+    small : (b : Bool) → cond b (2 ^ n) 0 ≤ 2 ^ n
+    small true = omega arith
+    small false = omega arith
+
+-- ---- the records of tracks
+
+pub record-length : (v : List ℕ) → length (recordOf v) ≡ mapBytes (length v) + length (storedBytes v)
+unfolding recordOf mapOf
+record-length v = length-append (tabulate (mapBytes (length v)) (mapByte v)) (storedBytes v) ∙ ap (λ (k : ℕ). k + length (storedBytes v)) (length-tabulate (mapBytes (length v)) (mapByte v))
+
+-- the values of a track among those of all
+pub patterns-part : (v : List Float) (i f : ℕ) → patterns (take f (drop i v)) ≡ take f (drop i (patterns v))
+patterns-part v i f = map-take (toBits binary64) f (drop i v) ∙ ap (take f) (map-drop (toBits binary64) i v)
+
+pub records-more : (j f : ℕ) (v : List ℕ) → recordsOf (tracksOf (j + 1) f v) ≡ recordsOf (tracksOf j f v) ++ recordOf (take f (drop (j * f) v))
+unfolding recordsOf tracksOf
+records-more j f v = ap recordsOf (tabulate-more j (λ (k : ℕ). take f (drop (k * f) v))) ∙ flatMap-more recordOf (tracksOf j f v) (take f (drop (j * f) v))
+
+pub records-part : (j n f : ℕ) (v : List ℕ) → j ≤ n → length (recordsOf (tracksOf j f v)) ≤ length (recordsOf (tracksOf n f v))
+unfolding recordsOf tracksOf
+records-part j n f v h = flatMap-part recordOf (λ (k : ℕ). take f (drop (k * f) v)) j n h
+
+pub records-length : (n f : ℕ) (v : List ℕ) → n * f ≤ length v → length (recordsOf (tracksOf n f v)) ≡ n * mapBytes f + length (storedBytes (take (n * f) v))
+unfolding recordsOf tracksOf storedBytes tabulate flatMap
+records-length zero f v h = simp zero-mul
+records-length (suc n) f v h =
+    let r : suc n * f ≡ n * f + f = suc-mul n f in
+    let u = take f (drop (n * f) v) in
+    let long : length u ≡ f = length-take-le f (drop (n * f) v) (omega (arith, length-drop (n * f) v)) in
+    omega (
+      arith,
+      records-length n f v (omega arith),
+      ap (λ (k : ℕ). length (recordsOf (tracksOf k f v))) (add-one n),
+      ap length (records-more n f v),
+      length-append (recordsOf (tracksOf n f v)) (recordOf u),
+      record-length u,
+      ap mapBytes long,
+      suc-mul n (mapBytes f),
+      ap (λ (k : ℕ). length (storedBytes (take k v))) r,
+      ap (λ (w : List ℕ). length (storedBytes w)) (take-add (n * f) f v),
+      ap length (flatMap-append fieldBytes (take (n * f) v) u),
+      length-append (storedBytes (take (n * f) v)) (storedBytes u),
+    )
+
+-- a whole list's length
+pub list-length : (d n f : ℕ) (v : List ℕ) → length v ≡ n * f → length (listOf d (tracksOf n f v)) ≡ 2 + n * mapBytes f + length (storedBytes v)
+unfolding listOf
+list-length d n f v h =
+    omega (arith, records-length n f v (omega arith), ap (λ (u : List ℕ). length (storedBytes u)) (take-all (n * f) v (omega arith)))
+
+-- ---- a list that is written
+
+pub record Listed (n d : ℕ) (v : List ℕ) (room : ℕ) (l : List ℕ) : Type 0 where
+  pub few : countMet n ≡ true
+  pub sized : dimensionMet d ≡ true
+  pub long : length v ≡ n * fields d
+  pub finite : allFinite v ≡ true
+  pub fits : length l ≤ room
+  pub same : l ≡ listOf d (tracksOf n (fields d) v)
+
+pub written-met : (n d : ℕ) (v : List ℕ) (room : ℕ) {l : List ℕ} → written n d v room ≡ answered l → Listed n d v room l
+unfolding written
+written-met n d v room e =
+    let a = ask-met 10 (countMet n) _ e in
+    let b = ask-met 11 (dimensionMet d) _ (a .1) in
+    let g = ask-met 2 (eqb (length v) (n * fields d)) _ (b .1) in
+    let h = ask-met 14 (allFinite v) _ (g .1) in
+    let k = ask-met 20 (leb (length (listOf d (tracksOf n (fields d) v))) room) _ (h .1) in
+    let s = sym (answered-inj (k .1)) in
+    record { few = a .0; sized = b .0; long = eqb-true _ _ (g .0); finite = h .0; fits = rw s (leb-true _ _ (k .0)); same = s }
+
+pub write-accepted : {n : ℕ} (o : Outcome (List ℕ)) → writeAnswer o ≡ WrittenList.Length n → (l : List ℕ) × (o ≡ answered l) × (n ≡ length l)
+write-accepted (refused q) e = let z : _≡_ {A = ℕ} 0 1 = cc in absurd (omega arith)
+write-accepted (answered l) e = (l, refl, cc)
+
+pub write-refused : {q : ℕ} (o : Outcome (List ℕ)) → writeAnswer o ≡ WrittenList.Refused q → o ≡ refused q
+write-refused (refused q) e = cc
+write-refused (answered l) e = let z : _≡_ {A = ℕ} 0 1 = cc in absurd (omega arith)

@@ -1,0 +1,109 @@
+-- `check_list` meets its contract: each way out answers the first question of `contents` that is not met.
+use mathlib.Core.Path.{_≡_, refl, sym, ap, _∙_}
+use mathlib.Core.Bool.{true, false}
+use Prim.Native.Nat.{ℕ, _≤_}
+use native.Mathlib.Omega.{arith}
+use borrow.Author.Tests.{le-leb, lt-leb, eq-eqb, ne-eqb, not-true, not-false}
+use denote.Ref.{now}
+use lib.ListN.{length}
+use Rattle.tracks.specs.Format.{fields}
+use Rattle.tracks.specs.Read.{Item, tracks, count, dimension, countMet, dimensionMet, whole, contents}
+use Rattle.tracks.specs.Calls.{ends, readAnswer}
+use Rattle.tracks.specs.declared.format.Checked.{Checked}
+use Rattle.tracks.proofs.Accepted.{contents-head, dimension-small, whole-ended, whole-stopped}
+use borrow.Author.Needs.{needs}
+use Rattle.tracks.proofs.format.check_list.Statement.{statement}
+use Rattle.tracks.proofs.format.check_list.Tie as tie
+
+returns : tie.Need-returns
+unfolding contents
+returns c = simp (lt-leb 2 (length (now (c .before .before .args .list))) (c .if1 .taken))
+
+shared-slice-read-n : tie.Need-shared-slice-read-n
+shared-slice-read-n c = search needs
+
+cast-n : tie.Need-cast-n
+cast-n c = omega (arith, c .shared-slice-known2 .given 0)
+
+shared-slice-read-d : tie.Need-shared-slice-read-d
+shared-slice-read-d c = search needs
+
+cast-d : tie.Need-cast-d
+cast-d c = omega (arith, c .shared-slice-known3 .given 1)
+
+count-met-requires : tie.Need-count-met-requires
+count-met-requires c κs = search needs
+
+returns-2 : tie.Need-returns-2
+unfolding contents
+returns-2 c =
+    let x = c .before .before .before .before .before .before .args in
+    simp (le-leb 2 (length (now (x .list))) (omega arith), sym (c .before .count-met .ensures) ∙ not-true _ (c .if2 .taken))
+
+dimension-met-requires : tie.Need-dimension-met-requires
+dimension-met-requires c κs = search needs
+
+returns-3 : tie.Need-returns-3
+unfolding contents
+returns-3 c =
+    let x = c .before .before .before .before .before .before .before .before .args in
+    simp (le-leb 2 (length (now (x .list))) (omega arith), sym (c .before .before .before .count-met .ensures) ∙ not-false _ (c .before .before .if2 .left), sym (c .before .dimension-met .ensures) ∙ not-true _ (c .if3 .taken))
+
+fields-requires : tie.Need-fields-requires
+fields-requires c κs = dimension-small _ (sym (c .before .dimension-met .ensures) ∙ not-false _ (c .if3 .left))
+
+check-tracks-requires : tie.Need-check-tracks-requires
+check-tracks-requires c κs = search needs
+
+enum-known-c : tie.Need-enum-known-c
+enum-known-c c = search needs
+
+enum-known-c-2 : tie.Need-enum-known-c-2
+enum-known-c-2 c = search needs
+
+-- with 9 to 11 met, the tracks and 16 decide
+head : (c : tie.Else3) → let l = now (c .before .before .before .before .before .before .before .before .args .list) in contents l ≡ whole (length l) (tracks l (fields (dimension l)) (count l))
+head c =
+    contents-head (now (c .before .before .before .before .before .before .before .before .args .list)) (omega arith)
+    (sym (c .before .before .before .count-met .ensures) ∙ not-false _ (c .before .before .if2 .left)) (sym (c .before .dimension-met .ensures) ∙ not-false _ (c .if3 .left))
+
+checked : (c : tie.After-check-tracks) → let l = now (c .before .before .before .before .before .before .before .before .before .before .args .list) in c .check-tracks .result ≡ ends (tracks l (fields (dimension l)) (count l))
+checked c =
+    let l = now (c .before .before .before .before .before .before .before .before .before .before .args .list) in
+    c .check-tracks .ensures ∙ ap (λ (f : ℕ). ends (tracks l f (count l))) (c .before .fields .ensures .0)
+
+returns-4 : tie.Need-returns-4
+returns-4 c =
+    let t = c .before .before .before .before in
+    sym (ap (readAnswer _) (head (t .before .before)) ∙ whole-ended _ _ _ (sym (checked t) ∙ c .before .before .c .given .1) true (eq-eqb _ _ (c .if4 .taken)))
+
+returns-5 : tie.Need-returns-5
+returns-5 c =
+    let t = c .before .before .before .before in
+    sym (ap (readAnswer _) (head (t .before .before)) ∙ whole-ended _ _ _ (sym (checked t) ∙ c .before .before .c .given .1) false (ne-eqb _ _ (c .if4 .left)))
+
+returns-6 : tie.Need-returns-6
+returns-6 c =
+    let t = c .before .before .before in
+    sym (ap (readAnswer _) (head (t .before .before)) ∙ whole-stopped _ _ _ (sym (checked t) ∙ c .before .c2 .given .1))
+
+pub check-list-spec : {M : Type 1} → statement M
+check-list-spec =
+    tie.close
+    (tie.spec
+    returns
+    shared-slice-read-n
+    cast-n
+    shared-slice-read-d
+    cast-d
+    count-met-requires
+    returns-2
+    dimension-met-requires
+    returns-3
+    fields-requires
+    check-tracks-requires
+    enum-known-c
+    enum-known-c-2
+    returns-4
+    returns-5
+    returns-6)

@@ -1,0 +1,53 @@
+-- `check_track` meets its contract: each way out answers the first question of `track` that is not met.
+use mathlib.Core.Path.{_≡_, sym, ap, _∙_}
+use mathlib.Core.Bool.{true, false}
+use Prim.Native.Nat.{_+_}
+use native.Mathlib.Omega.{arith}
+use borrow.Author.Tests.{le-leb, lt-leb, not-true, not-false}
+use denote.Ref.{now}
+use lib.ListN.{length}
+use Rattle.tracks.specs.Format.{mapBytes}
+use Rattle.tracks.specs.Read.{track}
+use borrow.Author.Needs.{needs}
+use Rattle.tracks.proofs.format.check_track.Statement.{statement}
+use Rattle.tracks.proofs.format.check_track.Tie as tie
+
+sub-if1 : tie.Need-sub-if1
+sub-if1 c = search needs
+
+add-if1 : tie.Need-add-if1
+add-if1 c = search needs
+
+returns : tie.Need-returns
+unfolding track
+returns c = let x = c .before .before .args in simp (lt-leb (x .at + mapBytes (x .f)) (length (now (x .list))) (omega arith))
+
+spare-clear-requires : tie.Need-spare-clear-requires
+spare-clear-requires c κs = search needs
+
+returns-2 : tie.Need-returns-2
+unfolding track
+returns-2 c =
+    let x = c .before .before .before .before .args in
+    simp (le-leb (x .at + mapBytes (x .f)) (length (now (x .list))) (omega arith), sym (c .before .spare-clear .ensures) ∙ not-true _ (c .if2 .taken))
+
+check-fields-requires : tie.Need-check-fields-requires
+check-fields-requires c κs = search needs
+
+returns-3 : tie.Need-returns-3
+unfolding track
+returns-3 c =
+    let x = c .before .before .before .before .before .args in
+    simp (le-leb (x .at + mapBytes (x .f)) (length (now (x .list))) (omega arith), sym (c .before .before .spare-clear .ensures) ∙ not-false _ (c .before .if2 .left)) (c .check-fields .ensures)
+
+pub check-track-spec : {M : Type 1} → statement M
+check-track-spec =
+    tie.close
+    (tie.spec
+    sub-if1
+    add-if1
+    returns
+    spare-clear-requires
+    returns-2
+    check-fields-requires
+    returns-3)

@@ -1,0 +1,88 @@
+-- `find_end` meets its contract: before turn j the record is looked for among the n - j records from `here` on.
+use mathlib.Core.Path.{_≡_, refl, sym, ap, _∙_}
+use Prim.Native.Nat.{ℕ, suc, _+_, _-_, _≤_}
+use native.Mathlib.Nat.{sub-zero}
+use native.Mathlib.Omega.{arith}
+use borrow.Author.Needs.{needs}
+use denote.Ref.{now}
+use lib.ListN.{length}
+use Rattle.tracks.specs.Record.{recordEnd}
+use Rattle.tracks.proofs.Records.{end-here, end-later, end-refused}
+use Rattle.tracks.proofs.Accepted.{track-within}
+use Rattle.tracks.proofs.record.find_end.Statement.{statement}
+use Rattle.tracks.proofs.record.find_end.Tie as tie
+
+abbrev Inv-loop : tie.InvT-loop
+Inv-loop list f n at here₀ j₀ here j = (j ≤ n) × (here ≤ length list) × (recordEnd list f at 2 n ≡ recordEnd list f at here (n - j))
+
+abbrev μ-loop : tie.MeasureT-loop
+μ-loop list f n at here₀ j₀ here j = n - j
+
+loop-holds : tie.Need-loop-holds Inv-loop μ-loop
+loop-holds c = (omega arith, omega arith, ap (recordEnd (now (c .before .args .list)) (c .before .args .f) (c .before .args .at) 2) (sym (sub-zero (c .before .args .n))))
+
+-- the turn's record, and those after it
+left : (c : tie.In-loop Inv-loop μ-loop) → let x = c .before .before .before .args in let i = c .before .loop in
+    recordEnd (now (x .list)) (x .f) (x .at) 2 (x .n) ≡ recordEnd (now (x .list)) (x .f) (x .at) (i .here) (suc (x .n - (i .counter + 1)))
+left c =
+    let x = c .before .before .before .args in
+    let i = c .before .loop in
+    let e : x .n - i .counter ≡ suc (x .n - (i .counter + 1)) = omega arith in
+    i .inv .2 ∙ ap (recordEnd (now (x .list)) (x .f) (x .at) (i .here)) e
+
+check-track-requires : tie.Need-check-track-requires Inv-loop μ-loop
+check-track-requires c κs = omega arith
+
+enum-known-c : tie.Need-enum-known-c Inv-loop μ-loop
+enum-known-c c = search needs
+
+returns : tie.Need-returns Inv-loop μ-loop
+returns c =
+    let t = c .before .before .before .before .before in
+    let x = t .before .before .before .args in
+    let e = sym (c .before .before .before .before .check-track .ensures) ∙ c .before .before .c .given .1 in
+    (sym (left t ∙ end-here _ _ _ _ _ e (c .if1 .taken)), track-within (now (x .list)) (x .f) (t .before .loop .here) e)
+
+enum-told : tie.Need-enum-told Inv-loop μ-loop
+enum-told c = search needs
+
+returns-2 : tie.Need-returns-2 Inv-loop μ-loop
+returns-2 c = (sym (left (c .before .before .before) ∙ end-refused _ _ _ _ _ (sym (c .before .before .check-track .ensures) ∙ c .enum-told .given .1)), omega arith)
+
+add-counter : tie.Need-add-counter Inv-loop μ-loop
+add-counter c = omega arith
+
+loop-less : tie.Need-loop-less Inv-loop μ-loop
+loop-less c = omega arith
+
+loop-again : tie.Need-loop-again Inv-loop μ-loop
+loop-again c =
+    let t = c .before .before .before .before .before in
+    let x = t .before .before .before .args in
+    let e = sym (c .before .before .before .before .check-track .ensures) ∙ c .before .before .c .given .1 in
+    (omega arith, track-within (now (x .list)) (x .f) (t .before .loop .here) e, left t ∙ end-later _ _ _ _ _ e (c .if1 .left))
+
+returns-3 : tie.Need-returns-3 Inv-loop μ-loop
+unfolding recordEnd
+returns-3 c =
+    let x = c .before .before .before .args in
+    let i = c .before .loop in
+    let e : x .n - i .counter ≡ 0 = omega (arith, c .loop-test .left) in
+    (sym (i .inv .2 ∙ ap (recordEnd (now (x .list)) (x .f) (x .at) (i .here)) e), omega arith)
+
+pub find-end-spec : {M : Type 1} → statement M
+find-end-spec =
+    tie.close
+    (tie.spec
+    Inv-loop
+    μ-loop
+    loop-holds
+    check-track-requires
+    enum-known-c
+    returns
+    enum-told
+    returns-2
+    add-counter
+    loop-less
+    loop-again
+    returns-3)

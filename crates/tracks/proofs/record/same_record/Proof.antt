@@ -1,0 +1,70 @@
+-- `same_record` meets its contract: before turn i the first i bytes are equal.
+use mathlib.Core.Path.{_≡_, refl, sym, ap, _∙_}
+use Prim.Native.Nat.{ℕ, _-_, _≤_, _<_}
+use native.Mathlib.Omega.{arith}
+use borrow.Author.Count.{below-none, below-more}
+use mathlib.Core.List.{List}
+use denote.Ref.{now}
+use lib.ListN.{length, getD}
+use lib.Seq.{ext-getD}
+use Rattle.tracks.specs.Record.{sameBytes}
+use Rattle.tracks.proofs.Records.{same-refl, same-unequal}
+use Rattle.tracks.proofs.record.same_record.Statement.{statement}
+use Rattle.tracks.proofs.record.same_record.Tie as tie
+
+abbrev Inv-loop : tie.InvT-loop
+Inv-loop a b i₀ i-end i = (i ≤ i-end) × (i-end ≡ length a) × (length a ≡ length b) × ((k : ℕ) → k < i → getD a k 0 ≡ getD b k 0)
+
+abbrev μ-loop : tie.MeasureT-loop
+μ-loop a b i₀ i-end i = i-end - i
+
+returns : tie.Need-returns Inv-loop μ-loop
+returns c = let x = c .before .args in sym (same-unequal (now (x .a)) (now (x .b)) (λ e. c .if1 .taken (ap length e)))
+
+loop-holds : tie.Need-loop-holds Inv-loop μ-loop
+loop-holds c = (omega arith, refl, c .if1 .left, λ k h. absurd (omega arith))
+
+shared-slice-read-if2 : tie.Need-shared-slice-read-if2 Inv-loop μ-loop
+shared-slice-read-if2 c = omega arith
+
+shared-slice-read-if2-2 : tie.Need-shared-slice-read-if2-2 Inv-loop μ-loop
+shared-slice-read-if2-2 c = omega arith
+
+returns-2 : tie.Need-returns-2 Inv-loop μ-loop
+returns-2 c =
+    let x = c .before .before .before .before .before .before .args in
+    let i = c .before .before .before .before .loop .i in
+    sym (same-unequal (now (x .a)) (now (x .b)) (λ e. c .if2 .taken (ap (λ (l : List ℕ). getD l i 0) e)))
+
+add-i : tie.Need-add-i Inv-loop μ-loop
+add-i c = omega arith
+
+loop-less : tie.Need-loop-less Inv-loop μ-loop
+loop-less c = omega arith
+
+loop-again : tie.Need-loop-again Inv-loop μ-loop
+loop-again c =
+    let i = c .before .before .before .before .loop in
+    (omega arith, i .inv .1, i .inv .2, below-more _ (i .i) (i .inv .3) (c .if2 .left))
+
+returns-3 : tie.Need-returns-3 Inv-loop μ-loop
+returns-3 c =
+    let x = c .before .before .before .args in
+    let i = c .before .loop in
+    sym (ap (sameBytes (now (x .a))) (sym (ext-getD 0 (now (x .a)) (now (x .b)) (i .inv .2) (λ k h. i .inv .3 k (omega (arith, c .loop-test .left))))) ∙ same-refl (now (x .a)))
+
+pub same-record-spec : {M : Type 1} → statement M
+same-record-spec =
+    tie.close
+    (tie.spec
+    Inv-loop
+    μ-loop
+    returns
+    loop-holds
+    shared-slice-read-if2
+    shared-slice-read-if2-2
+    returns-2
+    add-i
+    loop-less
+    loop-again
+    returns-3)

@@ -1,0 +1,72 @@
+-- What the calls answer, and what they leave in lent memory.
+use Prim.Native.Nat.{ℕ, _+_}
+use mathlib.Core.Path.{_≡_}
+use mathlib.Core.List.{List, [], _∷_, _++_, map, flatMap}
+use lib.Dec.{T}
+use lib.ListN.{length, getD, take, drop}
+use lib.Ieee.{Float, nan, binary64, fits, ofBits, toBits}
+use Rattle.kernel.specs.Answer.{Outcome, refused, answered}
+use Rattle.tracks.specs.Read.{Item, count, dimension}
+use Rattle.tracks.specs.declared.format.Checked.{Checked}
+use Rattle.tracks.specs.declared.format.Checked.the-variants.{End, Refused}
+use Rattle.tracks.specs.declared.format.ReadList.{ReadList}
+use Rattle.tracks.specs.declared.format.ReadList.the-variants as ReadList
+use Rattle.tracks.specs.declared.format.WrittenList.{WrittenList}
+use Rattle.tracks.specs.declared.format.WrittenList.the-variants as WrittenList
+
+-- A list with other elements from an index on.
+unfoldable pub over : {A : Type 0} → List A → ℕ → List A → List A
+over old i new = take i old ++ (new ++ drop (i + length new) old)
+
+-- The doubles that 64 bits stand for, and their bits.
+abbrev pub doubles : List ℕ → List Float
+doubles v = map (ofBits binary64) v
+
+abbrev pub patterns : List Float → List ℕ
+patterns v = map (toBits binary64) v
+
+-- That values are doubles.
+abbrev pub Doubles : List Float → Type 0
+Doubles v = (i : ℕ) → T (fits binary64 (getD v i nan))
+
+-- Lists one after another.
+unfoldable pub joined : {A : Type 0} → List (List A) → List A
+unfolding flatMap
+joined vs = flatMap (λ v. v) vs
+
+-- Where an item ends, or the number of the question that it does not meet.
+abbrev pub ends : {A : Type 0} → Outcome (Item A) → Checked
+ends (refused q) = Refused q
+ends (answered x) = End (x .next)
+
+-- That nothing is refused.
+abbrev pub Accepted : {A : Type 0} → Outcome A → Type 0
+Accepted {A} o = (x : A) × (o ≡ answered x)
+
+-- That an item's values are left in a slice from an index on, and the offset after the item is given.
+abbrev pub Puts : {A : Type 0} → (A → List ℕ) → Outcome (Item A) → List Float → ℕ → ℕ → List Float → Type 0
+Puts {A} fieldsOf o old i next new = (x : Item A) → o ≡ answered x → (next ≡ x .next) × (new ≡ over old i (doubles (fieldsOf (x .value))))
+
+-- The answer to a list that is read: the first two bytes of one that is accepted.
+abbrev pub readAnswer : List ℕ → Outcome (List (List ℕ)) → ReadList
+readAnswer l (refused q) = ReadList.Refused q
+readAnswer l (answered ts) = ReadList.Read (count l) (dimension l)
+
+-- The values afterwards: the tracks' fields in front, and the rest as it was.
+abbrev pub readValues : Outcome (List (List ℕ)) → List Float → List Float
+readValues (refused q) old = old
+readValues (answered ts) old = over old 0 (doubles (joined ts))
+
+-- The answer to a list that is written: its length.
+abbrev pub writeAnswer : Outcome (List ℕ) → WrittenList
+writeAnswer (refused q) = WrittenList.Refused q
+writeAnswer (answered l) = WrittenList.Length (length l)
+
+-- The buffer afterwards: the list in front, and the rest as it was.
+abbrev pub writeBytes : Outcome (List ℕ) → List ℕ → List ℕ
+writeBytes (refused q) old = old
+writeBytes (answered l) old = over old 0 l
+
+-- That bytes are left in a buffer from an offset on, and the offset after them is given.
+abbrev pub Writes : List ℕ → List ℕ → ℕ → ℕ → List ℕ → Type 0
+Writes bytes old at next new = (next ≡ at + length bytes) × (new ≡ over old at bytes)

@@ -1,0 +1,29 @@
+-- Document 01's example j and its one-track list, computed on the definitions.
+use Prim.Native.Nat.{ℕ}
+use mathlib.Core.Path.{_≡_, refl}
+use mathlib.Core.List.{List, [], _∷_, flatMap}
+use Rattle.kernel.specs.Answer.{refused, answered}
+use Rattle.tracks.specs.Format.{fields, stands, number, bytes, word, none, spare}
+use Rattle.tracks.specs.Read.{oneMore, followed, items, stored, field, track, tracks, whole, contents}
+use Rattle.tracks.specs.Write.{tabulate, packed, mapByte, mapOf, fieldBytes, storedBytes, recordOf, recordsOf, listOf, allFinite, tracksOf, written}
+
+-- One track, d = 1, state 0, variance 1.
+abbrev pub oneTrack : List ℕ
+oneTrack = 0x01 ∷ 0x01 ∷ 0x02 ∷ 0x00 ∷ 0x00 ∷ 0x00 ∷ 0x00 ∷ 0x00 ∷ 0x00 ∷ 0xF0 ∷ 0x3F ∷ []
+
+-- its fields: the bits of 0.0 and of 1.0
+abbrev pub zeroAndOne : List ℕ
+zeroAndOne = 0 ∷ 0x3FF0_0000_0000_0000 ∷ []
+
+pub one-track-read : contents oneTrack ≡ answered (zeroAndOne ∷ [])
+unfolding fields stands number word none spare oneMore followed items stored field track tracks whole contents
+one-track-read = refl
+
+pub one-track-written : written 1 1 zeroAndOne 11 ≡ answered oneTrack
+unfolding fields bytes tabulate packed mapByte mapOf fieldBytes storedBytes recordOf recordsOf listOf allFinite tracksOf written flatMap
+one-track-written = refl
+
+-- Example j: `01 01 06` has a spare bit.
+pub example-j : contents (0x01 ∷ 0x01 ∷ 0x06 ∷ []) ≡ refused 13
+unfolding fields stands number word none spare oneMore followed items stored field track tracks whole contents
+example-j = refl

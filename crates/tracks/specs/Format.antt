@@ -1,0 +1,59 @@
+-- The list record of document 01: its layout, its bits and its numbers.
+use Prim.Native.Nat.{ℕ, zero, suc, _+_, _-_, _*_, _/_, _%_, _^_, _<_}
+use mathlib.Core.Bool.{Bool, true, false, not, _&&_}
+use mathlib.Core.List.{List, [], _∷_}
+use lib.Dec.{eqb, ltb}
+use lib.ListN.{getD, take, drop}
+
+-- The bytes of a list from an offset up to another.
+abbrev pub part : List ℕ → ℕ → ℕ → List ℕ
+part l from to = take (to - from) (drop from l)
+
+-- That the elements of a list are bytes.
+abbrev pub Bytes : List ℕ → Type 0
+Bytes l = (i : ℕ) → getD l i 0 < 256
+
+-- That they are patterns of 64 bits.
+abbrev pub Words : List ℕ → Type 0
+Words v = (i : ℕ) → getD v i 0 < 2 ^ 64
+
+-- The fields of a track of dimension d: the d state values, then the covariance's lower triangle.
+unfoldable pub fields : ℕ → ℕ
+fields d = d + d * (d + 1) / 2
+
+-- The bytes of a map of f bits.
+abbrev pub mapBytes : ℕ → ℕ
+mapBytes f = (f + 7) / 8
+
+-- Bit k of the map that starts at an offset of the list: bit k mod 8 of byte k div 8.
+unfoldable pub stands : List ℕ → ℕ → ℕ → Bool
+stands l map k = eqb (getD l (map + k / 8) 0 / 2 ^ (k % 8) % 2) 1
+
+-- The number that bytes stand for, low byte first.
+unfoldable pub number : List ℕ → ℕ
+number [] = 0
+number (b ∷ bs) = b + 256 * number bs
+
+-- The n low bytes of a number, low byte first.
+unfoldable pub bytes : ℕ → ℕ → List ℕ
+bytes zero x = []
+bytes (suc n) x = x % 256 ∷ bytes n (x / 256)
+
+-- The 64 bits of the eight bytes at an offset.
+unfoldable pub word : List ℕ → ℕ → ℕ
+unfolding number
+word l at = number (take 8 (drop at l))
+
+-- Whether 64 bits are those of a finite double: the exponent's bits are not all ones.
+abbrev pub finite : ℕ → Bool
+finite b = ltb (b % 2 ^ 63) (2047 * 2 ^ 52)
+
+-- Whether the test fails at each number below n.
+unfoldable pub none : (ℕ → Bool) → ℕ → Bool
+none test zero = true
+none test (suc n) = none test n && not (test n)
+
+-- Whether the spare bits of the map of f fields at an offset are 0.
+unfoldable pub spare : List ℕ → ℕ → ℕ → Bool
+unfolding stands none
+spare l f map = none (λ i. stands l map (f + i)) (8 * mapBytes f - f)

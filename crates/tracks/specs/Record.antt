@@ -1,0 +1,46 @@
+-- A track's own bytes as a part of the list, and when two such parts are equal.
+use Prim.Native.Nat.{ℕ, zero, suc}
+use mathlib.Core.Bool.{Bool, true, false, _&&_}
+use mathlib.Core.List.{List, [], _∷_}
+use lib.Dec.{eqb}
+use Rattle.kernel.specs.Answer.{Outcome, refused, answered}
+use Rattle.tracks.specs.Format.{part, fields}
+use Rattle.tracks.specs.Read.{Item, track, tracks, count, dimension, contents}
+
+-- The offset at which track j of an accepted list starts.
+unfoldable pub offset : List ℕ → ℕ → ℕ
+unfolding fields tracks
+offset l j = start (tracks l (fields (dimension l)) j)
+  where
+    start : Outcome (Item (List (List ℕ))) → ℕ
+    start (refused q) = 0
+    start (answered ts) = ts .next
+
+-- The record that is looked for is here, or is looked for where this one ends.
+abbrev pub hereOr : Outcome (Item (List ℕ)) → Bool → (ℕ → ℕ) → ℕ
+hereOr (refused q) here later = 0
+hereOr (answered t) true later = t .next
+hereOr (answered t) false later = later (t .next)
+
+-- Where the record that starts at an offset ends, among n records of f fields from another offset on; 0 where none of them starts there.
+unfoldable pub recordEnd : List ℕ → ℕ → ℕ → ℕ → ℕ → ℕ
+unfolding track
+recordEnd l f at from zero = 0
+recordEnd l f at from (suc n) = hereOr (track l f from) (eqb from at) (λ next. recordEnd l f at next n)
+
+-- The part of an accepted list that is the record at an offset: from the map to the last stored field.
+-- At the end, at an offset where no record starts, and in a list that is refused, it is empty.
+abbrev pub recordIn : List ℕ → ℕ → Outcome (List (List ℕ)) → List ℕ
+recordIn l at (refused q) = []
+recordIn l at (answered ts) = part l at (recordEnd l (fields (dimension l)) at 2 (count l))
+
+unfoldable pub recordAt : List ℕ → ℕ → List ℕ
+unfolding contents recordEnd
+recordAt l at = recordIn l at (contents l)
+
+-- Whether two parts have one length and the same bytes.
+unfoldable pub sameBytes : List ℕ → List ℕ → Bool
+sameBytes [] [] = true
+sameBytes [] (y ∷ b) = false
+sameBytes (x ∷ a) [] = false
+sameBytes (x ∷ a) (y ∷ b) = eqb x y && sameBytes a b

@@ -1,0 +1,76 @@
+-- Writing a list record of document 01: the bytes of tracks.
+use Prim.Native.Nat.{ℕ, zero, suc, _+_, _*_, _^_}
+use mathlib.Core.Bool.{Bool, true, false, not, _&&_, cond}
+use mathlib.Core.List.{List, [], _∷_, _++_, flatMap}
+use lib.Dec.{eqb, leb}
+use lib.ListN.{length, getD, take, drop}
+use Rattle.kernel.specs.Answer.{Outcome, refused, answered, ask}
+use Rattle.tracks.specs.Format.{fields, mapBytes, bytes, finite}
+use Rattle.tracks.specs.Read.{countMet, dimensionMet}
+
+-- f 0, f 1, .. f (n - 1)
+unfoldable pub tabulate : {A : Type 0} → ℕ → (ℕ → A) → List A
+tabulate zero f = []
+tabulate (suc n) f = tabulate n f ++ (f n ∷ [])
+
+-- A field's bit stands exactly when its 64 bits are not all zero.
+abbrev pub nonzero : ℕ → Bool
+nonzero x = not (eqb x 0)
+
+-- The number whose n low bits are the tests 0 to n - 1, the first lowest.
+unfoldable pub packed : (ℕ → Bool) → ℕ → ℕ
+packed test zero = 0
+packed test (suc n) = packed test n + cond (test n) (2 ^ n) 0
+
+-- Byte b of a track's map. There is no field past the last, so a spare bit is 0.
+unfoldable pub mapByte : List ℕ → ℕ → ℕ
+unfolding packed
+mapByte v b = packed (λ i. nonzero (getD v (8 * b + i) 0)) 8
+
+unfoldable pub mapOf : List ℕ → List ℕ
+unfolding tabulate mapByte
+mapOf v = tabulate (mapBytes (length v)) (mapByte v)
+
+-- +0.0 is left out, any other field is its eight bytes.
+unfoldable pub fieldBytes : ℕ → List ℕ
+unfolding bytes
+fieldBytes x = cond (nonzero x) (bytes 8 x) []
+
+unfoldable pub storedBytes : List ℕ → List ℕ
+unfolding flatMap fieldBytes
+storedBytes v = flatMap fieldBytes v
+
+-- A track's own bytes: its map, then the fields whose bits stand.
+unfoldable pub recordOf : List ℕ → List ℕ
+unfolding mapOf storedBytes
+recordOf v = mapOf v ++ storedBytes v
+
+unfoldable pub recordsOf : List (List ℕ) → List ℕ
+unfolding flatMap recordOf
+recordsOf ts = flatMap recordOf ts
+
+-- The list of tracks of dimension d.
+unfoldable pub listOf : ℕ → List (List ℕ) → List ℕ
+unfolding recordsOf
+listOf d ts = length ts ∷ d ∷ recordsOf ts
+
+-- Whether each field is finite: question 14.
+unfoldable pub allFinite : List ℕ → Bool
+allFinite [] = true
+allFinite (x ∷ v) = finite x && allFinite v
+
+-- n tracks of f fields each, out of their fields one after another.
+unfoldable pub tracksOf : ℕ → ℕ → List ℕ → List (List ℕ)
+unfolding tabulate
+tracksOf n f v = tabulate n (λ j. take f (drop (j * f) v))
+
+-- The list of n tracks of dimension d with these fields, in a buffer of some length.
+unfoldable pub written : ℕ → ℕ → List ℕ → ℕ → Outcome (List ℕ)
+unfolding fields allFinite listOf tracksOf
+written n d v room =
+    ask 10 (countMet n)
+    (ask 11 (dimensionMet d)
+    (ask 2 (eqb (length v) (n * fields d))
+    (ask 14 (allFinite v)
+    (ask 20 (leb (length (listOf d (tracksOf n (fields d) v))) room)
+    (answered (listOf d (tracksOf n (fields d) v)))))))

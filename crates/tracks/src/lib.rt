@@ -1,0 +1,3 @@
+// The list record: reading and writing track lists, and handing out a track's own bytes.
+pub mod format;
+pub mod record;

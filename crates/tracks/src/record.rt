@@ -1,0 +1,64 @@
+// A track's own bytes, as a part of the caller's list.
+ghost use mathlib.Core.Path.{_≡_};
+ghost use Prim.Native.Nat.{_≤_};
+ghost use lib.ListN.{length};
+ghost use Rattle.tracks.specs.Format.{fields};
+ghost use Rattle.tracks.specs.Record.{recordEnd, recordAt, sameBytes};
+use crate::format;
+use crate::format::Checked;
+use crate::format::ReadList;
+
+// Where the record that starts at an offset ends, among n records of f fields; 0 where none of them starts there.
+fn find_end(list: &[u8], f: usize, n: usize, at: usize) -> usize
+    requires { ⌜ (f ≤ 64) × (2 ≤ length (now list)) ⌝ }
+    ensures { λ r. ⌜ (r ≡ recordEnd (now (list .entry)) f at 2 n) × (r ≤ length (now (list .entry))) ⌝ }
+{
+    let mut here = 2;
+    for _ in 0..n {
+        let c = format::check_track(list, f, here);
+        match c {
+            Checked::End(next) => {
+                if here == at {
+                    return next;
+                }
+                here = next;
+            }
+            Checked::Refused(_) => {
+                return 0;
+            }
+        }
+    }
+    0
+}
+
+// A track's own bytes: the record of an accepted list that starts at an offset, or an empty part.
+pub fn record(list: &[u8], at: usize) -> &[u8]
+    ensures { λ r. ⌜ now r ≡ recordAt (now (list .entry)) at ⌝ }
+{
+    let c = format::check_list(list);
+    match c {
+        ReadList::Read { count, dimension } => {
+            let end = find_end(list, format::fields(dimension), count, at);
+            if end < at {
+                return &list[..0];
+            }
+            &list[at..end]
+        }
+        ReadList::Refused(_) => &list[..0],
+    }
+}
+
+// Whether two records are equal.
+pub fn same_record(a: &[u8], b: &[u8]) -> bool
+    ensures { λ r. ⌜ r ≡ sameBytes (now (a .entry)) (now (b .entry)) ⌝ }
+{
+    if a.len() != b.len() {
+        return false;
+    }
+    for i in 0..a.len() {
+        if a[i] != b[i] {
+            return false;
+        }
+    }
+    true
+}
