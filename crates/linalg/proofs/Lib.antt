@@ -2,3 +2,4 @@ pub mod Tests
 pub mod Answers
 pub mod Laws
 pub mod Symmetry
+pub mod Ata
