@@ -132,9 +132,12 @@ length-row a n i h = length-take-le n (drop (i * n) a) (omega (arith, length-dro
 pub length-part : (a : List Float) (n i : ℕ) → i * n + n ≤ length a → length (take (i * n + n - i * n) (drop (i * n) a)) ≡ n
 length-part a n i h = length-take-le _ (drop (i * n) a) (omega (arith, length-drop (i * n) a)) ∙ add-sub-cancel-left (i * n) n
 
+pub nth-part : (a : List Float) (start n j : ℕ) → j < n → nth (take n (drop start a)) j ≡ nth a (start + j)
+nth-part a start n j h = getD-take n (drop start a) j nan h ∙ getD-drop start a j nan
+
 pub nth-row : (a : List Float) (n i j : ℕ) → j < n → nth (rowOf a n i) j ≡ at a n i j
 unfolding rowOf
-nth-row a n i j h = getD-take n (drop (i * n) a) j nan h ∙ getD-drop (i * n) a j nan
+nth-row a n i j h = nth-part a (i * n) n j h
 
 -- a factor times an entry of a row
 pub scaled : {u v : Float} {x : List Float} (a : List Float) (n i j : ℕ) → u ≡ v → x ≡ rowOf a n i → j < n → mul u (nth x j) ≡ mul v (at a n i j)
