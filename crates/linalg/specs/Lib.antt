@@ -7,3 +7,4 @@ pub mod Norms
 pub mod Cholesky
 pub mod Regularize
 pub mod Mat3
+pub mod Examples
