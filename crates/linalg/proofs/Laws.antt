@@ -1,7 +1,7 @@
 -- Laws of sums, of vectors and matrices made by a rule, and of slices that are filled in order; all over the order.
-use Prim.Native.Nat.{ℕ, zero, suc, _+_, _*_, _-_, _<_, _≤_}
+use Prim.Native.Nat.{ℕ, zero, suc, _+_, _*_, _-_, _/_, _%_, _<_, _≤_}
 use native.Mathlib.Omega.{arith}
-use native.Mathlib.Nat.{mul-le-mul-right, suc-mul, zero-mul, le-refl, le-antisymm, eq-or-lt-of-le, le-of-suc-le-suc, ne-of-lt, add-sub-cancel-left}
+use native.Mathlib.Nat.{mul-le-mul-right, suc-mul, zero-mul, le-refl, le-antisymm, eq-or-lt-of-le, le-of-suc-le-suc, ne-of-lt, add-sub-cancel-left, mul-zero, div-lt-iff-lt-mul, zero-lt-suc, mod-lt, div-add-mod'}
 use native.Mathlib.Numerals.{add-one}
 use native.Mathlib.Decide.{decLt}
 use mathlib.Core.Path.{_≡_, refl, sym, ap, _∙_, subst}
@@ -88,6 +88,34 @@ unfolding matrix
 length-matrix zero n f = sym (zero-mul n)
 length-matrix (suc m) n f = omega (arith, length-append (matrix m n f) (tabulate n (f m)), length-matrix m n f, length-tabulate n (f m), suc-mul m n)
 
+pub at-matrix : (m n : ℕ) (f : ℕ → ℕ → Float) (i j : ℕ) → i < m → j < n → at (matrix m n f) n i j ≡ f i j
+unfolding matrix
+at-matrix zero n f i j h k = absurd (omega arith)
+at-matrix (suc m) n f i j h k =
+    ⊎-elim
+    (λ (e : i ≡ m). ap (λ (x : ℕ). nth (matrix m n f ++ tabulate n (f m)) x) (place e) ∙ getD-append-add (matrix m n f) (tabulate n (f m)) j nan ∙ nth-tabulate n (f m) j k ∙ ap (λ (x : ℕ). f x j) (sym e))
+    (λ (l : i < m). List·getD-append (matrix m n f) (tabulate n (f m)) nan (i * n + j) (omega (arith, cell m n {i = i} {j = j} l k, length-matrix m n f)) ∙ at-matrix m n f i j l k)
+    (eq-or-lt-of-le (le-of-suc-le-suc h))
+  where
+    place : i ≡ m → i * n + j ≡ length (matrix m n f) + j
+    place e = omega (arith, length-matrix m n f, ap (λ (x : ℕ). x * n) e)
+
+-- equal entries make equal matrices
+pub matrix-ext : (m n : ℕ) (f g : ℕ → ℕ → Float) → ((i j : ℕ) → i < m → j < n → f i j ≡ g i j) → matrix m n f ≡ matrix m n g
+unfolding matrix
+matrix-ext zero n f g h = refl
+matrix-ext (suc m) n f g h = rw (matrix-ext m n f g (λ i j k l. h i j (omega arith) l), tabulate-ext n (f m) (g m) (λ j l. h m j (omega arith) l))
+
+-- a list is the matrix of its entries
+pub matrix-by-entries : (m n : ℕ) (f : ℕ → ℕ → Float) (l : List Float) → length l ≡ m * n → ((i j : ℕ) → i < m → j < n → at l n i j ≡ f i j) → l ≡ matrix m n f
+matrix-by-entries m zero f l e h = ext-getD nan l (matrix m zero f) (e ∙ sym (length-matrix m zero f)) (λ x k. absurd (omega (arith, mul-zero m)))
+matrix-by-entries m (suc n) f l e h =
+    ext-getD nan l (matrix m (suc n) f) (e ∙ sym (length-matrix m (suc n) f)) (λ x k.
+    let i : x / suc n < m = div-lt-iff-lt-mul (zero-lt-suc n) .1 (omega arith) in
+    let j : x % suc n < suc n = mod-lt x (zero-lt-suc n) in
+    let s : x / suc n * suc n + x % suc n ≡ x = div-add-mod' x (suc n) in
+    ap (nth l) (sym s) ∙ h (x / suc n) (x % suc n) i j ∙ sym (at-matrix m (suc n) f (x / suc n) (x % suc n) i j) ∙ ap (nth (matrix m (suc n) f)) s)
+
 -- ---- the front of a local array, lent and come back
 
 -- what stands there
@@ -104,9 +132,12 @@ length-row a n i h = length-take-le n (drop (i * n) a) (omega (arith, length-dro
 pub length-part : (a : List Float) (n i : ℕ) → i * n + n ≤ length a → length (take (i * n + n - i * n) (drop (i * n) a)) ≡ n
 length-part a n i h = length-take-le _ (drop (i * n) a) (omega (arith, length-drop (i * n) a)) ∙ add-sub-cancel-left (i * n) n
 
+pub nth-part : (a : List Float) (start n j : ℕ) → j < n → nth (take n (drop start a)) j ≡ nth a (start + j)
+nth-part a start n j h = getD-take n (drop start a) j nan h ∙ getD-drop start a j nan
+
 pub nth-row : (a : List Float) (n i j : ℕ) → j < n → nth (rowOf a n i) j ≡ at a n i j
 unfolding rowOf
-nth-row a n i j h = getD-take n (drop (i * n) a) j nan h ∙ getD-drop (i * n) a j nan
+nth-row a n i j h = nth-part a (i * n) n j h
 
 -- a factor times an entry of a row
 pub scaled : {u v : Float} {x : List Float} (a : List Float) (n i j : ℕ) → u ≡ v → x ≡ rowOf a n i → j < n → mul u (nth x j) ≡ mul v (at a n i j)

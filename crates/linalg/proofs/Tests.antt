@@ -17,6 +17,9 @@ met {r} e t = sym e ∙ not-false r t
 pub unmet : {r b : Bool} → r ≡ b → not r ≡ true → b ≡ false
 unmet {r} e t = sym e ∙ not-true r t
 
+pub never : {A : Type 0} → false ≡ true → A
+never e = absurd (let z : _≡_ {A = ℕ} 0 1 = cc in omega arith)
+
 -- ---- two tests, one after the other
 
 pub and-no : {r a : Bool} (b : Bool) → r ≡ a → not r ≡ true → false ≡ (a && b)
@@ -31,7 +34,7 @@ and-left false b e = e
 
 pub and-right : (a b : Bool) → (a && b) ≡ true → b ≡ true
 and-right true b e = e
-and-right false b e = absurd (let z : _≡_ {A = ℕ} 0 1 = cc in omega arith)
+and-right false b e = never e
 
 -- ---- sides and lengths
 

@@ -2,9 +2,12 @@
 ghost use mathlib.Core.Path.{_≡_};
 ghost use Rattle.linalg.specs.Answer.{Leaves, given};
 ghost use Rattle.linalg.specs.Products.{matMul, matTranspose, matAta, matSymmetrize, matVecMul};
+ghost use Rattle.linalg.specs.Norms.{vecNorm, matFrobenius};
+ghost use Rattle.linalg.specs.Cholesky.{matCholesky};
 ghost use Rattle.linalg.specs.Sums.{matTrace, matTraceProduct, matTraceCube, matQuadraticForm, distanceWithInv};
 use crate::Number;
 use crate::Written;
+use crate::cholesky::cholesky;
 use crate::product::ata;
 use crate::product::product;
 use crate::product::symmetrize;
@@ -19,11 +22,14 @@ use crate::shape::is_form;
 use crate::shape::is_matrix;
 use crate::shape::is_side;
 use crate::shape::is_system;
+use crate::shape::is_vector;
 use crate::sums::distance;
 use crate::sums::quadratic_form;
 use crate::sums::trace;
 use crate::sums::trace_cube_product;
 use crate::sums::trace_product;
+use crate::vector::norm;
+use kernel::question::CHOLESKY_PIVOT;
 use kernel::question::LENGTH;
 use kernel::question::SIDE;
 
@@ -160,4 +166,46 @@ pub fn mahalanobis_distance_squared_with_inv(x: &[f64], mu: &[f64], inv: &[f64],
         return Number::Refused(LENGTH);
     }
     Number::Value(distance(x, mu, inv, n))
+}
+
+// The Euclidean norm of x, of n entries.
+pub fn vec_norm(x: &[f64], n: usize) -> Number
+    ensures { λ r. ⌜ r ≡ given (vecNorm (now (x .entry)) n) ⌝ }
+{
+    if !is_side(n) {
+        return Number::Refused(SIDE);
+    }
+    if !is_vector(x, n) {
+        return Number::Refused(LENGTH);
+    }
+    Number::Value(norm(x, n))
+}
+
+// The Frobenius norm of a, m by n.
+pub fn mat_frobenius(a: &[f64], m: usize, n: usize) -> Number
+    ensures { λ r. ⌜ r ≡ given (matFrobenius (now (a .entry)) m n) ⌝ }
+{
+    if !are_sides(m, n) {
+        return Number::Refused(SIDE);
+    }
+    if !is_matrix(a, m, n) {
+        return Number::Refused(LENGTH);
+    }
+    Number::Value(norm(a, m * n))
+}
+
+// The lower Cholesky factor of a, n by n, into out.
+pub fn mat_cholesky(a: &[f64], n: usize, out: &mut [f64]) -> Written
+    ensures { λ r. ⌜ Leaves (matCholesky (now (a .entry)) n (now (out .entry))) (now (out .entry)) r (now (out .exit)) ⌝ }
+{
+    if !is_side(n) {
+        return Written::Refused(SIDE);
+    }
+    if !are_matrices(a, n, n, out, n, n) {
+        return Written::Refused(LENGTH);
+    }
+    if !cholesky(a, n, out) {
+        return Written::Refused(CHOLESKY_PIVOT);
+    }
+    Written::Done
 }

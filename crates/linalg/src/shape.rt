@@ -2,7 +2,7 @@
 ghost use mathlib.Core.Path.{_≡_};
 ghost use mathlib.Core.Bool.{true, _&&_};
 ghost use Prim.Native.Nat.{_+_, _*_, _<_, _≤_};
-ghost use lib.ListN.{length};
+ghost use lib.ListN.{length, take, drop};
 ghost use Rattle.linalg.specs.Matrix.{side, long, at, rowOf};
 
 // Whether n is a side that a matrix may have.
@@ -114,6 +114,14 @@ pub(crate) fn entry(a: &[f64], n: usize, i: usize, j: usize) -> f64
     ensures { λ r. ⌜ r ≡ at (now (a .entry)) n i j ⌝ }
 {
     a[i * n + j]
+}
+
+// The n entries of a from start on.
+pub(crate) fn part(a: &[f64], start: usize, n: usize) -> &[f64]
+    requires { ⌜ start + n ≤ length (now a) ⌝ }
+    ensures { λ r. ⌜ (length (now r) ≡ n) × (now r ≡ take n (drop start (now (a .entry)))) ⌝ }
+{
+    &a[start..start + n]
 }
 
 // Row i of a, a matrix of n columns.

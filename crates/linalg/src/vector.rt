@@ -5,6 +5,8 @@ ghost use lib.ListN.{length};
 ghost use Rattle.kernel.specs.Number.{add, sub, mul};
 ghost use Rattle.linalg.specs.Matrix.{nought, nth, sum, tabulate};
 ghost use Rattle.linalg.specs.Sums.{difference};
+ghost use Rattle.linalg.specs.Norms.{norm};
+use kernel::number::sqrt;
 
 // Sets every entry of y to 0.0.
 pub(crate) fn clear(n: usize, y: &mut [f64])
@@ -56,4 +58,12 @@ pub(crate) fn dot(x: &[f64], y: &[f64], n: usize) -> f64
         s = s + x[j] * y[j];
     }
     s
+}
+
+// The root of the sum of the squares of the n entries of x.
+pub(crate) fn norm(x: &[f64], n: usize) -> f64
+    requires { ⌜ length (now x) ≡ n ⌝ }
+    ensures { λ r. ⌜ r ≡ norm (now (x .entry)) n ⌝ }
+{
+    sqrt(dot(x, x, n))
 }

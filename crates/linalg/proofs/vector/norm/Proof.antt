@@ -1,0 +1,18 @@
+-- `norm` meets its contract: the root is taken of the sum of squares.
+use borrow.Author.Needs.{needs}
+use mathlib.Core.Path.{_∙_, ap}
+use Rattle.kernel.specs.Sqrt.{sqrt}
+use Rattle.linalg.proofs.vector.norm.Statement.{statement}
+use Rattle.linalg.proofs.vector.norm.Tie as tie
+
+dot-requires : tie.Need-dot-requires
+dot-requires c κs = search needs
+
+sqrt-requires : tie.Need-sqrt-requires
+sqrt-requires c κs = search needs
+
+returns : tie.Need-returns
+returns c = c .sqrt .ensures ∙ ap sqrt (c .before .dot .ensures)
+
+pub norm-spec : {M : Type 1} → statement M
+norm-spec = tie.close (tie.spec dot-requires sqrt-requires returns)

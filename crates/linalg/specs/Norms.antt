@@ -1,0 +1,23 @@
+-- The norms of linalg/generic.rs.
+use Prim.Native.Nat.{ℕ, _*_}
+use mathlib.Core.Bool.{_&&_}
+use mathlib.Core.List.{List}
+use lib.Ieee.{Float}
+use Rattle.kernel.specs.Number.{mul}
+use Rattle.kernel.specs.Sqrt.{sqrt}
+use Rattle.kernel.specs.Answer.{Outcome, answered, ask}
+use Rattle.linalg.specs.Matrix.{sum, sumFrom, nth, side, long}
+
+-- the root of the sum of the squares of the first n entries
+abbrev pub norm : List Float → ℕ → Float
+norm x n = sqrt (sum n (λ j. mul (nth x j) (nth x j)))
+
+-- `vec_norm`
+unfoldable pub vecNorm : List Float → ℕ → Outcome Float
+unfolding sqrt sumFrom side long
+vecNorm x n = ask 1 (side n) (ask 2 (long x n) (answered (norm x n)))
+
+-- `mat_frobenius`: the norm of all entries of a, m by n, row by row
+unfoldable pub matFrobenius : List Float → ℕ → ℕ → Outcome Float
+unfolding sqrt sumFrom side long
+matFrobenius a m n = ask 1 (side m && side n) (ask 2 (long a (m * n)) (answered (norm a (m * n))))
