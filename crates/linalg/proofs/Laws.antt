@@ -7,7 +7,7 @@ use native.Mathlib.Decide.{decLt}
 use mathlib.Core.Path.{_≡_, refl, sym, ap, _∙_, subst}
 use mathlib.Core.Logic.{_⊎_, ⊎-elim}
 use mathlib.Core.List.{List, [], _∷_, _++_, append-assoc}
-use lib.ListN.{length, getD, set, take, drop, length-append, length-set, length-drop, List·getD-append}
+use lib.ListN.{length, getD, set, take, drop, length-append, length-set, length-drop, List·getD-append, replicate, getD-replicate}
 use lib.Seq.{getD-set-same, getD-set-other, getD-at, ext-getD, getD-append-add, getD-take, getD-drop, length-take-le, take-all, take-at}
 use borrow.Rule.Slice.PartMut.{midOf, postOf, putMid, same-len-mid}
 use lib.Ieee.{Float, nan}
@@ -201,3 +201,13 @@ rows-more f n i {old} {l} {y} h e w = record { size = same-len-mid (i * n) (i * 
 
 pub rows-all : (f : ℕ → ℕ → Float) (m n : ℕ) {i : ℕ} {old l : List Float} → length old ≡ m * n → i ≤ m → m ≤ i → FilledRows f n old i l → l ≡ matrix m n f
 rows-all f m n {i} {old} {l} e h k w = sym (take-all (m * n) l (omega (arith, w .size))) ∙ subst (λ (x : ℕ). take (x * n) l ≡ matrix x n f) (le-antisymm h k) (w .done)
+
+-- ---- sums in the front of an array
+
+-- before the first term
+pub front-zeros : (n : ℕ) (x : Float) → n ≤ 16 → take n (replicate 16 x) ≡ tabulate n (λ _. x)
+front-zeros n x h = by-entries n (λ _. x) (take n (replicate 16 x)) (length-take-le n (replicate 16 x) h) (λ q k. getD-take n (replicate 16 x) q nan k ∙ getD-replicate 16 q x nan (omega arith))
+
+-- the front is written anew
+pub front-size : (n : ℕ) (y l : List Float) → length y ≡ n → n ≤ length l → length (y ++ drop n l) ≡ length l
+front-size n y l e h = omega (arith, length-append y (drop n l), length-drop n l)

@@ -1,7 +1,8 @@
 -- What a question's own function tells of the definition's test: r is what the function answered, and b the test.
 use Prim.Native.Nat.{ℕ, _*_, _≤_}
 use native.Mathlib.Omega.{arith}
-use native.Mathlib.Nat.{mul-le-mul-right}
+use native.Mathlib.Nat.{mul-le-mul-right, mul-le-mul}
+use native.Mathlib.Decide.{decLe}
 use mathlib.Core.Bool.{Bool, true, false, not, _&&_}
 use mathlib.Core.List.{List}
 use mathlib.Core.Path.{_≡_, refl, sym, _∙_}
@@ -57,6 +58,14 @@ three-sides m k n e =
 -- a matrix with such sides has at most 256 entries
 pub area : (m n : ℕ) → side m ≡ true → side n ≡ true → m * n ≤ 256
 area m n e f = omega (arith, mul-le-mul-right n (side-high m e), side-high n f)
+
+-- a square with so few has a side of at most 16
+pub side-of-area : (n : ℕ) → n * n ≤ 256 → n ≤ 16
+side-of-area n h = go (decLe n 16)
+  where
+    go : Dec (n ≤ 16) → n ≤ 16
+    go (yes k) = k
+    go (no k) = let l : 17 ≤ n = omega arith in absurd (omega (arith, mul-le-mul l l))
 
 pub long-length : (a : List Float) (n : ℕ) → long a n ≡ true → length a ≡ n
 unfolding long

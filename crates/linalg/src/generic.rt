@@ -8,10 +8,10 @@ ghost use Rattle.linalg.specs.Sums.{matTrace, matTraceProduct, matTraceC
 use crate::Number;
 use crate::Written;
 use crate::cholesky::cholesky;
-use crate::product::ata;
-use crate::product::product;
+use crate::product::ata_by_width;
+use crate::product::product_by_width;
 use crate::product::symmetrize;
-use crate::product::times_vector;
+use crate::product::times_vector_by_width;
 use crate::product::transpose;
 use crate::shape::are_factors;
 use crate::shape::are_matrices;
@@ -43,7 +43,7 @@ pub fn mat_mul(a: &[f64], b: &[f64], m: usize, k: usize, n: usize, out: &mut [f6
     if !are_factors(a, b, m, k, n, out) {
         return Written::Refused(LENGTH);
     }
-    product(a, b, m, k, n, out);
+    product_by_width(a, b, m, k, n, out);
     Written::Done
 }
 
@@ -71,7 +71,7 @@ pub fn mat_ata(a: &[f64], m: usize, n: usize, out: &mut [f64]) -> Written
     if !are_matrices(a, m, n, out, n, n) {
         return Written::Refused(LENGTH);
     }
-    ata(a, m, n, out);
+    ata_by_width(a, m, n, out);
     Written::Done
 }
 
@@ -99,7 +99,7 @@ pub fn mat_vec_mul(a: &[f64], x: &[f64], n: usize, out: &mut [f64]) -> Written
     if !is_system(a, x, out, n) {
         return Written::Refused(LENGTH);
     }
-    times_vector(a, x, n, out);
+    times_vector_by_width(a, x, n, out);
     Written::Done
 }
 

@@ -7,29 +7,47 @@ ghost use Rattle.linalg.specs.Products.{productEntry, transposeEntry, at
 use crate::shape::entry;
 use crate::shape::row;
 use crate::vector::add_scaled;
-use crate::vector::clear;
+use crate::vector::copy;
 use crate::vector::dot;
 
 // Writes row i of the product of a, of k columns, and b, k by n.
 fn product_row(a: &[f64], b: &[f64], k: usize, n: usize, i: usize, y: &mut [f64])
-    requires { ⌜ (i * k + k ≤ length (now a)) × (length (now b) ≡ k * n) × (length (now y) ≡ n) ⌝ }
+    requires { ⌜ (n ≤ 16) × (i * k + k ≤ length (now a)) × (length (now b) ≡ k * n) × (length (now y) ≡ n) ⌝ }
     ensures { λ _. ⌜ now (y .exit) ≡ tabulate n (productEntry (now (a .entry)) (now (b .entry)) k n i) ⌝ }
 {
-    clear(n, y);
+    let mut sums = [0.0; 16];
     for l in 0..k {
-        add_scaled(entry(a, k, i, l), row(b, n, l), n, y);
+        add_scaled(entry(a, k, i, l), row(b, n, l), n, &mut sums[..n]);
     }
+    copy(&sums[..n], n, y);
 }
 
 // Writes the m by n product of a, m by k, and b, k by n.
 pub(crate) fn product(a: &[f64], b: &[f64], m: usize, k: usize, n: usize, out: &mut [f64])
-    requires { ⌜ (length (now a) ≡ m * k) × (length (now b) ≡ k * n) × (length (now out) ≡ m * n) ⌝ }
+    requires { ⌜ (n ≤ 16) × (length (now a) ≡ m * k) × (length (now b) ≡ k * n) × (length (now out) ≡ m * n) ⌝ }
     ensures { λ _. ⌜ now (out .exit) ≡ matrix m n (productEntry (now (a .entry)) (now (b .entry)) k n) ⌝ }
 {
     for i in 0..m {
         let start = i * n;
         product_row(a, b, k, n, i, &mut out[start..start + n]);
     }
+}
+
+// The same, with the widths of the usual states known to the compiler, which then unrolls the loops along a row.
+pub(crate) fn product_by_width(a: &[f64], b: &[f64], m: usize, k: usize, n: usize, out: &mut [f64])
+    requires { ⌜ (n ≤ 16) × (length (now a) ≡ m * k) × (length (now b) ≡ k * n) × (length (now out) ≡ m * n) ⌝ }
+    ensures { λ _. ⌜ now (out .exit) ≡ matrix m n (productEntry (now (a .entry)) (now (b .entry)) k n) ⌝ }
+{
+    if n == 6 {
+        return product(a, b, m, k, 6, out);
+    }
+    if n == 9 {
+        return product(a, b, m, k, 9, out);
+    }
+    if n == 16 {
+        return product(a, b, m, k, 16, out);
+    }
+    product(a, b, m, k, n, out)
 }
 
 // Writes row i of the transpose of a, m by n.
@@ -55,24 +73,42 @@ pub(crate) fn transpose(a: &[f64], m: usize, n: usize, out: &mut [f64])
 
 // Writes row i of the product of the transpose of a, m by n, and a.
 fn ata_row(a: &[f64], m: usize, n: usize, i: usize, y: &mut [f64])
-    requires { ⌜ (i < n) × (length (now a) ≡ m * n) × (length (now y) ≡ n) ⌝ }
+    requires { ⌜ (n ≤ 16) × (i < n) × (length (now a) ≡ m * n) × (length (now y) ≡ n) ⌝ }
     ensures { λ _. ⌜ now (y .exit) ≡ tabulate n (ataEntry (now (a .entry)) m n i) ⌝ }
 {
-    clear(n, y);
+    let mut sums = [0.0; 16];
     for k in 0..m {
-        add_scaled(entry(a, n, k, i), row(a, n, k), n, y);
+        add_scaled(entry(a, n, k, i), row(a, n, k), n, &mut sums[..n]);
     }
+    copy(&sums[..n], n, y);
 }
 
 // Writes the n by n product of the transpose of a, m by n, and a.
 pub(crate) fn ata(a: &[f64], m: usize, n: usize, out: &mut [f64])
-    requires { ⌜ (length (now a) ≡ m * n) × (length (now out) ≡ n * n) ⌝ }
+    requires { ⌜ (n ≤ 16) × (length (now a) ≡ m * n) × (length (now out) ≡ n * n) ⌝ }
     ensures { λ _. ⌜ now (out .exit) ≡ matrix n n (ataEntry (now (a .entry)) m n) ⌝ }
 {
     for i in 0..n {
         let start = i * n;
         ata_row(a, m, n, i, &mut out[start..start + n]);
     }
+}
+
+// The same, by width.
+pub(crate) fn ata_by_width(a: &[f64], m: usize, n: usize, out: &mut [f64])
+    requires { ⌜ (n ≤ 16) × (length (now a) ≡ m * n) × (length (now out) ≡ n * n) ⌝ }
+    ensures { λ _. ⌜ now (out .exit) ≡ matrix n n (ataEntry (now (a .entry)) m n) ⌝ }
+{
+    if n == 6 {
+        return ata(a, m, 6, out);
+    }
+    if n == 9 {
+        return ata(a, m, 9, out);
+    }
+    if n == 16 {
+        return ata(a, m, 16, out);
+    }
+    ata(a, m, n, out)
 }
 
 // Writes row i of half the sum of a, n by n, and its transpose.
@@ -104,4 +140,21 @@ pub(crate) fn times_vector(a: &[f64], x: &[f64], n: usize, y: &mut [f64])
     for i in 0..n {
         y[i] = dot(row(a, n, i), x, n);
     }
+}
+
+// The same, by width.
+pub(crate) fn times_vector_by_width(a: &[f64], x: &[f64], n: usize, y: &mut [f64])
+    requires { ⌜ (length (now a) ≡ n * n) × (length (now x) ≡ n) × (length (now y) ≡ n) ⌝ }
+    ensures { λ _. ⌜ now (y .exit) ≡ tabulate n (vectorEntry (now (a .entry)) (now (x .entry)) n) ⌝ }
+{
+    if n == 6 {
+        return times_vector(a, x, 6, y);
+    }
+    if n == 9 {
+        return times_vector(a, x, 9, y);
+    }
+    if n == 16 {
+        return times_vector(a, x, 16, y);
+    }
+    times_vector(a, x, n, y)
 }

@@ -8,16 +8,6 @@ ghost use Rattle.linalg.specs.Sums.{difference};
 ghost use Rattle.linalg.specs.Norms.{norm};
 use kernel::number::sqrt;
 
-// Sets every entry of y to 0.0.
-pub(crate) fn clear(n: usize, y: &mut [f64])
-    requires { ⌜ length (now y) ≡ n ⌝ }
-    ensures { λ _. ⌜ now (y .exit) ≡ tabulate n (λ _. nought) ⌝ }
-{
-    for j in 0..n {
-        y[j] = 0.0;
-    }
-}
-
 // Adds s times x to y, entry by entry.
 pub(crate) fn add_scaled(s: f64, x: &[f64], n: usize, y: &mut [f64])
     requires { ⌜ (length (now x) ≡ n) × (length (now y) ≡ n) ⌝ }

@@ -27,8 +27,8 @@ returns-2 : tie.Need-returns-2
 unfolding matVecMul
 returns-2 c = rw (met (c .before .before .before .before .is-side .ensures) (c .before .before .before .if1 .left), unmet (c .before .is-system .ensures) (c .if2 .taken))
 
-times-vector-requires : tie.Need-times-vector-requires
-times-vector-requires c κs =
+times-vector-by-width-requires : tie.Need-times-vector-by-width-requires
+times-vector-by-width-requires c κs =
     let x = c .before .before .before .before .before .before .before .before .before .args in
     three-long (x .a .now) (x .x .now) (x .out .now) (x .n * x .n) (x .n) (x .n) (met (c .before .before .is-system .ensures) (c .before .if2 .left))
 
@@ -37,7 +37,7 @@ same-length-2 c = search needs
 
 returns-3 : tie.Need-returns-3
 unfolding matVecMul
-returns-3 c = rw (met (c .before .before .before .before .before .before .before .before .is-side .ensures) (c .before .before .before .before .before .before .before .if1 .left), met (c .before .before .before .before .before .is-system .ensures) (c .before .before .before .before .if2 .left)) (done (c .before .before .times-vector .ensures))
+returns-3 c = rw (met (c .before .before .before .before .before .before .before .before .is-side .ensures) (c .before .before .before .before .before .before .before .if1 .left), met (c .before .before .before .before .before .is-system .ensures) (c .before .before .before .before .if2 .left)) (done (c .before .before .times-vector-by-width .ensures))
 
 pub mat-vec-mul-spec : {M : Type 1} → statement M
-mat-vec-mul-spec = tie.close (tie.spec is-side-requires returns is-system-requires same-length returns-2 times-vector-requires same-length-2 returns-3)
+mat-vec-mul-spec = tie.close (tie.spec is-side-requires returns is-system-requires same-length returns-2 times-vector-by-width-requires same-length-2 returns-3)

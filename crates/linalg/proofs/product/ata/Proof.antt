@@ -40,7 +40,7 @@ part-ata-row-end : tie.Need-part-ata-row-end Inv-loop μ-loop
 part-ata-row-end c = omega (arith, within c)
 
 ata-row-requires : tie.Need-ata-row-requires Inv-loop μ-loop
-ata-row-requires c κs = (omega arith, omega arith, length-part (c .before .before .loop .out) (c .before .before .before .before .before .args .n) (c .before .before .loop .i) (within (c .before)))
+ata-row-requires c κs = (omega arith, omega arith, omega arith, length-part (c .before .before .loop .out) (c .before .before .before .before .before .args .n) (c .before .before .loop .i) (within (c .before)))
 
 add-i : tie.Need-add-i Inv-loop μ-loop
 add-i c = omega arith

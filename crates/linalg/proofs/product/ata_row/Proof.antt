@@ -1,14 +1,16 @@
--- `ata_row` meets its contract: before turn k the row holds the sums of its first k terms, and the order of their factors does not matter.
+-- `ata_row` meets its contract: before turn k the first n sums are those of their first k terms, and the order of their factors does not matter.
 use mathlib.Core.Path.{_≡_, refl, sym, _∙_, ap}
 use mathlib.Core.List.{List}
 use Prim.Native.Nat.{ℕ, _-_, _≤_}
 use native.Mathlib.Omega.{arith}
+use borrow.Author.Needs.{needs}
 use native.Mathlib.Nat.{le-antisymm}
-use lib.ListN.{length}
+use lib.ListN.{length, take}
+use lib.Seq.{length-take-le, take-at}
 use lib.Ieee.{Float}
 use Rattle.kernel.specs.Number.{mul}
 use Rattle.linalg.specs.Matrix.{sum, sumFrom, at, tabulate, nought}
-use Rattle.linalg.proofs.Laws.{cell, row-within, length-tabulate, tabulate-ext, scaled, sums-more}
+use Rattle.linalg.proofs.Laws.{cell, row-within, tabulate-ext, length-tabulate, scaled, sums-more, front-zeros, front-size}
 use Rattle.linalg.proofs.Symmetry.{ata-either}
 use Rattle.linalg.proofs.product.ata_row.Statement.{statement}
 use Rattle.linalg.proofs.product.ata_row.Tie as tie
@@ -16,30 +18,45 @@ use Rattle.linalg.proofs.product.ata_row.Tie as tie
 abbrev term : List Float → ℕ → ℕ → ℕ → ℕ → Float
 term a n i j k = mul (at a n k i) (at a n k j)
 
-abbrev sums : List Float → ℕ → ℕ → ℕ → List Float
-sums a n i k = tabulate n (λ j. sum k (term a n i j))
+abbrev sumsTo : List Float → ℕ → ℕ → ℕ → List Float
+sumsTo a n i k = tabulate n (λ j. sum k (term a n i j))
 
 abbrev Inv-loop : tie.InvT-loop
-Inv-loop a m n i y₀ k₀ y k = (k ≤ m) × (length y ≡ n) × (y ≡ sums a n i k)
+Inv-loop a m n i y sums₀ k₀ sums k = (k ≤ m) × (length sums ≡ 16) × (take n sums ≡ sumsTo a n i k)
 
 abbrev μ-loop : tie.MeasureT-loop
-μ-loop a m n i y₀ k₀ y k = m - k
-
-clear-requires : tie.Need-clear-requires Inv-loop μ-loop
-clear-requires c κs = omega arith
+μ-loop a m n i y sums₀ k₀ sums k = m - k
 
 loop-holds : tie.Need-loop-holds Inv-loop μ-loop
 unfolding sumFrom
-loop-holds c = (omega arith, omega (arith, c .before .before .clear .kept), c .before .before .clear .ensures)
+loop-holds c = (omega arith, refl, front-zeros (c .before .before .args .n) nought (c .before .before .pre .0))
 
 entry-requires : tie.Need-entry-requires Inv-loop μ-loop
-entry-requires c κs = omega (arith, cell (c .before .before .before .before .before .before .before .before .args .m) (c .before .before .before .before .before .before .before .before .args .n) {i = c .before .loop .k} {j = c .before .before .before .before .before .before .before .before .args .i} (omega arith) (omega arith))
+entry-requires c κs =
+    let x = c .before .before .before .before .args in
+    omega (arith, cell (x .m) (x .n) {i = c .before .loop .k} {j = x .i} (omega arith) (omega arith))
 
 row-requires : tie.Need-row-requires Inv-loop μ-loop
-row-requires c κs = omega (arith, row-within (c .before .before .before .before .before .before .before .before .before .args .m) (c .before .before .before .before .before .before .before .before .before .args .n) {i = c .before .before .loop .k} (omega arith))
+row-requires c κs =
+    let x = c .before .before .before .before .before .args in
+    omega (arith, row-within (x .m) (x .n) {i = c .before .before .loop .k} (omega arith))
+
+array-borrow-prefix-sums : tie.Need-array-borrow-prefix-sums Inv-loop μ-loop
+array-borrow-prefix-sums c = omega arith
+
+-- the front that is lent has n sums
+lent : (n : ℕ) (l : List Float) → n ≤ 16 → length l ≡ 16 → length (take n l) ≡ n
+lent n l h e = length-take-le n l (omega arith)
+
+slice-aggregate-add-scaled : tie.Need-slice-aggregate-add-scaled Inv-loop μ-loop
+slice-aggregate-add-scaled c =
+    let s = c .before .before .before .before .before .before .before in
+    sym (lent (s .args .n) (c .before .before .before .before .loop .sums) (s .pre .0) (c .before .before .before .before .loop .inv .1))
 
 add-scaled-requires : tie.Need-add-scaled-requires Inv-loop μ-loop
-add-scaled-requires c κs = omega arith
+add-scaled-requires c κs =
+    let s = c .before .before .before .before .before .before .before in
+    (c .before .row .ensures .0, lent (s .args .n) (c .before .before .before .before .loop .sums) (s .pre .0) (c .before .before .before .before .loop .inv .1))
 
 add-k : tie.Need-add-k Inv-loop μ-loop
 add-k c = omega arith
@@ -49,19 +66,38 @@ loop-less c = omega arith
 
 loop-again : tie.Need-loop-again Inv-loop μ-loop
 loop-again c =
-    let x = c .before .before .before .before .before .before .before .before .before .before .before .before .before .before .args in
-    let turn = c .before .before .before .before .before .before .before .loop in
-    let step = sums-more nought (x .n) (turn .k) (term (x .a .now) (x .n) (x .i)) _ (turn .y) (turn .inv .2) (λ j h. scaled (x .a .now) (x .n) (turn .k) j (c .before .before .before .before .before .entry .ensures) (c .before .before .before .before .row .ensures .1) h) in
-    let new = c .before .before .add-scaled .ensures ∙ step in
-    (omega arith, ap length new ∙ length-tabulate _ _, new)
+    let s = c .before .before .before .before .before .before .before .before .before in
+    let x = s .args in
+    let turn = c .before .before .before .before .before .before .loop in
+    let step = sums-more nought (x .n) (turn .k) (term (x .a .now) (x .n) (x .i)) _ (take (x .n) (turn .sums)) (turn .inv .2) (λ j h. scaled (x .a .now) (x .n) (turn .k) j (c .before .before .before .before .entry .ensures) (c .before .before .before .row .ensures .1) h) in
+    let new = c .before .add-scaled .ensures ∙ step in
+    let size = ap length new ∙ length-tabulate _ _ in
+    (omega arith, front-size (x .n) (c .before .add-scaled .last .1 .1 .1 .0) (turn .sums) size (omega (arith, turn .inv .1)) ∙ turn .inv .1, take-at (c .before .add-scaled .last .1 .1 .1 .0) _ (x .n) size ∙ new)
+
+array-share-prefix-sums : tie.Need-array-share-prefix-sums Inv-loop μ-loop
+array-share-prefix-sums c = omega arith
+
+slice-aggregate-copy : tie.Need-slice-aggregate-copy Inv-loop μ-loop
+slice-aggregate-copy c =
+    let s = c .before .before .before .before .before in
+    sym (lent (s .args .n) (c .before .before .loop .sums) (s .pre .0) (c .before .before .loop .inv .1))
+
+copy-requires : tie.Need-copy-requires Inv-loop μ-loop
+copy-requires c κs =
+    let s = c .before .before .before .before .before .before in
+    (lent (s .args .n) (c .before .before .before .loop .sums) (s .pre .0) (c .before .before .before .loop .inv .1), s .pre .3)
 
 same-length : tie.Need-same-length Inv-loop μ-loop
-same-length c = c .before .loop .inv .1 ∙ sym (c .before .before .before .before .before .before .before .before .pre .2)
+same-length c = search needs
 
 returns : tie.Need-returns Inv-loop μ-loop
 returns c =
-    let x = c .before .before .before .before .before .before .before .before .args in
-    c .before .loop .inv .2 ∙ ap (sums (x .a .now) (x .n) (x .i)) (le-antisymm (c .before .loop .inv .0) (c .loop-test .left)) ∙ tabulate-ext _ _ _ (λ j h. ata-either (x .a .now) (x .m) (x .n) (x .i) j)
+    let x = c .before .before .before .before .before .before .before .before .before .args in
+    let l = c .before .before .before .before .before .before in
+    c .before .before .copy .ensures ∙ l .loop .inv .2 ∙ ap (sumsTo (x .a .now) (x .n) (x .i)) (le-antisymm (l .loop .inv .0) (c .before .before .before .before .before .loop-test .left))
+    ∙ tabulate-ext _ _ _ (λ j h. ata-either (x .a .now) (x .m) (x .n) (x .i) j)
 
 pub ata-row-spec : {M : Type 1} → statement M
-ata-row-spec = tie.close (tie.spec Inv-loop μ-loop clear-requires loop-holds entry-requires row-requires add-scaled-requires add-k loop-less loop-again same-length returns)
+ata-row-spec =
+    tie.close
+    (tie.spec Inv-loop μ-loop loop-holds entry-requires row-requires array-borrow-prefix-sums slice-aggregate-add-scaled add-scaled-requires add-k loop-less loop-again array-share-prefix-sums slice-aggregate-copy copy-requires same-length returns)

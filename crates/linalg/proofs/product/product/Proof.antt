@@ -40,7 +40,7 @@ part-product-row-end : tie.Need-part-product-row-end Inv-loop μ-loop
 part-product-row-end c = omega (arith, within c)
 
 product-row-requires : tie.Need-product-row-requires Inv-loop μ-loop
-product-row-requires c κs = (omega (arith, row-within (c .before .before .before .before .before .before .args .m) (c .before .before .before .before .before .before .args .k) {i = c .before .before .loop .i} (omega arith)), omega arith, length-part (c .before .before .loop .out) (c .before .before .before .before .before .before .args .n) (c .before .before .loop .i) (within (c .before)))
+product-row-requires c κs = (omega arith, omega (arith, row-within (c .before .before .before .before .before .before .args .m) (c .before .before .before .before .before .before .args .k) {i = c .before .before .loop .i} (omega arith)), omega arith, length-part (c .before .before .loop .out) (c .before .before .before .before .before .before .args .n) (c .before .before .loop .i) (within (c .before)))
 
 add-i : tie.Need-add-i Inv-loop μ-loop
 add-i c = omega arith

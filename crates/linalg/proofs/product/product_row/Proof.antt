@@ -1,44 +1,59 @@
--- `product_row` meets its contract: before turn l the row holds the sums of its first l terms.
+-- `product_row` meets its contract: before turn l the first n sums are those of their first l terms.
 use mathlib.Core.Path.{_≡_, refl, sym, _∙_, ap}
 use mathlib.Core.List.{List}
 use Prim.Native.Nat.{ℕ, _-_, _≤_}
 use native.Mathlib.Omega.{arith}
+use borrow.Author.Needs.{needs}
 use native.Mathlib.Nat.{le-antisymm}
-use lib.ListN.{length}
+use lib.ListN.{length, take}
+use lib.Seq.{length-take-le, take-at}
 use lib.Ieee.{Float}
 use Rattle.kernel.specs.Number.{mul}
 use Rattle.linalg.specs.Matrix.{sum, sumFrom, at, tabulate, nought}
-use Rattle.linalg.proofs.Laws.{row-within, length-tabulate, scaled, sums-more}
+use Rattle.linalg.proofs.Laws.{row-within, length-tabulate, scaled, sums-more, front-zeros, front-size}
 use Rattle.linalg.proofs.product.product_row.Statement.{statement}
 use Rattle.linalg.proofs.product.product_row.Tie as tie
 
 abbrev term : List Float → List Float → ℕ → ℕ → ℕ → ℕ → ℕ → Float
 term a b k n i j l = mul (at a k i l) (at b n l j)
 
-abbrev sums : List Float → List Float → ℕ → ℕ → ℕ → ℕ → List Float
-sums a b k n i l = tabulate n (λ j. sum l (term a b k n i j))
+abbrev sumsTo : List Float → List Float → ℕ → ℕ → ℕ → ℕ → List Float
+sumsTo a b k n i l = tabulate n (λ j. sum l (term a b k n i j))
 
 abbrev Inv-loop : tie.InvT-loop
-Inv-loop a b k n i y₀ l₀ y l = (l ≤ k) × (length y ≡ n) × (y ≡ sums a b k n i l)
+Inv-loop a b k n i y sums₀ l₀ sums l = (l ≤ k) × (length sums ≡ 16) × (take n sums ≡ sumsTo a b k n i l)
 
 abbrev μ-loop : tie.MeasureT-loop
-μ-loop a b k n i y₀ l₀ y l = k - l
-
-clear-requires : tie.Need-clear-requires Inv-loop μ-loop
-clear-requires c κs = omega arith
+μ-loop a b k n i y sums₀ l₀ sums l = k - l
 
 loop-holds : tie.Need-loop-holds Inv-loop μ-loop
 unfolding sumFrom
-loop-holds c = (omega arith, omega (arith, c .before .before .clear .kept), c .before .before .clear .ensures)
+loop-holds c = (omega arith, refl, front-zeros (c .before .before .before .args .n) nought (c .before .before .before .pre .0))
 
 entry-requires : tie.Need-entry-requires Inv-loop μ-loop
 entry-requires c κs = omega arith
 
 row-requires : tie.Need-row-requires Inv-loop μ-loop
-row-requires c κs = omega (arith, row-within (c .before .before .before .before .before .before .before .before .before .before .args .k) (c .before .before .before .before .before .before .before .before .before .before .args .n) {i = c .before .before .loop .l} (omega arith))
+row-requires c κs =
+    let x = c .before .before .before .before .before .before .args in
+    omega (arith, row-within (x .k) (x .n) {i = c .before .before .loop .l} (omega arith))
+
+array-borrow-prefix-sums : tie.Need-array-borrow-prefix-sums Inv-loop μ-loop
+array-borrow-prefix-sums c = omega arith
+
+-- the front that is lent has n sums
+lent : (n : ℕ) (l : List Float) → n ≤ 16 → length l ≡ 16 → length (take n l) ≡ n
+lent n l h e = length-take-le n l (omega arith)
+
+slice-aggregate-add-scaled : tie.Need-slice-aggregate-add-scaled Inv-loop μ-loop
+slice-aggregate-add-scaled c =
+    let s = c .before .before .before .before .before .before .before .before in
+    sym (lent (s .args .n) (c .before .before .before .before .loop .sums) (s .pre .0) (c .before .before .before .before .loop .inv .1))
 
 add-scaled-requires : tie.Need-add-scaled-requires Inv-loop μ-loop
-add-scaled-requires c κs = omega arith
+add-scaled-requires c κs =
+    let s = c .before .before .before .before .before .before .before .before in
+    (c .before .row .ensures .0, lent (s .args .n) (c .before .before .before .before .loop .sums) (s .pre .0) (c .before .before .before .before .loop .inv .1))
 
 add-l : tie.Need-add-l Inv-loop μ-loop
 add-l c = omega arith
@@ -48,19 +63,37 @@ loop-less c = omega arith
 
 loop-again : tie.Need-loop-again Inv-loop μ-loop
 loop-again c =
-    let x = c .before .before .before .before .before .before .before .before .before .before .before .before .before .before .before .args in
-    let turn = c .before .before .before .before .before .before .before .loop in
-    let step = sums-more nought (x .n) (turn .l) (term (x .a .now) (x .b .now) (x .k) (x .n) (x .i)) _ (turn .y) (turn .inv .2) (λ j h. scaled (x .b .now) (x .n) (turn .l) j (c .before .before .before .before .before .entry .ensures) (c .before .before .before .before .row .ensures .1) h) in
-    let new = c .before .before .add-scaled .ensures ∙ step in
-    (omega arith, ap length new ∙ length-tabulate _ _, new)
+    let s = c .before .before .before .before .before .before .before .before .before .before in
+    let x = s .args in
+    let turn = c .before .before .before .before .before .before .loop in
+    let step = sums-more nought (x .n) (turn .l) (term (x .a .now) (x .b .now) (x .k) (x .n) (x .i)) _ (take (x .n) (turn .sums)) (turn .inv .2) (λ j h. scaled (x .b .now) (x .n) (turn .l) j (c .before .before .before .before .entry .ensures) (c .before .before .before .row .ensures .1) h) in
+    let new = c .before .add-scaled .ensures ∙ step in
+    let size = ap length new ∙ length-tabulate _ _ in
+    (omega arith, front-size (x .n) (c .before .add-scaled .last .1 .1 .1 .0) (turn .sums) size (omega (arith, turn .inv .1)) ∙ turn .inv .1, take-at (c .before .add-scaled .last .1 .1 .1 .0) _ (x .n) size ∙ new)
+
+array-share-prefix-sums : tie.Need-array-share-prefix-sums Inv-loop μ-loop
+array-share-prefix-sums c = omega arith
+
+slice-aggregate-copy : tie.Need-slice-aggregate-copy Inv-loop μ-loop
+slice-aggregate-copy c =
+    let s = c .before .before .before .before .before .before in
+    sym (lent (s .args .n) (c .before .before .loop .sums) (s .pre .0) (c .before .before .loop .inv .1))
+
+copy-requires : tie.Need-copy-requires Inv-loop μ-loop
+copy-requires c κs =
+    let s = c .before .before .before .before .before .before .before in
+    (lent (s .args .n) (c .before .before .before .loop .sums) (s .pre .0) (c .before .before .before .loop .inv .1), s .pre .3)
 
 same-length : tie.Need-same-length Inv-loop μ-loop
-same-length c = c .before .loop .inv .1 ∙ sym (c .before .before .before .before .before .before .before .before .before .pre .2)
+same-length c = search needs
 
 returns : tie.Need-returns Inv-loop μ-loop
 returns c =
-    let x = c .before .before .before .before .before .before .before .before .before .args in
-    c .before .loop .inv .2 ∙ ap (sums (x .a .now) (x .b .now) (x .k) (x .n) (x .i)) (le-antisymm (c .before .loop .inv .0) (c .loop-test .left))
+    let x = c .before .before .before .before .before .before .before .before .before .before .args in
+    let l = c .before .before .before .before .before .before in
+    c .before .before .copy .ensures ∙ l .loop .inv .2 ∙ ap (sumsTo (x .a .now) (x .b .now) (x .k) (x .n) (x .i)) (le-antisymm (l .loop .inv .0) (c .before .before .before .before .before .loop-test .left))
 
 pub product-row-spec : {M : Type 1} → statement M
-product-row-spec = tie.close (tie.spec Inv-loop μ-loop clear-requires loop-holds entry-requires row-requires add-scaled-requires add-l loop-less loop-again same-length returns)
+product-row-spec =
+    tie.close
+    (tie.spec Inv-loop μ-loop loop-holds entry-requires row-requires array-borrow-prefix-sums slice-aggregate-add-scaled add-scaled-requires add-l loop-less loop-again array-share-prefix-sums slice-aggregate-copy copy-requires same-length returns)

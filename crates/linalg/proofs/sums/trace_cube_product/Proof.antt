@@ -8,6 +8,7 @@ use lib.ListN.{length, length-replicate}
 use lib.Seq.{length-take-le, length-front}
 use Rattle.linalg.specs.Sums.{traceCube}
 use Rattle.linalg.proofs.Laws.{length-matrix, front}
+use Rattle.linalg.proofs.Tests.{side-of-area}
 use Rattle.linalg.proofs.sums.trace_cube_product.Statement.{statement}
 use Rattle.linalg.proofs.sums.trace_cube_product.Tie as tie
 
@@ -21,7 +22,7 @@ slice-aggregate-product : tie.Need-slice-aggregate-product
 slice-aggregate-product c = sym (length-take-le _ _ (omega arith))
 
 product-requires : tie.Need-product-requires
-product-requires c κs = (c .before .before .before .pre .1, c .before .before .before .pre .2, length-take-le _ _ (omega arith))
+product-requires c κs = (side-of-area (c .before .before .before .args .n) (omega arith), c .before .before .before .pre .1, c .before .before .before .pre .2, length-take-le _ _ (omega arith))
 
 array-share-prefix-m : tie.Need-array-share-prefix-m
 array-share-prefix-m c = omega (arith, length-front _ (c .before .product .last .1 .1 .1 .1 .1 .0) (c .before .before .before .before .before .args .n * c .before .before .before .before .before .args .n) (c .before .product .kept .1 .1 .1 .1 .1 .0))
