@@ -38,6 +38,14 @@ uint32_t pel_mat3_det(const double *m, size_t m_len, double *out);
 uint32_t pel_mat3_inv(const double *m, size_t m_len, double *out, size_t out_len);
 uint32_t pel_mat3_solve(const double *a, size_t a_len, const double *b, size_t b_len, double *out, size_t out_len);
 
+/* Track lists. Values are the tracks' fields, one track after the other. */
+uint32_t pel_read_list(const uint8_t *list, size_t list_len, double *values, size_t values_len, size_t *count,
+                       size_t *dimension);
+uint32_t pel_write_list(size_t count, size_t dimension, const double *values, size_t values_len, uint8_t *out,
+                        size_t out_len, size_t *length);
+/* The record at an offset, by its start and length: 0 where there is none, or the list is refused. */
+void pel_record(const uint8_t *list, size_t list_len, size_t offset, size_t *start, size_t *length);
+
 #ifdef __cplusplus
 }
 #endif

@@ -35,7 +35,8 @@ fn two_sides() -> Vec<Vec<usize>> {
 
 fn three_sides() -> Vec<Vec<usize>> {
     let of = &PRODUCT_SIDES;
-    of.iter().flat_map(|m| of.iter().flat_map(move |k| of.iter().map(move |n| vec![*m, *k, *n]))).collect()
+    let all = of.iter().flat_map(|m| of.iter().flat_map(move |k| of.iter().map(move |n| vec![*m, *k, *n])));
+    all.chain((1..=16).filter(|n| !of.contains(n)).map(|n| vec![n, n, n])).collect()
 }
 
 fn square(s: &[usize]) -> Vec<(usize, usize)> {
@@ -289,40 +290,56 @@ fn answers(call: &Call, tally: &mut Tally, rng: &mut Rng, sides: &[usize], count
     }
 }
 
+/// A call that is refused: its sides, the lengths of its slices and of its result, and the question's number.
+pub struct Refused {
+    pub sides: Vec<usize>,
+    pub lengths: Vec<usize>,
+    pub length: usize,
+    pub number: u32,
+}
+
 /// Sides out of 1 to 16, and slices of other lengths: question 1 comes before question 2.
-fn refusals(call: &Call, tally: &mut Tally, rng: &mut Rng, sides: &[usize]) {
+pub fn refused(call: &Call, sides: &[usize], outside: &[usize]) -> Vec<Refused> {
     let lengths: Vec<usize> = (call.reads)(sides).iter().map(|(rows, cols)| rows * cols).collect();
     let length = (call.writes)(sides);
-    let entries: Vec<f64> = (0..16 * 16 + 16).map(|_| rng.unit()).collect();
-    let mut refuse = |sides: &[usize], lengths: &[usize], length: usize, wanted: u32| {
-        let slices: Vec<&[f64]> = lengths.iter().map(|n| &entries[..*n]).collect();
-        let given = Given { slices: &slices, number: 1.0 };
-        compare(call, tally, &given, sides, length, (wanted, &[]), "refused");
+    let mut all = Vec::new();
+    let mut add = |sides: &[usize], lengths: &[usize], length: usize, number: u32| {
+        all.push(Refused { sides: sides.to_vec(), lengths: lengths.to_vec(), length, number })
     };
-    let others = |n: usize| [0, n.saturating_sub(1), n + 1, n + 16].into_iter().filter(move |m| *m != n);
-    let outside = [0, 17, 18, 32, 256, 1 << 32, 1 << 60, usize::MAX];
+    let nothing = vec![0; lengths.len()];
+    let no_length = if call.single { 1 } else { 0 };
     for bad in outside {
         for at in 0..sides.len() {
             let mut wrong = sides.to_vec();
-            wrong[at] = bad;
-            refuse(&wrong, &lengths, length, 1);
-            refuse(&wrong, &vec![0; lengths.len()], if call.single { 1 } else { 0 }, 1);
+            wrong[at] = *bad;
+            add(&wrong, &lengths, length, 1);
+            add(&wrong, &nothing, no_length, 1);
         }
         if !sides.is_empty() {
-            refuse(&vec![bad; sides.len()], &vec![0; lengths.len()], if call.single { 1 } else { 0 }, 1);
+            add(&vec![*bad; sides.len()], &nothing, no_length, 1);
         }
     }
+    let others = |n: usize| [0, n.saturating_sub(1), n + 1, n + 16].into_iter().filter(move |m| *m != n);
     for at in 0..lengths.len() {
         for other in others(lengths[at]) {
             let mut wrong = lengths.clone();
             wrong[at] = other;
-            refuse(sides, &wrong, length, 2);
+            add(sides, &wrong, length, 2);
         }
     }
     if !call.single {
-        for other in others(length) {
-            refuse(sides, &lengths, other, 2);
-        }
+        others(length).for_each(|other| add(sides, &lengths, other, 2));
+    }
+    all
+}
+
+/// Compares what is refused at these sides.
+fn refusals(call: &Call, tally: &mut Tally, rng: &mut Rng, sides: &[usize]) {
+    let entries: Vec<f64> = (0..16 * 16 + 16).map(|_| rng.unit()).collect();
+    for case in refused(call, sides, &[0, 17, 18, 32, 256, 1 << 32, 1 << 60, usize::MAX]) {
+        let slices: Vec<&[f64]> = case.lengths.iter().map(|n| &entries[..*n]).collect();
+        let given = Given { slices: &slices, number: 1.0 };
+        compare(call, tally, &given, &case.sides, case.length, (case.number, &[]), "refused");
     }
 }
 

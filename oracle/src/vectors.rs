@@ -1,7 +1,11 @@
 //! Writes the frozen answers that the programs `*_vectors` replay: a program's input, and the lines that it must write.
 //! Every answer is the Rust's; the library is not asked.
+use crate::classes::CLASSES;
+use crate::ffi;
+use crate::matrix::{draw, refused, Call, CALLS};
 use crate::number::{powers_of_two, sample, special};
 use crate::rng::Rng;
+use nolan::flat::Given;
 use nolan::traits::Differentiable;
 use std::fs;
 use std::hint::black_box;
@@ -63,6 +67,75 @@ fn numbers() {
     frozen.write("number_vectors");
 }
 
+/// What stands in a slice before a call that writes it.
+const BEFORE: f64 = 7.0;
+/// A block of records, and zeros past the last.
+const BLOCK: usize = 65_536;
+
+/// A record of a matrix call: see the program.
+fn record(frozen: &mut Frozen, call: usize, sides: &[usize], given: &Given, number: u32, result: &[f64]) {
+    let (m, k, n) = match *sides {
+        [m, k, n] => (m, k, n),
+        [m, n] => (m, 0, n),
+        [n] => (0, 0, n),
+        _ => (0, 0, 0),
+    };
+    let length = |i: usize| given.slices.get(i).map_or(0, |slice| slice.len());
+    let head = [call, m, k, n].map(|n| n as u64).into_iter().chain([given.number.to_bits()]);
+    let lengths = [length(0), length(1), length(2), result.len(), number as usize].map(|n| n as u64);
+    let entries = given.slices.iter().copied().flatten().chain(result).map(|x| x.to_bits());
+    let words: Vec<u64> = head.chain(lengths).chain(entries).collect();
+    let size = 8 * (words.len() + 1);
+    if frozen.bytes.len() % BLOCK + size > BLOCK {
+        frozen.bytes.resize(frozen.bytes.len().next_multiple_of(BLOCK), 0);
+    }
+    frozen.words(&[words.len() as u64 + 1]);
+    frozen.words(&words);
+}
+
+/// Answers at every order, of every class at the small ones, and refusals.
+fn matrices() {
+    let mut frozen = Frozen::new();
+    for (place, call) in CALLS.iter().enumerate().filter(|(_, call)| ffi::has(call.name)) {
+        let mut rng = Rng::new(23 + place as u64);
+        let mut cases = 0;
+        for sides in frozen_sides(call) {
+            let shapes = (call.reads)(&sides);
+            let largest = sides.iter().copied().max().unwrap_or(3);
+            let classes = (0..CLASSES.len()).filter(|class| largest <= 4 || *class == largest % 5);
+            for class in classes {
+                let (slices, number) = draw(&mut rng, class, &shapes);
+                let slices: Vec<&[f64]> = slices.iter().map(Vec::as_slice).collect();
+                let given = Given { slices: &slices, number };
+                let mut result = vec![BEFORE; (call.writes)(&sides)];
+                let told = (call.theirs)(&sides)(&given, &mut result);
+                record(&mut frozen, place, &sides, &given, told, &result);
+                cases += 1;
+            }
+        }
+        let sides = &(call.sides)()[0];
+        let sides: Vec<usize> = (0..sides.len()).map(|i| 2 + i).collect();
+        for case in refused(call, &sides, &[0, 17]) {
+            let entries: Vec<f64> = (0..64).map(|_| rng.unit()).collect();
+            let slices: Vec<&[f64]> = case.lengths.iter().map(|n| &entries[..*n]).collect();
+            let given = Given { slices: &slices, number: 1.0 };
+            record(&mut frozen, place, &case.sides, &given, case.number, &vec![BEFORE; case.length]);
+            cases += 1;
+        }
+        frozen.line(call.name, cases);
+    }
+    frozen.write("kernel_vectors");
+}
+
+/// Every order, and some sides that differ.
+fn frozen_sides(call: &Call) -> Vec<Vec<usize>> {
+    let all = (call.sides)();
+    let is_square = |sides: &Vec<usize>| sides.iter().all(|n| *n == sides[0]);
+    let rest = all.iter().filter(|sides| !is_square(sides)).step_by(23);
+    all.iter().filter(|sides| is_square(sides)).chain(rest).cloned().collect()
+}
+
 pub fn write() {
     numbers();
+    matrices();
 }

@@ -7,7 +7,10 @@ use Rattle.kernel.specs.Answer.{Outcome, refused, answered}
 use Rattle.linalg.specs.declared.Written.{Written}
 use Rattle.linalg.specs.declared.Number.{Number}
 use Rattle.linalg.specs.Answer.{after, Leaves, given}
-use Rattle.capi.specs.Told.{told, Tells, code, entered}
+use Rattle.tracks.specs.declared.format.ReadList.{ReadList}
+use Rattle.tracks.specs.declared.format.WrittenList.{WrittenList}
+use Rattle.tracks.specs.Calls.{readAnswer, writeAnswer}
+use Rattle.capi.specs.Told.{told, Tells, code, entered, toldRead, enteredRead, toldWritten, enteredLength}
 
 after-told : (outcome : Outcome (List Float)) (old : List Float) → (code (after outcome old .0), after outcome old .1) ≡ told outcome old
 after-told (refused k) old = refl
@@ -26,3 +29,21 @@ entered-told (answered v) old = refl
 pub gives-tells : (outcome : Outcome Float) (old new : Float) (answer : Number) (r : ℕ) → (r, new) ≡ entered answer old → answer ≡ given outcome → Tells outcome old r new
 unfolding Tells
 gives-tells outcome old new answer r h g = h ∙ ap (λ (a : Number). entered a old) g ∙ entered-told outcome old
+
+-- a list that is read
+read-told : (l : List ℕ) (outcome : Outcome (List (List ℕ))) (n d : ℕ) → enteredRead (readAnswer l outcome) n d ≡ toldRead l outcome n d
+unfolding toldRead
+read-told l (refused k) n d = refl
+read-told l (answered tracks) n d = refl
+
+pub reads-tells : (l : List ℕ) (outcome : Outcome (List (List ℕ))) (n d : ℕ) (answer : ReadList) (told : ℕ × (ℕ × ℕ)) → told ≡ enteredRead answer n d → answer ≡ readAnswer l outcome → told ≡ toldRead l outcome n d
+reads-tells l outcome n d answer told h a = h ∙ ap (λ (x : ReadList). enteredRead x n d) a ∙ read-told l outcome n d
+
+-- a list that is written
+written-told : (outcome : Outcome (List ℕ)) (old : ℕ) → enteredLength (writeAnswer outcome) old ≡ toldWritten outcome old
+unfolding toldWritten
+written-told (refused k) old = refl
+written-told (answered l) old = refl
+
+pub writes-tells : (outcome : Outcome (List ℕ)) (old : ℕ) (answer : WrittenList) (told : ℕ × ℕ) → told ≡ enteredLength answer old → answer ≡ writeAnswer outcome → told ≡ toldWritten outcome old
+writes-tells outcome old answer told h a = h ∙ ap (λ (x : WrittenList). enteredLength x old) a ∙ written-told outcome old

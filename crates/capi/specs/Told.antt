@@ -1,12 +1,19 @@
 -- What C is told of an outcome, and what the memory that it lent holds afterwards.
 use Prim.Native.Nat.{ℕ}
 use mathlib.Core.Path.{_≡_}
+use mathlib.Core.List.{List}
+use lib.ListN.{length}
 use lib.Ieee.{Float}
 use Rattle.kernel.specs.Answer.{Outcome, refused, answered}
 use Rattle.linalg.specs.declared.Written.{Written}
 use Rattle.linalg.specs.declared.Written.the-variants as written
 use Rattle.linalg.specs.declared.Number.{Number}
 use Rattle.linalg.specs.declared.Number.the-variants as number
+use Rattle.tracks.specs.Read.{count, dimension}
+use Rattle.tracks.specs.declared.format.ReadList.{ReadList}
+use Rattle.tracks.specs.declared.format.ReadList.the-variants as read
+use Rattle.tracks.specs.declared.format.WrittenList.{WrittenList}
+use Rattle.tracks.specs.declared.format.WrittenList.the-variants as list
 
 -- A refusal's question, with the memory as it was; 0 and the result.
 abbrev pub told : {A : Type 0} → Outcome A → A → ℕ × A
@@ -26,3 +33,21 @@ code (written.Refused k) = k
 abbrev pub entered : Number → Float → ℕ × Float
 entered (number.Value x) old = (0, x)
 entered (number.Refused k) old = (k, old)
+
+-- Of a list that is read: the code, and the count and the dimension afterwards.
+unfoldable pub toldRead : List ℕ → Outcome (List (List ℕ)) → ℕ → ℕ → ℕ × (ℕ × ℕ)
+toldRead l (refused k) n d = (k, (n, d))
+toldRead l (answered tracks) n d = (0, (count l, dimension l))
+
+abbrev pub enteredRead : ReadList → ℕ → ℕ → ℕ × (ℕ × ℕ)
+enteredRead (read.Read n d) oldN oldD = (0, (n, d))
+enteredRead (read.Refused k) oldN oldD = (k, (oldN, oldD))
+
+-- Of a list that is written: the code, and the length afterwards.
+unfoldable pub toldWritten : Outcome (List ℕ) → ℕ → ℕ × ℕ
+toldWritten (refused k) old = (k, old)
+toldWritten (answered l) old = (0, length l)
+
+abbrev pub enteredLength : WrittenList → ℕ → ℕ × ℕ
+enteredLength (list.Length n) old = (0, n)
+enteredLength (list.Refused k) old = (k, old)

@@ -33,6 +33,7 @@ macro_rules! theirs {
 }
 
 theirs!(mul<M, K, N> g => generic::mat_mul::<M, K, N>(matrix(g.slices[0]), matrix(g.slices[1])));
+theirs!(square_mul<N> g => generic::mat_mul::<N, N, N>(matrix(g.slices[0]), matrix(g.slices[1])));
 theirs!(transpose<M, N> g => generic::mat_transpose::<M, N>(matrix(g.slices[0])));
 theirs!(ata<M, N> g => generic::mat_ata::<M, N>(matrix(g.slices[0])));
 theirs!(frobenius<M, N> g => [[generic::mat_frobenius::<M, N>(matrix(g.slices[0]))]]);
@@ -99,7 +100,7 @@ macro_rules! pairs {
     };
 }
 
-/// The sides of a product: instances of all 4,096 triples would take minutes to build.
+/// The sides of a product that is not square: instances of all 4,096 triples would take minutes to build.
 pub static PRODUCT_SIDES: [usize; 8] = [1, 2, 3, 4, 6, 9, 13, 16];
 
 macro_rules! product_row {
@@ -151,6 +152,9 @@ pub mod at {
     use super::*;
 
     pub fn mat_mul(s: &[usize]) -> Theirs {
+        if s[0] == s[1] && s[1] == s[2] {
+            return orders!(square_mul)[s[0] - 1];
+        }
         let place = |side: usize| PRODUCT_SIDES.iter().position(|p| *p == side).unwrap();
         PRODUCTS[place(s[0])][place(s[1])][place(s[2])]
     }

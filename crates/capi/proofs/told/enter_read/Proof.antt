@@ -1,0 +1,27 @@
+-- `enter_read` meets its contract.
+use borrow.Author.Needs.{needs}
+use denote.Ref.{now}
+use mathlib.Core.Path.{sym, ap}
+use Rattle.tracks.specs.declared.format.ReadList.{ReadList}
+use Rattle.capi.specs.Told.{enteredRead}
+use Rattle.capi.proofs.told.enter_read.Statement.{statement}
+use Rattle.capi.proofs.told.enter_read.Tie as tie
+
+enum-known-answer : tie.Need-enum-known-answer
+enum-known-answer c = search needs
+
+enum-known-answer-2 : tie.Need-enum-known-answer-2
+enum-known-answer-2 c = search needs
+
+cast-result : tie.Need-cast-result
+cast-result c = search needs
+
+returns : tie.Need-returns
+returns c = search needs
+
+returns-2 : tie.Need-returns-2
+returns-2 c = ap (λ (a : ReadList). enteredRead a (now (c .before .before .before .args .count)) (now (c .before .before .before .args .dimension))) (sym (c .before .answer2 .given .1))
+
+pub enter-read-spec : {M : Type 1} → statement M
+enter-read-spec =
+    tie.close (tie.spec enum-known-answer enum-known-answer-2 cast-result returns returns-2)

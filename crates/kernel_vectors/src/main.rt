@@ -1,0 +1,195 @@
+// Replays frozen answers of the matrix calls. The input is blocks of 65,536 bytes, each some records and then zeros; all
+// numbers have eight bytes, low byte first, and doubles stand by their bit patterns. A record has its length in numbers,
+// the call, three sides, a double, the lengths of the three slices that are read and of the one that is written, and the
+// answer's number; then the entries of the slices that are read, and those of the one that is written after the call.
+mod calls;
+
+ghost use Prim.Native.Nat.{_+_, _≤_};
+
+const HEAD: usize = 11;
+// The most entries of a slice, one of a wrong length included.
+const ENTRIES: usize = 272;
+
+const CALLS: usize = 17;
+
+// What stands in a slice before it is written.
+const BEFORE: f64 = 7.0;
+
+fn one_more(n: u64) -> u64 {
+    std::num::wrapping_add_u64(n, 1)
+}
+
+// The number of s at an index, counted in numbers; 0 past the end.
+fn number(s: &[u8], at: usize) -> u64 {
+    if 0x1_0000 <= at {
+        return 0;
+    }
+    replay::word(s, 8 * at)
+}
+
+// A slice's length out of a record.
+fn entries(s: &[u8], at: usize) -> usize
+    ensures { λ r. ⌜ r ≤ 272 ⌝ }
+{
+    (number(s, at) % 273) as usize
+}
+
+// What is left of s after so many numbers.
+fn after(s: &[u8], numbers: usize) -> &[u8]
+    requires { ⌜ numbers ≤ 272 ⌝ }
+{
+    let at = 8 * numbers;
+    if s.len() < at {
+        return s;
+    }
+    &s[at..]
+}
+
+// The entries at the start of s, and past those that were meant, whatever follows.
+fn load(s: &[u8]) -> [f64; ENTRIES] {
+    let mut a = [0.0; ENTRIES];
+    for i in 0..ENTRIES {
+        a[i] = replay::double(number(s, i));
+    }
+    a
+}
+
+// Whether the entries of out are those at the start of s.
+fn agrees(s: &[u8], out: &[f64]) -> bool {
+    for i in 0..out.len() {
+        if !replay::is_same(out[i], number(s, i)) {
+            return false;
+        }
+    }
+    true
+}
+
+// Whether the record s is answered as it says, with these slices; after is what it says of out after the call.
+fn is_met(
+    s: &[u8],
+    call: usize,
+    a: &[f64],
+    b: &[f64],
+    c: &[f64],
+    out: &mut [f64],
+    after: &[u8],
+) -> bool {
+    let m = number(s, 2) as usize;
+    let k = number(s, 3) as usize;
+    let n = number(s, 4) as usize;
+    let x = replay::double(number(s, 5));
+    if calls::answer(call, m, k, n, x, a, b, c, out) != number(s, 10) {
+        return false;
+    }
+    agrees(after, out)
+}
+
+// The same with the slices out of the record.
+fn is_record_met(s: &[u8], call: usize) -> bool {
+    let la = entries(s, 6);
+    let lb = entries(s, 7);
+    let lc = entries(s, 8);
+    let lo = entries(s, 9);
+    let at_a = after(s, HEAD);
+    let at_b = after(at_a, la);
+    let at_c = after(at_b, lb);
+    let at_out = after(at_c, lc);
+    let a = load(at_a);
+    let b = load(at_b);
+    let c = load(at_c);
+    let mut out = [BEFORE; ENTRIES];
+    is_met(
+        s,
+        call,
+        &a[..la],
+        &b[..lb],
+        &c[..lc],
+        &mut out[..lo],
+        at_out,
+    )
+}
+
+// Counts the record at the start of s under its call, and where it is answered otherwise, that too.
+fn replay_record(s: &[u8], cases: &mut [u64; CALLS], differences: &mut [u64; CALLS]) {
+    let call = (number(s, 1) % 17) as usize;
+    cases[call] = one_more(cases[call]);
+    if !is_record_met(s, call) {
+        differences[call] = one_more(differences[call]);
+    }
+}
+
+// The bytes of the record of s at an index; 0 where none stands.
+fn size(s: &[u8], at: usize) -> usize
+    requires { do ⌜ at ≤ (← ⟦s.len()⟧) ⌝ }
+    ensures { λ r. do ⌜ r + at ≤ (← ⟦s.len()⟧ .entry) ⌝ }
+{
+    let n = (replay::word(s, at) % 0x1_0000) as usize;
+    if s.len() - at < 8 * n {
+        return 0;
+    }
+    8 * n
+}
+
+// The records of a block, one after the other.
+fn replay_block(s: &[u8], cases: &mut [u64; CALLS], differences: &mut [u64; CALLS]) {
+    let mut at = 0;
+    let mut n = size(s, at);
+    while 0 < n {
+        replay_record(&s[at..], cases, differences);
+        at += n;
+        n = size(s, at);
+    }
+}
+
+// Reads a block and replays it; answers whether there was one.
+fn replay_some(cases: &mut [u64; CALLS], differences: &mut [u64; CALLS]) -> bool {
+    let mut buffer = io::large_buffer();
+    let n = io::read_full(0, &mut buffer);
+    if n == 0 {
+        return false;
+    }
+    replay_block(&buffer[..n], cases, differences);
+    true
+}
+
+// Reads to the end of the input. A proved loop has to end, and nothing says that the input does: so the turns are counted
+// down, from a number that no run uses up.
+fn replay_input(cases: &mut [u64; CALLS], differences: &mut [u64; CALLS]) {
+    let mut turns = u64::MAX;
+    while turns > 0 && replay_some(cases, differences) {
+        turns -= 1;
+    }
+}
+
+fn print_line(name: &[u8], cases: u64, differences: u64) {
+    io::write_all(1, name);
+    io::write_all(1, b" ");
+    io::print_decimal(1, cases);
+    io::write_all(1, b" cases ");
+    io::print_decimal(1, differences);
+    io::write_all(1, b" differences\n");
+}
+
+fn main() {
+    let mut cases = [0u64; CALLS];
+    let mut differences = [0u64; CALLS];
+    replay_input(&mut cases, &mut differences);
+    print_line(b"mat_mul", cases[0], differences[0]);
+    print_line(b"mat_transpose", cases[1], differences[1]);
+    print_line(b"mat_ata", cases[2], differences[2]);
+    print_line(b"mat_symmetrize", cases[4], differences[4]);
+    print_line(b"mat_trace", cases[5], differences[5]);
+    print_line(b"mat_trace_product", cases[6], differences[6]);
+    print_line(b"mat_trace_cube", cases[7], differences[7]);
+    print_line(b"mat_vec_mul", cases[8], differences[8]);
+    print_line(b"mat_quadratic_form", cases[9], differences[9]);
+    print_line(
+        b"mahalanobis_distance_squared_with_inv",
+        cases[11],
+        differences[11],
+    );
+    print_line(b"tikhonov", cases[13], differences[13]);
+    print_line(b"mat3_det", cases[14], differences[14]);
+    print_line(b"mat3_inv", cases[15], differences[15]);
+    print_line(b"mat3_solve", cases[16], differences[16]);
+}
