@@ -1,8 +1,7 @@
 -- Laws of the records that a list is walked through.
-use Prim.Native.Nat.{ℕ, zero, suc, _+_, _-_, _<_, _≤_}
+use Prim.Native.Nat.{ℕ, suc, _-_, _≤_}
 use native.Mathlib.Omega.{arith}
-use native.Mathlib.Nat.{le-of-suc-le-suc}
-use mathlib.Core.Path.{_≡_, refl, sym, ap, _∙_}
+use mathlib.Core.Path.{_≡_, refl, ap}
 use mathlib.Core.Bool.{Bool, true, false, _&&_}
 use mathlib.Core.List.{List, [], _∷_}
 use borrow.Author.Tests.{eq-eqb, ne-eqb, eqb-true}
@@ -10,7 +9,7 @@ use lib.Dec.{eqb}
 use lib.ListN.{length, drop, length-take, length-drop}
 use Rattle.kernel.specs.Answer.{Outcome, refused, answered}
 use Rattle.tracks.specs.Format.{fields}
-use Rattle.tracks.specs.Read.{Item, track, count, dimension, contents}
+use Rattle.tracks.specs.Read.{track, count, dimension, contents}
 use Rattle.tracks.specs.Calls.{ends}
 use Rattle.tracks.specs.Record.{recordEnd, recordIn, recordAt, sameBytes}
 use Rattle.tracks.specs.declared.format.Checked.the-variants.{End, Refused}
