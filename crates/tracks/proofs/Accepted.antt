@@ -1,21 +1,20 @@
 -- What an accepted field, and an accepted track, says of its bytes.
-use Prim.Native.Nat.{ℕ, zero, suc, _+_, _-_, _*_, _/_, _%_, _^_, _<_, _≤_}
+use Prim.Native.Nat.{ℕ, _+_, _*_, _%_, _^_, _<_, _≤_}
 use native.Mathlib.Omega.{arith}
-use mathlib.Core.Path.{_≡_, refl, sym, ap, _∙_, subst}
+use mathlib.Core.Path.{_≡_, refl, sym, ap, _∙_}
 use mathlib.Core.Logic.{_⊎_, inl, inr, ⊎-elim}
 use mathlib.Core.Bool.{Bool, true, false, not, _&&_}
-use mathlib.Core.List.{List, [], _∷_, _++_}
+use mathlib.Core.List.{List, []}
 use lib.Dec.{T, leb, eqb}
 use lib.Ieee.{binary64, nanBits}
 use lib.Ieee.Bits.{nanBits-above}
 use lib.ListN.{length}
-use borrow.Author.Tests.{leb-true, eqb-true, eqb-false, not-true, ltb-true, le-ltb, le-leb, lt-leb}
+use borrow.Author.Tests.{leb-true, eqb-true, not-true, ltb-true, le-ltb, le-leb, lt-leb}
 use Rattle.kernel.specs.Answer.{Outcome, refused, answered, ask}
 use Rattle.tracks.specs.Format.{fields, mapBytes, stands, word, finite, spare}
 use Rattle.tracks.specs.Read.{Item, stored, storedIf, field, items, track, tracks, count, dimension, countMet, dimensionMet, whole, contents, fitting, reading}
 use Rattle.tracks.specs.Calls.{ends, readAnswer}
 use Rattle.tracks.specs.declared.format.ReadList.the-variants as ReadList
-use Rattle.tracks.specs.declared.format.Checked.{Checked}
 use Rattle.tracks.specs.declared.format.Checked.the-variants.{End, Refused}
 use Rattle.tracks.proofs.Items.{ended, stopped, answered-inj, ask-met, items-ind, items-length}
 

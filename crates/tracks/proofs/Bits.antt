@@ -1,14 +1,14 @@
 -- Laws of numbers and their bytes, and of a byte and its bits, both ways.
 use Prim.Native.Nat.{ℕ, zero, suc, _+_, _-_, _*_, _/_, _%_, _^_, _<_, _≤_}
 use native.Mathlib.Omega.{arith}
-use native.Mathlib.Nat.{pow-suc, pow-succ', div-lt-iff-lt-mul, mod-lt, mod-eq-of-lt, div-eq-of-lt, add-mul-div-right, mul-comm, mul-assoc, eq-or-lt-of-le, le-of-suc-le-suc}
+use native.Mathlib.Nat.{pow-suc, pow-succ', div-lt-iff-lt-mul, mod-eq-of-lt, div-eq-of-lt, add-mul-div-right, mul-comm, mul-assoc, eq-or-lt-of-le, le-of-suc-le-suc}
 use mathlib.Core.Logic.{⊎-elim}
 use lib.Arith.{mod-mul}
 use lib.Pow.{pow-add, pow-pos}
-use mathlib.Core.Path.{_≡_, refl, sym, ap, _∙_, subst}
+use mathlib.Core.Path.{_≡_, refl, sym, ap, _∙_}
 use mathlib.Core.Bool.{Bool, true, false, cond}
 use mathlib.Core.List.{List, [], _∷_}
-use borrow.Author.Tests.{eqb-true, eqb-false, eq-eqb, ne-eqb}
+use borrow.Author.Tests.{eqb-true, eqb-false, eq-eqb}
 use lib.Dec.{eqb}
 use lib.ListN.{length}
 use Rattle.tracks.specs.Format.{Bytes, number, bytes}

@@ -1,15 +1,15 @@
 -- Laws of numbers in bytes, low byte first, and of the bits of a map.
-use Prim.Native.Nat.{ℕ, zero, suc, _+_, _-_, _*_, _/_, _%_, _^_, _<_, _≤_}
+use Prim.Native.Nat.{ℕ, zero, suc, _+_, _*_, _^_, _<_, _≤_}
 use native.Mathlib.Omega.{arith}
 use native.Mathlib.Nat.{eq-or-lt-of-le, le-of-suc-le-suc, pow-suc}
 use native.Mathlib.Numerals.{add-one}
 use mathlib.Core.Logic.{⊎-elim}
 use mathlib.Core.Path.{_≡_, refl, sym, ap, _∙_, subst}
 use mathlib.Core.Bool.{Bool, true, false, not, _&&_}
-use mathlib.Core.List.{List, [], _∷_, _++_}
+use mathlib.Core.List.{List, [], _∷_}
 use lib.ListN.{length, getD, take, drop, length-drop}
 use lib.Seq.{drop-cons, getD-drop, length-take-le}
-use Rattle.tracks.specs.Format.{Bytes, number, bytes, word, none}
+use Rattle.tracks.specs.Format.{Bytes, number, word, none}
 
 -- the number of one byte more
 number-more : (l : List ℕ) (at n : ℕ) → at < length l → number (take (suc n) (drop at l)) ≡ getD l at 0 + 256 * number (take n (drop (at + 1) l))

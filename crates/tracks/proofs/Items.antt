@@ -1,5 +1,5 @@
 -- Laws of items that are read one after another: each step of a loop over them, its way out, and what an accepted run says of its steps.
-use Prim.Native.Nat.{ℕ, zero, suc, _+_, _-_, _<_, _≤_}
+use Prim.Native.Nat.{ℕ, zero, suc, _+_, _-_, _<_}
 use native.Mathlib.Omega.{arith}
 use native.Mathlib.Nat.{add-zero, add-suc, eq-or-lt-of-le}
 use mathlib.Core.Logic.{⊎-elim}
@@ -12,7 +12,6 @@ use lib.Seq.{getD-at}
 use Rattle.kernel.specs.Answer.{Outcome, refused, answered, ask}
 use Rattle.tracks.specs.Read.{Item, oneMore, followed, items}
 use Rattle.tracks.specs.Calls.{ends}
-use Rattle.tracks.specs.declared.format.Checked.{Checked}
 use Rattle.tracks.specs.declared.format.Checked.the-variants.{End, Refused}
 
 -- an item that ends is read

@@ -11,3 +11,4 @@ pub mod Values
 pub mod Records
 pub mod RoundTrip
 pub mod RecordParts
+pub mod Apart

@@ -1,13 +1,13 @@
 -- Laws of a list that is written over from an index on.
-use Prim.Native.Nat.{ℕ, zero, suc, _+_, _<_, _≤_}
+use Prim.Native.Nat.{ℕ, _+_, _<_, _≤_}
 use native.Mathlib.Omega.{arith}
 use native.Mathlib.Nat.{add-assoc, add-zero}
 use native.Mathlib.Numerals.{add-one}
-use mathlib.Core.Path.{_≡_, refl, sym, ap, _∙_, subst}
-use mathlib.Core.List.{List, [], _∷_, _++_, map, append-assoc, map-append}
+use mathlib.Core.Path.{_≡_, refl, sym, ap, _∙_}
+use mathlib.Core.List.{List, [], _∷_, _++_, append-assoc, map-append}
 use lib.Ieee.{Float, binary64, ofBits}
 use lib.ListN.{length, take, drop, set, length-append, take-append-drop, length-drop, length-map}
-use lib.Seq.{set-split, drop-append-add, take-at, drop-at, length-take-le, drop-drop, take-append-le, drop-append-le}
+use lib.Seq.{set-split, drop-append-add, take-at, length-take-le, drop-drop}
 use Rattle.tracks.specs.Calls.{over, doubles}
 
 module _ {A : Type 0} where

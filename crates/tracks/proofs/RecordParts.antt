@@ -5,23 +5,25 @@ use native.Mathlib.Omega.{arith}
 use native.Mathlib.Nat.{add-zero}
 use native.Mathlib.Numerals.{add-one}
 use mathlib.Core.Path.{_≡_, refl, sym, ap, _∙_, subst}
-use mathlib.Core.Bool.{Bool, true, false}
-use mathlib.Core.List.{List, [], _∷_, _++_, flatMap, append-nil}
-use lib.ListN.{length, getD, take, drop}
-use lib.Seq.{take-suc, take-length, getD-at}
-use Rattle.kernel.specs.Answer.{Outcome, refused, answered}
-use Rattle.tracks.specs.Format.{Bytes, part, fields, mapBytes}
-use Rattle.tracks.specs.Read.{Item, items, track, tracks, count, dimension, dimensionMet, contents}
+use mathlib.Core.Bool.{true, false}
+use mathlib.Core.List.{List, [], _++_, flatMap, append-nil}
+use lib.ListN.{length, getD, take, drop, length-drop}
+use borrow.Author.Tests.{ne-eqb}
+use lib.Dec.{eqb}
+use lib.Seq.{length-take-le, take-suc, take-length}
+use Rattle.kernel.specs.Answer.{answered}
+use Rattle.tracks.specs.Format.{Bytes, part, fields}
+use Rattle.tracks.specs.Read.{Item, items, track, tracks, count, dimension, contents}
 use Rattle.tracks.specs.Write.{tabulate, recordOf, recordsOf}
 use Rattle.tracks.specs.Calls.{ends, joined}
-use Rattle.tracks.specs.Record.{offset, recordEnd, recordIn, recordAt, sameBytes}
+use Rattle.tracks.specs.Record.{offset, recordEnd, recordIn, recordAt, nextOffset, atEnd, sameBytes}
 use Rattle.tracks.specs.declared.format.Checked.the-variants.{End}
 use Rattle.tracks.proofs.Items.{push, answered-inj, items-back, items-get, items-more}
-use Rattle.tracks.proofs.Accepted.{Whole, contents-met, Track, track-met}
+use Rattle.tracks.proofs.Accepted.{Whole, contents-met, track-met}
 use Rattle.tracks.proofs.Lists.{flatMap-more, joined-more}
 use Rattle.tracks.proofs.Records.{end-here, end-later, same-refl, same-equal}
-use Rattle.tracks.proofs.Track.{Fit, Read, track-read, track-of}
-use Rattle.tracks.proofs.RoundTrip.{Fits, tracks-fit, accepted-length, accepted-records, some-fields}
+use Rattle.tracks.proofs.Track.{Fit, track-read, track-of}
+use Rattle.tracks.proofs.RoundTrip.{tracks-fit, accepted-length, accepted-records, some-fields}
 
 -- ---- records and fields
 
@@ -87,9 +89,9 @@ module _ (l : List ℕ) (h : Bytes l) (ts : List (List ℕ)) (ok : contents l �
       ∙ ap (recordEnd l f (offset l (i + suc m)) (offset l (suc i))) g
       ∙ subst (λ (k : ℕ). recordEnd l f (offset l k) (offset l (suc i)) (suc (m + r)) ≡ offset l (suc k)) e (walk m (suc i) r (omega arith))
 
-  start-two : offset l 0 ≡ 2
+  pub reader-start : offset l 0 ≡ 2
   unfolding tracks items
-  start-two = offset-is 0 (record { value = []; next = 2 }) refl
+  reader-start = offset-is 0 (record { value = []; next = 2 }) refl
 
   -- The part at the offset of track j is that track's record, up to where the next one starts.
   pub record-part : (j : ℕ) → j < count l → recordAt l (offset l j) ≡ part l (offset l j) (offset l (suc j))
@@ -99,7 +101,7 @@ module _ (l : List ℕ) (h : Bytes l) (ts : List (List ℕ)) (ok : contents l �
       let z : 0 + j ≡ j = omega arith in
       let w = subst (λ (k : ℕ). recordEnd l f (offset l k) (offset l 0) (suc (j + (count l - suc j))) ≡ offset l (suc k)) z (walk j 0 (count l - suc j) (omega arith)) in
       ap (recordIn l (offset l j)) ok
-      ∙ ap (part l (offset l j)) (ap (λ (k : ℕ). recordEnd l f (offset l j) k (count l)) (sym start-two) ∙ ap (recordEnd l f (offset l j) (offset l 0)) (sym e) ∙ w)
+      ∙ ap (part l (offset l j)) (ap (λ (k : ℕ). recordEnd l f (offset l j) k (count l)) (sym reader-start) ∙ ap (recordEnd l f (offset l j) (offset l 0)) (sym e) ∙ w)
 
   -- Each part's fields are the track's.
   pub record-fields : (j : ℕ) → j < count l → recordAt l (offset l j) ≡ recordOf (getD ts j [])
@@ -129,11 +131,34 @@ module _ (l : List ℕ) (h : Bytes l) (ts : List (List ℕ)) (ok : contents l �
   pub record-nowhere : (at : ℕ) → ((j : ℕ) → j < count l → offset l j ≡ at → ⊥) → recordAt l at ≡ []
   unfolding recordAt recordEnd
   record-nowhere at away =
-      ap (recordIn l at) ok ∙ ap (part l at) (ap (λ (k : ℕ). recordEnd l f at k (count l)) (sym start-two) ∙ none (count l) 0 (omega arith)) ∙ (let z : 0 - at ≡ 0 = omega arith in ap (λ (k : ℕ). take k (drop at l)) z)
+      ap (recordIn l at) ok ∙ ap (part l at) (ap (λ (k : ℕ). recordEnd l f at k (count l)) (sym reader-start) ∙ none (count l) 0 (omega arith)) ∙ (let z : 0 - at ≡ 0 = omega arith in ap (λ (k : ℕ). take k (drop at l)) z)
     where
       none : (m i : ℕ) → i + m ≡ count l → recordEnd l f at (offset l i) m ≡ 0
       none zero i e = refl
       none (suc m) i e = end-later l f at (offset l i) m (ends-at i (omega arith)) (away i (omega arith)) ∙ none m (suc i) (omega arith)
+
+  -- A reader starts at the first record, goes from each record to the next, and is at its end after the last.
+  part-length : (j : ℕ) → j < count l → length (recordAt l (offset l j)) ≡ offset l (suc j) - offset l j
+  part-length j lt =
+      let s = step j lt in
+      let w = track-met l f (offset l j) (s .here) (s .read) .within in
+      ap length (record-part j lt) ∙ length-take-le (offset l (suc j) - offset l j) (drop (offset l j) l) (omega (arith, length-drop (offset l j) l, w, s .next))
+
+  pub reader-next : (j : ℕ) → j < count l → nextOffset l (offset l j) ≡ offset l (suc j)
+  unfolding nextOffset
+  reader-next j lt = omega (arith, part-length j lt, rises j lt)
+
+  pub reader-more : (j : ℕ) → j < count l → atEnd l (offset l j) ≡ false
+  unfolding atEnd
+  reader-more j lt = ne-eqb (length (recordAt l (offset l j))) 0 (λ z. (let p = part-length j lt in let r = rises j lt in omega (arith, z, p, r)))
+
+  pub reader-ends : atEnd l (offset l (count l)) ≡ true
+  unfolding atEnd
+  reader-ends =
+      ap (λ (p : List ℕ). eqb (length p) 0) (record-nowhere (offset l (count l)) (λ j lt e.
+      let m : suc (j + (count l - suc j)) ≡ count l = omega arith in
+      let r = later j (count l - suc j) (omega arith) in
+      omega (arith, e, r, ap (offset l) m)))
 
 -- Two tracks of accepted lists of one dimension have equal record bytes exactly if their fields have equal bits.
 pub equal-records : (l m : List ℕ) → Bytes l → Bytes m → (ts us : List (List ℕ)) → contents l ≡ answered ts → contents m ≡ answered us → dimension l ≡ dimension m

@@ -1,16 +1,17 @@
 -- Laws of the records that a list is walked through.
-use Prim.Native.Nat.{ℕ, zero, suc, _+_, _-_, _<_, _≤_}
+use Prim.Native.Nat.{ℕ, suc, _-_, _≤_}
 use native.Mathlib.Omega.{arith}
-use native.Mathlib.Nat.{le-of-suc-le-suc}
-use mathlib.Core.Path.{_≡_, refl, sym, ap, _∙_}
+use mathlib.Core.Path.{_≡_, refl, ap}
 use mathlib.Core.Bool.{Bool, true, false, _&&_}
 use mathlib.Core.List.{List, [], _∷_}
 use borrow.Author.Tests.{eq-eqb, ne-eqb, eqb-true}
 use lib.Dec.{eqb}
-use lib.ListN.{length, getD}
-use Rattle.tracks.specs.Read.{Item, track}
+use lib.ListN.{length, drop, length-take, length-drop}
+use Rattle.kernel.specs.Answer.{Outcome, refused, answered}
+use Rattle.tracks.specs.Format.{fields}
+use Rattle.tracks.specs.Read.{track, count, dimension, contents}
 use Rattle.tracks.specs.Calls.{ends}
-use Rattle.tracks.specs.Record.{recordEnd, sameBytes}
+use Rattle.tracks.specs.Record.{recordEnd, recordIn, recordAt, sameBytes}
 use Rattle.tracks.specs.declared.format.Checked.the-variants.{End, Refused}
 use Rattle.tracks.proofs.Items.{ended, stopped}
 
@@ -28,6 +29,15 @@ module _ (l : List ℕ) (f at from n : ℕ) where
   pub end-refused : {q : ℕ} → ends (track l f from) ≡ Refused q → recordEnd l f at from (suc n) ≡ 0
   unfolding recordEnd
   end-refused {q} e = rw (stopped (track l f from) q e) refl
+
+-- a part is no longer than what follows its offset
+pub record-short : (l : List ℕ) (at : ℕ) → length (recordAt l at) ≤ length l - at
+unfolding recordAt
+record-short l at = by (contents l)
+  where
+    by : (o : Outcome (List (List ℕ))) → length (recordIn l at o) ≤ length l - at
+    by (refused q) = omega arith
+    by (answered ts) = let e = recordEnd l (fields (dimension l)) at 2 (count l) in omega (arith, length-take (e - at) (drop at l), length-drop at l)
 
 -- ---- equal bytes
 

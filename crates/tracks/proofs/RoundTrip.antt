@@ -4,23 +4,23 @@ use native.Mathlib.Omega.{arith}
 use native.Mathlib.Nat.{eq-or-lt-of-le, zero-mul, suc-mul}
 use mathlib.Core.Path.{_≡_, refl, sym, ap, _∙_, subst}
 use mathlib.Core.Logic.{⊎-elim}
-use mathlib.Core.Bool.{Bool, true, false}
-use mathlib.Core.List.{List, [], _∷_, _++_, flatMap, append-nil}
-use borrow.Author.Tests.{le-leb, leb-true, eq-eqb}
+use mathlib.Core.Bool.{true}
+use mathlib.Core.List.{List, [], _∷_, flatMap, append-nil}
+use borrow.Author.Tests.{le-leb, eq-eqb}
 use lib.ListN.{length, getD, take, drop, length-append, length-drop, List·getD-append}
 use lib.Seq.{take-all, getD-at, length-take-le}
 use lib.Ieee.{Float}
-use Rattle.kernel.specs.Answer.{Outcome, refused, answered}
-use Rattle.tracks.specs.Format.{Bytes, Words, part, fields}
-use Rattle.tracks.specs.Read.{Item, items, track, tracks, count, dimension, countMet, dimensionMet, whole, contents}
+use Rattle.kernel.specs.Answer.{answered}
+use Rattle.tracks.specs.Format.{Bytes, Words, fields}
+use Rattle.tracks.specs.Read.{Item, track, tracks, count, dimension, countMet, dimensionMet, whole, contents}
 use Rattle.tracks.specs.Write.{tabulate, allFinite, recordOf, recordsOf, listOf, tracksOf, written}
 use Rattle.tracks.specs.Calls.{doubles, patterns, Doubles, joined}
-use Rattle.tracks.proofs.Items.{push, items-ind, items-length}
-use Rattle.tracks.proofs.Accepted.{Whole, contents-met, contents-head}
+use Rattle.tracks.proofs.Items.{items-ind, items-length}
+use Rattle.tracks.proofs.Accepted.{contents-met, contents-head}
 use Rattle.tracks.proofs.Lists.{length-tabulate, getD-tabulate, row}
 use Rattle.tracks.proofs.Stream.{Part, read-bytes, bytes-read}
 use Rattle.tracks.proofs.Track.{Fit, track-read, track-of}
-use Rattle.tracks.proofs.Written.{Listed, written-met, length-patterns}
+use Rattle.tracks.proofs.Written.{written-met}
 use Rattle.tracks.proofs.Values.{patterns-doubles, doubles-patterns, patterns-words, all-append, all-take, all-drop, words-append, words-take, words-drop, joined-tracks, tracks-joined}
 
 -- ---- tracks that a list can hold

@@ -1,23 +1,22 @@
 -- A track and its bytes: what is read is what its bytes are made of, and the bytes of a track are read as that track.
-use Prim.Native.Nat.{ℕ, zero, suc, _+_, _-_, _*_, _/_, _%_, _^_, _<_, _≤_}
+use Prim.Native.Nat.{ℕ, _+_, _-_, _*_, _/_, _%_, _^_, _<_, _≤_}
 use native.Mathlib.Omega.{arith}
-use native.Mathlib.Nat.{add-sub-cancel-left, add-zero, eq-or-lt-of-le}
-use native.Mathlib.Numerals.{add-one}
+use native.Mathlib.Nat.{add-sub-cancel-left, eq-or-lt-of-le}
 use native.Mathlib.Decide.{decLt}
-use mathlib.Core.Path.{_≡_, refl, sym, ap, _∙_, subst}
-use mathlib.Core.Logic.{_⊎_, inl, inr, ⊎-elim}
-use mathlib.Core.Bool.{Bool, true, false, not, cond}
-use mathlib.Core.List.{List, [], _∷_, _++_, flatMap, append-assoc}
+use mathlib.Core.Path.{_≡_, refl, sym, ap, _∙_}
+use mathlib.Core.Logic.{⊎-elim}
+use mathlib.Core.Bool.{Bool, true, false, not}
+use mathlib.Core.List.{List, [], _∷_, _++_, append-assoc}
 use borrow.Author.Tests.{le-leb, eqb-true, eqb-false}
-use lib.Dec.{eqb, leb}
+use lib.Dec.{eqb}
 use lib.ListN.{length, getD, take, drop, length-append, length-drop, List·getD-append, List·getD-eq-default}
 use lib.Seq.{getD-take, getD-drop, getD-at, length-take-le, ext-getD, take-at, drop-drop, drop-at}
-use Rattle.kernel.specs.Answer.{Outcome, refused, answered, ask}
-use Rattle.tracks.specs.Format.{Bytes, Words, part, mapBytes, stands, number, bytes, word, finite, none, spare}
+use Rattle.kernel.specs.Answer.{answered}
+use Rattle.tracks.specs.Format.{Bytes, Words, part, mapBytes, stands, number, bytes, word, finite, spare}
 use Rattle.tracks.specs.Read.{Item, stored, storedIf, field, items, track}
-use Rattle.tracks.specs.Write.{tabulate, nonzero, packed, mapByte, mapOf, fieldBytes, storedBytes, recordOf, allFinite}
+use Rattle.tracks.specs.Write.{nonzero, mapByte, mapOf, fieldBytes, storedBytes, recordOf, allFinite}
 use Rattle.tracks.proofs.Items.{push, items-ind}
-use Rattle.tracks.proofs.Accepted.{Stored, field-met, Track, track-met}
+use Rattle.tracks.proofs.Accepted.{Stored, field-met, track-met}
 use Rattle.tracks.proofs.Bytes.{none-each, none-all, bytes-take, bytes-drop, word-lt}
 use Rattle.tracks.proofs.Bits.{bytes-number, number-bytes, byte-packed, packed-same, packed-bit}
 use Rattle.tracks.proofs.Lists.{length-tabulate, getD-tabulate, getD-more}

@@ -1,20 +1,20 @@
 -- Laws of values and their bits, and of tracks and their values one after another.
-use Prim.Native.Nat.{ℕ, zero, suc, _+_, _*_, _^_, _<_, _≤_}
+use Prim.Native.Nat.{ℕ, zero, suc, _+_, _*_, _<_}
 use native.Mathlib.Omega.{arith}
 use native.Mathlib.Nat.{zero-mul, suc-mul, le-of-suc-le-suc, add-comm}
 use mathlib.Core.Path.{_≡_, refl, sym, ap, _∙_, subst}
 use mathlib.Core.Bool.{Bool, true, false, not, _&&_}
 use mathlib.Core.List.{List, [], _∷_, _++_, flatMap}
 use lib.Dec.{T}
-use lib.ListN.{length, getD, take, drop, length-append, length-drop}
+use lib.ListN.{length, getD, take, drop}
 use lib.Seq.{take-add, take-all, take-at, drop-at, drop-drop, ext-getD, getD-drop}
-use lib.Ieee.{Float, nan, binary64, fits, isNan, nanBits, ofBits, toBits}
+use lib.Ieee.{Float, binary64, isNan, ofBits}
 use lib.Ieee.Bits.{ofBits-toBits, toBits-ofBits, toBits-lt, nanBits-is}
 use Rattle.tracks.specs.Format.{Words, finite}
 use Rattle.tracks.specs.Write.{tabulate, allFinite, tracksOf}
 use Rattle.tracks.specs.Calls.{doubles, patterns, Doubles, joined}
 use Rattle.tracks.proofs.Accepted.{finite-no-nan}
-use Rattle.tracks.proofs.Lists.{length-tabulate, getD-tabulate, tabulate-more, joined-more}
+use Rattle.tracks.proofs.Lists.{length-tabulate, getD-tabulate, joined-more}
 
 -- ---- values and their bits
 

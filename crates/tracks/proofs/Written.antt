@@ -1,11 +1,11 @@
 -- Laws of the bytes of fields and of maps, as a loop writes them.
-use Prim.Native.Nat.{ℕ, zero, suc, _+_, _-_, _*_, _/_, _%_, _^_, _<_, _≤_}
+use Prim.Native.Nat.{ℕ, zero, suc, _+_, _*_, _/_, _%_, _^_, _<_, _≤_}
 use native.Mathlib.Omega.{arith}
 use native.Mathlib.Nat.{zero-mul, suc-mul, le-of-suc-le-suc, pow-suc, div-div-eq-div-mul}
 use native.Mathlib.Numerals.{add-one}
-use mathlib.Core.Path.{_≡_, refl, sym, ap, _∙_, subst}
+use mathlib.Core.Path.{_≡_, refl, sym, ap, _∙_}
 use mathlib.Core.Bool.{Bool, true, false, not, _&&_, cond}
-use mathlib.Core.List.{List, [], _∷_, _++_, map, flatMap, append-assoc}
+use mathlib.Core.List.{List, [], _∷_, _++_, flatMap, append-assoc}
 use borrow.Author.Tests.{eq-eqb, ne-eqb, eqb-true, leb-true}
 use lib.Dec.{T, eqb, leb}
 use lib.ListN.{length, getD, take, drop, set, length-append, length-map, take-append-drop, length-drop, List·getD-map}
@@ -13,8 +13,8 @@ use lib.Seq.{sets-eq, take-add, take-all, length-take-le}
 use lib.Ieee.{Float, nan, inf, fin, binary64, toBits, isNan, ne}
 use lib.Ieee.Compare.{differs-from-itself, nan-differs}
 use Rattle.tracks.specs.Format.{fields, mapBytes, bytes, finite}
-use Rattle.tracks.specs.Write.{tabulate, nonzero, packed, mapByte, mapOf, fieldBytes, storedBytes, recordOf, recordsOf, listOf, tracksOf, allFinite, written}
-use Rattle.kernel.specs.Answer.{Outcome, refused, answered, ask}
+use Rattle.tracks.specs.Write.{tabulate, packed, mapByte, mapOf, fieldBytes, storedBytes, recordOf, recordsOf, listOf, tracksOf, allFinite, written}
+use Rattle.kernel.specs.Answer.{Outcome, refused, answered}
 use Rattle.tracks.specs.Read.{countMet, dimensionMet}
 use Rattle.tracks.specs.Calls.{over, patterns, writeAnswer}
 use Rattle.tracks.specs.declared.format.WrittenList.the-variants as WrittenList

@@ -1,7 +1,7 @@
 -- What the calls answer, and what they leave in lent memory.
 use Prim.Native.Nat.{ℕ, _+_}
 use mathlib.Core.Path.{_≡_}
-use mathlib.Core.List.{List, [], _∷_, _++_, map, flatMap}
+use mathlib.Core.List.{List, _++_, map, flatMap}
 use lib.Dec.{T}
 use lib.ListN.{length, getD, take, drop}
 use lib.Ieee.{Float, nan, binary64, fits, ofBits, toBits}

@@ -5,7 +5,7 @@ use mathlib.Core.List.{List, [], _∷_, _++_}
 use lib.Dec.{eqb, leb}
 use lib.ListN.{length, getD}
 use Rattle.kernel.specs.Answer.{Outcome, refused, answered, ask}
-use Rattle.tracks.specs.Format.{fields, mapBytes, stands, number, word, finite, none, spare}
+use Rattle.tracks.specs.Format.{fields, mapBytes, stands, word, finite, spare}
 
 -- What stands at an offset, and the offset after it.
 pub record Item (A : Type 0) : Type 0 where

@@ -1,8 +1,9 @@
 -- A track's own bytes as a part of the list, and when two such parts are equal.
-use Prim.Native.Nat.{ℕ, zero, suc}
+use Prim.Native.Nat.{ℕ, zero, suc, _+_}
 use mathlib.Core.Bool.{Bool, true, false, _&&_}
 use mathlib.Core.List.{List, [], _∷_}
 use lib.Dec.{eqb}
+use lib.ListN.{length}
 use Rattle.kernel.specs.Answer.{Outcome, refused, answered}
 use Rattle.tracks.specs.Format.{part, fields}
 use Rattle.tracks.specs.Read.{Item, track, tracks, count, dimension, contents}
@@ -37,6 +38,15 @@ recordIn l at (answered ts) = part l at (recordEnd l (fields (dimension l)) at 2
 unfoldable pub recordAt : List ℕ → ℕ → List ℕ
 unfolding contents recordEnd
 recordAt l at = recordIn l at (contents l)
+
+-- The offset after the record at an offset, and whether there is none.
+unfoldable pub nextOffset : List ℕ → ℕ → ℕ
+unfolding recordAt
+nextOffset l at = at + length (recordAt l at)
+
+unfoldable pub atEnd : List ℕ → ℕ → Bool
+unfolding recordAt
+atEnd l at = eqb (length (recordAt l at)) 0
 
 -- Whether two parts have one length and the same bytes.
 unfoldable pub sameBytes : List ℕ → List ℕ → Bool

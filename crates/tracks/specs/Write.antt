@@ -1,10 +1,10 @@
 -- Writing a list record of document 01: the bytes of tracks.
 use Prim.Native.Nat.{ℕ, zero, suc, _+_, _*_, _^_}
-use mathlib.Core.Bool.{Bool, true, false, not, _&&_, cond}
+use mathlib.Core.Bool.{Bool, true, not, _&&_, cond}
 use mathlib.Core.List.{List, [], _∷_, _++_, flatMap}
 use lib.Dec.{eqb, leb}
 use lib.ListN.{length, getD, take, drop}
-use Rattle.kernel.specs.Answer.{Outcome, refused, answered, ask}
+use Rattle.kernel.specs.Answer.{Outcome, answered, ask}
 use Rattle.tracks.specs.Format.{fields, mapBytes, bytes, finite}
 use Rattle.tracks.specs.Read.{countMet, dimensionMet}
 

@@ -1,3 +1,4 @@
+// Reading and writing the list record.
 ghost use mathlib.Core.Path.{_≡_};
 ghost use Prim.Native.Nat.{_+_, _*_, _/_, _<_, _≤_};
 ghost use mathlib.Core.List.{[], _∷_};
@@ -6,7 +7,6 @@ ghost use Rattle.tracks.specs.Format.{fields, mapBytes, stands, word, fi
 ghost use Rattle.tracks.specs.Read.{countMet, dimensionMet, stored, field, items, track, tracks, contents, reading};
 ghost use Rattle.tracks.specs.Calls.{ends, over, joined, patterns, Accepted, Puts, readAnswer, readValues, Writes, writeAnswer, writeBytes};
 ghost use Rattle.tracks.specs.Write.{allFinite, nonzero, mapByte, mapOf, fieldBytes, storedBytes, recordOf, recordsOf, tracksOf, written};
-ghost use lib.Ieee.{binary64, toBits};
 use kernel::question;
 
 // Where an item of a list ends, or the number of the first question that it does not meet.

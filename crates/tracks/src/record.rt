@@ -3,7 +3,7 @@ ghost use mathlib.Core.Path.{_≡_};
 ghost use Prim.Native.Nat.{_≤_};
 ghost use lib.ListN.{length};
 ghost use Rattle.tracks.specs.Format.{fields};
-ghost use Rattle.tracks.specs.Record.{recordEnd, recordAt, sameBytes};
+ghost use Rattle.tracks.specs.Record.{recordEnd, recordAt, nextOffset, atEnd, sameBytes};
 use crate::format;
 use crate::format::Checked;
 use crate::format::ReadList;
@@ -46,6 +46,22 @@ pub fn record(list: &[u8], at: usize) -> &[u8]
         }
         ReadList::Refused(_) => &list[..0],
     }
+}
+
+// The offset after the record at an offset; the offset itself where no record starts there.
+pub fn next_offset(list: &[u8], at: usize) -> usize
+    ensures { λ r. ⌜ r ≡ nextOffset (now (list .entry)) at ⌝ }
+{
+    let part = record(list, at);
+    at + part.len()
+}
+
+// Whether no record starts at an offset, as at the end of a list.
+pub fn at_end(list: &[u8], at: usize) -> bool
+    ensures { λ r. ⌜ r ≡ atEnd (now (list .entry)) at ⌝ }
+{
+    let part = record(list, at);
+    part.len() == 0
 }
 
 // Whether two records are equal.

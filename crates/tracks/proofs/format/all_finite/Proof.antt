@@ -1,7 +1,7 @@
 -- `all_finite` meets its contract: before turn i the first i values are finite.
 use mathlib.Core.Path.{_≡_, refl, sym, ap, _∙_}
-use mathlib.Core.Bool.{true, false}
-use Prim.Native.Nat.{ℕ, _-_, _≤_}
+use mathlib.Core.Bool.{true}
+use Prim.Native.Nat.{_-_, _≤_}
 use native.Mathlib.Omega.{arith}
 use borrow.Author.Tests.{not-true, not-false}
 use denote.Ref.{now}

@@ -1,6 +1,6 @@
 -- `check_fields` meets its contract: before turn k the first k fields are accepted, and end at `at`.
 use mathlib.Core.Path.{_≡_, refl, sym, ap, _∙_}
-use Prim.Native.Nat.{ℕ, _+_, _-_, _<_, _≤_}
+use Prim.Native.Nat.{ℕ, _+_, _-_, _≤_}
 use denote.Ref.{now}
 use native.Mathlib.Nat.{le-antisymm}
 use native.Mathlib.Omega.{arith}
@@ -9,7 +9,7 @@ use lib.ListN.{length}
 use Rattle.tracks.specs.Format.{mapBytes}
 use Rattle.tracks.specs.Read.{field, items}
 use Rattle.tracks.specs.Calls.{ends}
-use Rattle.tracks.specs.declared.format.Checked.the-variants.{End, Refused}
+use Rattle.tracks.specs.declared.format.Checked.the-variants.{End}
 use Rattle.tracks.proofs.Items.{ends-more, ends-stop}
 use Rattle.tracks.proofs.Accepted.{field-within}
 use Rattle.tracks.proofs.format.check_fields.Statement.{statement}

@@ -1,15 +1,14 @@
 -- `check_list` meets its contract: each way out answers the first question of `contents` that is not met.
-use mathlib.Core.Path.{_≡_, refl, sym, ap, _∙_}
+use mathlib.Core.Path.{_≡_, sym, ap, _∙_}
 use mathlib.Core.Bool.{true, false}
-use Prim.Native.Nat.{ℕ, _≤_}
+use Prim.Native.Nat.{ℕ}
 use native.Mathlib.Omega.{arith}
 use borrow.Author.Tests.{le-leb, lt-leb, eq-eqb, ne-eqb, not-true, not-false}
 use denote.Ref.{now}
 use lib.ListN.{length}
 use Rattle.tracks.specs.Format.{fields}
-use Rattle.tracks.specs.Read.{Item, tracks, count, dimension, countMet, dimensionMet, whole, contents}
+use Rattle.tracks.specs.Read.{tracks, count, dimension, whole, contents}
 use Rattle.tracks.specs.Calls.{ends, readAnswer}
-use Rattle.tracks.specs.declared.format.Checked.{Checked}
 use Rattle.tracks.proofs.Accepted.{contents-head, dimension-small, whole-ended, whole-stopped}
 use borrow.Author.Needs.{needs}
 use Rattle.tracks.proofs.format.check_list.Statement.{statement}

@@ -6,7 +6,7 @@ use native.Mathlib.Omega.{arith}
 use borrow.Author.Needs.{needs}
 use denote.Ref.{now}
 use lib.ListN.{length}
-use Rattle.tracks.specs.Read.{items, track, tracks}
+use Rattle.tracks.specs.Read.{items, tracks}
 use Rattle.tracks.specs.Calls.{ends}
 use Rattle.tracks.specs.declared.format.Checked.the-variants.{End}
 use Rattle.tracks.proofs.Items.{ends-more, ends-stop}

@@ -1,16 +1,15 @@
 -- `check_write` meets its contract: each way out answers the first question of `written` that is not met.
-use mathlib.Core.Path.{_≡_, refl, sym, ap, _∙_}
-use mathlib.Core.Bool.{true, false}
+use mathlib.Core.Path.{_≡_, sym, ap, _∙_}
+use mathlib.Core.Bool.{true}
 use Prim.Native.Nat.{ℕ, _+_, _*_, _≤_}
 use native.Mathlib.Nat.{mul-le-mul-right}
 use native.Mathlib.Omega.{arith}
 use borrow.Author.Tests.{le-leb, lt-leb, leb-true, eq-eqb, ne-eqb, not-true, not-false}
 use denote.Ref.{now}
-use lib.Dec.{leb, eqb}
 use lib.ListN.{length}
 use Rattle.tracks.specs.Format.{fields, mapBytes}
 use Rattle.tracks.specs.Read.{countMet, dimensionMet}
-use Rattle.tracks.specs.Write.{allFinite, listOf, tracksOf, written, storedBytes}
+use Rattle.tracks.specs.Write.{allFinite, listOf, tracksOf, written}
 use Rattle.tracks.specs.Calls.{patterns}
 use Rattle.tracks.specs.declared.format.WrittenList.the-variants as WrittenList
 use Rattle.tracks.proofs.Accepted.{dimension-small}

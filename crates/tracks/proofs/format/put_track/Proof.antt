@@ -1,15 +1,15 @@
 -- `put_track` meets its contract: before turn k the first k fields are in their places.
 use mathlib.Core.Path.{_≡_, refl, sym, ap, _∙_}
-use Prim.Native.Nat.{ℕ, _+_, _-_, _≤_, _<_}
+use Prim.Native.Nat.{ℕ, _+_, _-_, _≤_}
 use native.Mathlib.Nat.{le-antisymm}
 use native.Mathlib.Omega.{arith}
-use mathlib.Core.List.{List, [], _∷_, _++_}
+use mathlib.Core.List.{List, [], _∷_}
 use denote.Ref.{now}
 use lib.ListN.{length}
 use lib.Ieee.{Float}
 use Rattle.kernel.specs.Answer.{answered}
 use Rattle.tracks.specs.Format.{mapBytes}
-use Rattle.tracks.specs.Read.{Item, field, items, track}
+use Rattle.tracks.specs.Read.{Item, field, items}
 use Rattle.tracks.specs.Calls.{over, doubles}
 use Rattle.tracks.proofs.Items.{push, answered-inj, items-at, items-more, items-length}
 use Rattle.tracks.proofs.Accepted.{Track, track-met}

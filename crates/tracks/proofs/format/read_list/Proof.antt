@@ -1,17 +1,15 @@
 -- `read_list` meets its contract: the list's questions, question 2, and then the values.
 use mathlib.Core.Path.{_≡_, refl, sym, ap, _∙_}
-use mathlib.Core.Bool.{true, false}
-use Prim.Native.Nat.{ℕ, _*_, _≤_, _<_}
+use Prim.Native.Nat.{ℕ, _*_, _≤_}
 use native.Mathlib.Nat.{mul-le-mul-right}
 use native.Mathlib.Omega.{arith}
 use mathlib.Core.List.{List}
 use borrow.Author.Tests.{leb-true}
 use denote.Ref.{now}
 use lib.ListN.{length}
-use lib.Ieee.{Float}
 use Rattle.kernel.specs.Answer.{Outcome, answered}
 use Rattle.tracks.specs.Format.{fields}
-use Rattle.tracks.specs.Read.{Item, tracks, count, dimension, contents, reading}
+use Rattle.tracks.specs.Read.{tracks, count, dimension, contents}
 use Rattle.tracks.specs.Calls.{readAnswer, readValues}
 use Rattle.tracks.proofs.Accepted.{Whole, contents-met, dimension-small, read-accepted, read-refused, reading-fits, reading-short, reading-refused}
 use borrow.Author.Needs.{needs}

@@ -1,7 +1,7 @@
 -- `spare_clear` meets its contract: before turn i the first i spare bits are 0.
 use mathlib.Core.Path.{_≡_, refl, sym, ap, _∙_}
-use mathlib.Core.Bool.{true, false}
-use Prim.Native.Nat.{_+_, _-_, _*_, _<_, _≤_}
+use mathlib.Core.Bool.{true}
+use Prim.Native.Nat.{_+_, _-_, _*_, _≤_}
 use native.Mathlib.Nat.{le-antisymm}
 use denote.Ref.{now}
 use native.Mathlib.Omega.{arith}

@@ -1,12 +1,8 @@
 -- `write_field` meets its contract.
-use mathlib.Core.Path.{_≡_, refl, sym, ap, _∙_}
-use Prim.Native.Nat.{ℕ, _+_}
+use mathlib.Core.Path.{sym, ap, _∙_}
 use native.Mathlib.Omega.{arith}
-use mathlib.Core.List.{List, []}
 use denote.Ref.{now}
 use lib.ListN.{length}
-use Rattle.tracks.specs.Format.{bytes}
-use Rattle.tracks.specs.Write.{fieldBytes}
 use Rattle.tracks.specs.Calls.{over}
 use Rattle.tracks.proofs.Over.{over-none}
 use Rattle.tracks.proofs.Written.{field-none, field-some, length-bytes}

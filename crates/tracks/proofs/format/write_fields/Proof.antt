@@ -1,10 +1,10 @@
 -- `write_fields` meets its contract: before turn k the bytes of the first k fields are written.
 use mathlib.Core.Path.{_≡_, refl, sym, ap, _∙_}
-use Prim.Native.Nat.{ℕ, _+_, _-_, _≤_, _<_}
+use Prim.Native.Nat.{ℕ, _+_, _-_, _≤_}
 use native.Mathlib.Omega.{arith}
-use mathlib.Core.List.{List, [], _∷_, _++_, flatMap}
+use mathlib.Core.List.{List, _++_, flatMap}
 use denote.Ref.{now}
-use lib.ListN.{length, take, getD, length-append}
+use lib.ListN.{length, take, length-append}
 use lib.Seq.{take-all}
 use Rattle.tracks.specs.Write.{fieldBytes, storedBytes}
 use Rattle.tracks.specs.Calls.{over, patterns}

@@ -1,13 +1,13 @@
 -- `write_record` meets its contract: the map, and then the fields.
-use mathlib.Core.Path.{_≡_, refl, sym, ap, _∙_}
+use mathlib.Core.Path.{ap, _∙_}
 use Prim.Native.Nat.{ℕ}
 use native.Mathlib.Omega.{arith}
 use mathlib.Core.List.{List}
 use denote.Ref.{now}
-use lib.ListN.{length, length-append}
+use lib.ListN.{length-append}
 use Rattle.tracks.specs.Write.{mapOf, storedBytes, recordOf}
 use Rattle.tracks.specs.Calls.{over, patterns}
-use Rattle.tracks.proofs.Over.{over-over, length-over}
+use Rattle.tracks.proofs.Over.{over-over}
 use Rattle.tracks.proofs.Written.{length-patterns, record-length}
 use borrow.Author.Needs.{needs}
 use Rattle.tracks.proofs.format.write_record.Statement.{statement}

@@ -1,10 +1,10 @@
 -- `record` meets its contract: the part from the offset to where the record ends, and an empty one where there is none.
-use mathlib.Core.Path.{_≡_, refl, sym, ap, _∙_}
-use Prim.Native.Nat.{ℕ, _-_, _≤_}
+use mathlib.Core.Path.{_≡_, sym, ap, _∙_}
+use Prim.Native.Nat.{ℕ, _-_}
 use native.Mathlib.Omega.{arith}
 use mathlib.Core.List.{List}
 use denote.Ref.{now}
-use lib.ListN.{length, take, drop}
+use lib.ListN.{take, drop}
 use Rattle.kernel.specs.Answer.{answered}
 use Rattle.tracks.specs.Format.{part, fields}
 use Rattle.tracks.specs.Read.{count, dimension, contents}
