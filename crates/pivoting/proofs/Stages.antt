@@ -14,8 +14,8 @@ use Rattle.kernel.specs.Number.{sub, mul, div}
 use Rattle.linalg.specs.Matrix.{nth, at, matrix, tabulate}
 use Rattle.linalg.proofs.Laws.{nth-tabulate}
 use Rattle.pivoting.specs.declared.Pivot.{Pivot}
-use Rattle.pivoting.specs.Pivot.{pivot, taken, swapped, swappedNorms}
-use Rattle.pivoting.specs.Solve.{Stage, stage, stepEntry, column, reduced, pivoted}
+use Rattle.pivoting.specs.Pivot.{pivot, taken, swapped, swappedNorms, Stage, stage, pivotAt, pivoted}
+use Rattle.pivoting.specs.Solve.{stepEntry, column, reduced}
 use Rattle.pivoting.proofs.Matrices.{at-matrix, matrix-ext}
 
 -- the divided pivot row x, and m₁, in which row k stands in place p, make the step
@@ -42,12 +42,19 @@ pub reduced-more : (n w : ℕ) (t : Stage) (k : ℕ) (m s : List Float) {u : Sta
 unfolding reduced
 reduced-more n w t k m s e f = f ∙ rw (add-one, ← e)
 
-pub pivoted-more : (n w : ℕ) (t : Stage) (k : ℕ) (m s : List Float) {b : Bool} → pivoted n w t k ≡ true → stage m s ≡ reduced n w t k → b ≡ taken (pivot m s n w k) → b ≡ pivoted n w t (k + 1)
+pub pivoted-more : (n w : ℕ) (f : ℕ → Stage) (k : ℕ) {t : Stage} {b : Bool} → pivoted n w f k ≡ true → t ≡ f k → b ≡ taken (pivotAt n w k t) → b ≡ pivoted n w f (k + 1)
 unfolding pivoted
-pivoted-more n w t k m s p e f = f ∙ rw (add-one, p, ← e)
+pivoted-more n w f k p e q = q ∙ rw (add-one, p, e)
 
 -- where a column has no pivot, no later column helps
-pub pivoted-stays : (n w : ℕ) (t : Stage) (k d : ℕ) → pivoted n w t k ≡ false → pivoted n w t (k + d) ≡ false
+pub pivoted-stays : (n w : ℕ) (f : ℕ → Stage) (k d : ℕ) → pivoted n w f k ≡ false → pivoted n w f (k + d) ≡ false
 unfolding pivoted
-pivoted-stays n w t k zero e = rw add-zero e
-pivoted-stays n w t k (suc d) e = rw (add-suc, pivoted-stays n w t k d e)
+pivoted-stays n w f k zero e = rw add-zero e
+pivoted-stays n w f k (suc d) e = rw (add-suc, pivoted-stays n w f k d e)
+
+-- a column without a pivot refuses the whole
+pub pivoted-never : (n w : ℕ) (f : ℕ → Stage) (k : ℕ) {t : Stage} {b : Bool} → k < n → pivoted n w f k ≡ true → t ≡ f k → b ≡ taken (pivotAt n w k t) → b ≡ false → pivoted n w f n ≡ false
+pivoted-never n w f k h p e q r = ap (pivoted n w f) count ∙ pivoted-stays n w f (k + 1) (n - (k + 1)) (sym (pivoted-more n w f k p e q) ∙ r)
+  where
+    count : n ≡ k + 1 + (n - (k + 1))
+    count = omega arith

@@ -72,3 +72,21 @@ swapped k p i = cond (eqb i k) p (cond (eqb i p) k i)
 -- the norms, when rows k and p have changed places
 abbrev pub swappedNorms : ℕ → ℕ → ℕ → List Float → List Float
 swappedNorms n k p s = tabulate n (λ i. nth s (swapped k p i))
+
+-- an augmented matrix with the norms of its rows
+pub record Stage : Type 0 where
+  pub rows : List Float
+  pub norms : List Float
+
+abbrev pub stage : List Float → List Float → Stage
+stage m s = record { rows = m; norms = s }
+
+-- the pivot of column k of a stage of n rows and w columns
+abbrev pub pivotAt : ℕ → ℕ → ℕ → Stage → Pivot
+pivotAt n w k t = pivot (t .rows) (t .norms) n w k
+
+-- question 6: a pivot is taken in each of the first k columns, where column i is met at stage f i
+unfoldable pub pivoted : ℕ → ℕ → (ℕ → Stage) → ℕ → Bool
+unfolding taken bestOf
+pivoted n w f zero = true
+pivoted n w f (suc k) = pivoted n w f k && taken (pivotAt n w k (f k))

@@ -12,7 +12,7 @@ use Rattle.linalg.specs.declared.Written.the-variants as written
 use Rattle.linalg.specs.declared.Number.{Number}
 use Rattle.linalg.specs.declared.Number.the-variants as number
 use Rattle.linalg.specs.Sums.{difference, quadraticForm}
-use Rattle.pivoting.specs.Pivot.{rowNorms, greatest, someScale, pivot, bestOf, taken, swapped, swappedNorms}
+use Rattle.pivoting.specs.Pivot.{rowNorms, greatest, someScale, bestOf, swapped, swappedNorms, Stage, stage, pivotAt, pivoted}
 
 -- 1.0
 abbrev pub one : Float
@@ -27,19 +27,11 @@ stepEntry m w k p i j =
     (div (at m w p j) (at m w p k))
     (sub (at m w (swapped k p i) j) (mul (at m w (swapped k p i) k) (div (at m w p j) (at m w p k))))
 
--- an augmented matrix with the norms of its rows
-pub record Stage : Type 0 where
-  pub rows : List Float
-  pub norms : List Float
-
-abbrev pub stage : List Float → List Float → Stage
-stage m s = record { rows = m; norms = s }
-
 -- column k of n rows and w columns is reduced
 unfoldable pub column : ℕ → ℕ → ℕ → Stage → Stage
 unfolding bestOf stepEntry matrix tabulate swapped
 column n w k t =
-    let p = pivot (t .rows) (t .norms) n w k .row in
+    let p = pivotAt n w k t .row in
     stage (matrix n w (stepEntry (t .rows) w k p)) (swappedNorms n k p (t .norms))
 
 -- the first k columns are reduced
@@ -47,12 +39,6 @@ unfoldable pub reduced : ℕ → ℕ → Stage → ℕ → Stage
 unfolding column
 reduced n w t zero = t
 reduced n w t (suc k) = column n w k (reduced n w t k)
-
--- question 6: a pivot is taken in each of the first k columns
-unfoldable pub pivoted : ℕ → ℕ → Stage → ℕ → Bool
-unfolding reduced taken bestOf
-pivoted n w t zero = true
-pivoted n w t (suc k) = pivoted n w t k && (let r = reduced n w t k in taken (pivot (r .rows) (r .norms) n w k))
 
 -- entry (i, j) of [a | b], for a n by n and b n by r
 abbrev pub augmentedEntry : List Float → List Float → ℕ → ℕ → ℕ → ℕ → Float
@@ -77,7 +63,7 @@ unfoldable pub solved : List Float → List Float → ℕ → ℕ → Outcome (L
 unfolding someScale pivoted solution
 solved a b n r =
     ask 5 (someScale n (rowNorms a n))
-    (ask 6 (pivoted n (n + r) (start a b n r) n)
+    (ask 6 (pivoted n (n + r) (reduced n (n + r) (start a b n r)) n)
     (answered (solution a b n r)))
 
 -- entry (i, j) of the identity

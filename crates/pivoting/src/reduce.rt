@@ -6,8 +6,8 @@ ghost use lib.Dec.{eqb};
 ghost use lib.ListN.{length};
 ghost use Rattle.kernel.specs.Number.{sub, mul, div};
 ghost use Rattle.linalg.specs.Matrix.{nth, at, matrix};
-ghost use Rattle.pivoting.specs.Pivot.{pivot, taken, swappedNorms};
-ghost use Rattle.pivoting.specs.Solve.{stepEntry, column, reduced, pivoted, stage};
+ghost use Rattle.pivoting.specs.Pivot.{pivot, taken, stage, pivoted};
+ghost use Rattle.pivoting.specs.Solve.{stepEntry, column, reduced};
 use crate::choice::choose;
 use crate::choice::is_taken;
 use crate::choice::swap_norms;
@@ -54,7 +54,7 @@ fn reduce_column(m: &mut [f64], s: &mut [f64], x: &mut [f64], n: usize, w: usize
 // Question 6 in the first n columns of m, n by w, with norms s; where it is met all are reduced. x is room for a row.
 pub(crate) fn reduce(m: &mut [f64], s: &mut [f64], x: &mut [f64], n: usize, w: usize) -> bool
     requires { ⌜ (n ≤ w) × (length (now m) ≡ n * w) × (length (now s) ≡ n) × (length (now x) ≡ w) ⌝ }
-    ensures { λ r. ⌜ (r ≡ pivoted n w (stage (now (m .entry)) (now (s .entry))) n) × (r ≡ true → stage (now (m .exit)) (now (s .exit)) ≡ reduced n w (stage (now (m .entry)) (now (s .entry))) n) ⌝ }
+    ensures { λ r. ⌜ (r ≡ pivoted n w (reduced n w (stage (now (m .entry)) (now (s .entry)))) n) × (r ≡ true → stage (now (m .exit)) (now (s .exit)) ≡ reduced n w (stage (now (m .entry)) (now (s .entry))) n) ⌝ }
 {
     for k in 0..n {
         if !reduce_column(m, s, x, n, w, k) {

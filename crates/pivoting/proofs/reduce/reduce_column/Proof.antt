@@ -27,12 +27,12 @@ returns : tie.Need-returns
 returns c = (sym (unmet (c .before .is-taken .ensures ∙ ap taken (c .before .before .choose .ensures)) (c .if1 .taken)), λ e. absurd (let z : _≡_ {A = ℕ} 0 1 = cc in omega arith))
 
 swap-norms-requires : tie.Need-swap-norms-requires
-swap-norms-requires c κs =
+swap-norms-requires c κs = 
     let x = c .before .before .before .before .before .before .before .before .before .args in
     (c .before .before .before .before .before .before .before .before .before .pre .0, subst (λ (b : Pivot). b .row < x .n) (sym (c .before .before .before .choose .ensures)) (pivot-row (x .m .now) (x .s .now) (x .n) (x .w) (x .k) (c .before .before .before .before .before .before .before .before .before .pre .0)), c .before .before .before .before .before .before .before .before .before .pre .3)
 
 step-requires : tie.Need-step-requires
-step-requires c κs =
+step-requires c κs = 
     let x = c .before .before .before .before .before .before .before .before .before .before .before .before .before .before .args in
     (c .before .before .before .before .before .before .before .before .before .before .before .before .before .before .pre .0, c .before .before .before .before .before .before .before .before .before .before .before .before .before .before .pre .1, subst (λ (b : Pivot). b .row < x .n) (sym (c .before .before .before .before .before .before .before .before .choose .ensures)) (pivot-row (x .m .now) (x .s .now) (x .n) (x .w) (x .k) (c .before .before .before .before .before .before .before .before .before .before .before .before .before .before .pre .0)), c .before .before .before .before .before .before .before .before .before .before .before .before .before .before .pre .2, c .before .before .before .before .before .before .before .before .before .before .before .before .before .before .pre .4)
 

@@ -7,14 +7,14 @@ use lib.Ieee.{Float}
 use Rattle.linalg.specs.Matrix.{at, matrix}
 use Rattle.linalg.proofs.Tests.{met, unmet}
 use Rattle.linalg.proofs.Answers.{done}
-use Rattle.pivoting.specs.Pivot.{someScale, rowNorms}
-use Rattle.pivoting.specs.Solve.{Stage, stage, start, augmented, reduced, pivoted, solution, solved}
+use Rattle.pivoting.specs.Pivot.{someScale, rowNorms, Stage, stage, pivoted}
+use Rattle.pivoting.specs.Solve.{start, augmented, reduced, solution, solved}
 use native.Mathlib.Omega.{arith}
 use Rattle.pivoting.proofs.solve.solve_in.Statement.{statement}
 use Rattle.pivoting.proofs.solve.solve_in.Tie as tie
 
 -- what is reduced is [a | b] with the norms of a
-started : (a b m s : List Float) (n r w : ℕ) → w ≡ n + r → m ≡ augmented a b n r → s ≡ rowNorms a n → (pivoted n w (stage m s) n ≡ pivoted n (n + r) (start a b n r) n) × (reduced n w (stage m s) n ≡ reduced n (n + r) (start a b n r) n)
+started : (a b m s : List Float) (n r w : ℕ) → w ≡ n + r → m ≡ augmented a b n r → s ≡ rowNorms a n → (pivoted n w (reduced n w (stage m s)) n ≡ pivoted n (n + r) (reduced n (n + r) (start a b n r)) n) × (reduced n w (stage m s) n ≡ reduced n (n + r) (start a b n r) n)
 started a b m s n r w e f g = (rw (e, f, g), rw (e, f, g))
 
 right : (a b m s : List Float) (n r w : ℕ) → w ≡ n + r → stage m s ≡ reduced n (n + r) (start a b n r) n → matrix n r (λ i j. at m w i (n + j)) ≡ solution a b n r
@@ -32,7 +32,7 @@ same-length c = c .before .before .before .before .before .row-norms .kept .1 .1
 
 returns : tie.Need-returns
 unfolding solved
-returns c =
+returns c = 
     let x = c .before .before .before .before .before .before .before .before .before .before .before .before .before .args in
     rw (unmet (c .before .some-scale .ensures ∙ ap (someScale (x .n)) (c .before .before .before .before .before .row-norms .ensures)) (c .if1 .taken))
 
@@ -53,7 +53,7 @@ same-length-4 c = c .before .before .before .before .before .before .before .red
 
 returns-2 : tie.Need-returns-2
 unfolding solved
-returns-2 c =
+returns-2 c = 
     let x = c .before .before .before .before .before .before .before .before .before .before .before .before .before .before .before .before .before .before .before .before .before .before .before .before .before .before .before .before .args in
     rw (met (c .before .before .before .before .before .before .before .before .before .before .before .before .before .before .before .before .some-scale .ensures ∙ ap (someScale (x .n)) (c .before .before .before .before .before .before .before .before .before .before .before .before .before .before .before .before .before .before .before .before .row-norms .ensures)) (c .before .before .before .before .before .before .before .before .before .before .before .before .before .before .before .if1 .left), unmet (c .before .before .before .before .before .before .before .reduce .ensures .0 ∙ (started (x .a .now) (x .b .now) _ _ (x .n) (x .r) (x .w) (c .before .before .before .before .before .before .before .before .before .before .before .before .before .before .before .before .before .before .before .before .before .before .before .before .before .before .before .before .pre .0) (c .before .before .before .before .before .before .before .before .before .before .before .before .before .augment .ensures) (c .before .before .before .before .before .before .before .before .before .before .before .before .before .before .before .before .before .before .before .before .row-norms .ensures)) .0) (c .if2 .taken))
 
@@ -74,7 +74,7 @@ same-length-8 c = c .before .before .right-part .kept .1 .1 .1 .1 .0
 
 returns-3 : tie.Need-returns-3
 unfolding solved
-returns-3 c =
+returns-3 c = 
     let x = c .before .before .before .before .before .before .before .before .before .before .before .before .before .before .before .before .before .before .before .before .before .before .before .before .before .before .before .before .before .before .before .before .before .args in
     rw (met (c .before .before .before .before .before .before .before .before .before .before .before .before .before .before .before .before .before .before .before .before .before .some-scale .ensures ∙ ap (someScale (x .n)) (c .before .before .before .before .before .before .before .before .before .before .before .before .before .before .before .before .before .before .before .before .before .before .before .before .before .row-norms .ensures)) (c .before .before .before .before .before .before .before .before .before .before .before .before .before .before .before .before .before .before .before .before .if1 .left), met (c .before .before .before .before .before .before .before .before .before .before .before .before .reduce .ensures .0 ∙ (started (x .a .now) (x .b .now) _ _ (x .n) (x .r) (x .w) (c .before .before .before .before .before .before .before .before .before .before .before .before .before .before .before .before .before .before .before .before .before .before .before .before .before .before .before .before .before .before .before .before .before .pre .0) (c .before .before .before .before .before .before .before .before .before .before .before .before .before .before .before .before .before .before .augment .ensures) (c .before .before .before .before .before .before .before .before .before .before .before .before .before .before .before .before .before .before .before .before .before .before .before .before .before .row-norms .ensures)) .0) (c .before .before .before .before .before .if2 .left))
     (done (c .before .before .right-part .ensures ∙ right (x .a .now) (x .b .now) _ _ (x .n) (x .r) (x .w) (c .before .before .before .before .before .before .before .before .before .before .before .before .before .before .before .before .before .before .before .before .before .before .before .before .before .before .before .before .before .before .before .before .before .pre .0) (c .before .before .before .before .before .before .before .before .before .before .before .before .reduce .ensures .1 (not-false _ (c .before .before .before .before .before .if2 .left)) ∙ (started (x .a .now) (x .b .now) _ _ (x .n) (x .r) (x .w) (c .before .before .before .before .before .before .before .before .before .before .before .before .before .before .before .before .before .before .before .before .before .before .before .before .before .before .before .before .before .before .before .before .before .pre .0) (c .before .before .before .before .before .before .before .before .before .before .before .before .before .before .before .before .before .before .augment .ensures) (c .before .before .before .before .before .before .before .before .before .before .before .before .before .before .before .before .before .before .before .before .before .before .before .before .before .row-norms .ensures)) .1)))
