@@ -1,3 +1,4 @@
 pub mod Matrices
 pub mod Pivots
 pub mod Stages
+pub mod Determinants

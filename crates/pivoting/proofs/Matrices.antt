@@ -1,7 +1,7 @@
 -- Laws of matrices by their entries, of one cell that is written, and of rows that are rewritten in place; all over the sides.
 use Prim.Native.Nat.{ℕ, zero, suc, _+_, _*_, _-_, _<_, _≤_}
 use native.Mathlib.Omega.{arith}
-use native.Mathlib.Nat.{eq-or-lt-of-le, le-of-suc-le-suc, suc-mul, zero-mul, add-sub-cancel-left}
+use native.Mathlib.Nat.{mul-le-mul-right, eq-or-lt-of-le, le-of-suc-le-suc, suc-mul, zero-mul, add-sub-cancel-left}
 use native.Mathlib.Decide.{decLt, ℕ-discrete}
 use mathlib.Core.Path.{_≡_, refl, sym, ap, _∙_}
 use mathlib.Core.Logic.{_⊎_, ⊎-elim}
@@ -11,8 +11,18 @@ use lib.Seq.{getD-append-add, getD-take, getD-drop, getD-set-same, getD-set-othe
 use borrow.Rule.Slice.PartMut.{midOf, putMid, drop-put}
 use lib.Ieee.{Float, nan}
 use Rattle.linalg.specs.Matrix.{nth, at, matrix, tabulate}
-use Rattle.linalg.specs.Fill.{FilledRows}
+use Rattle.linalg.specs.Fill.{Filled, FilledRows}
 use Rattle.linalg.proofs.Laws.{cell, row-within, length-tabulate, nth-tabulate, by-entries, length-matrix, rows-none, rows-more}
+
+-- ---- sizes
+
+-- a matrix of a side up to 16 has at most 256 entries
+pub square-size : (n : ℕ) → n ≤ 16 → n * n ≤ 256
+square-size n h = omega (arith, mul-le-mul-right n h)
+
+-- and at most 512 with a right part as wide
+pub augmented-size : (n r : ℕ) → n ≤ 16 → r ≤ 16 → n * (n + r) ≤ 512
+augmented-size n r h k = omega (arith, mul-le-mul-right (n + r) h)
 
 -- ---- entries
 
@@ -75,6 +85,11 @@ pub at-set-other : (n : ℕ) (l : List Float) (a b : ℕ) (v : Float) (i j : ℕ
 at-set-other n l a b v i j h k ne =
     getD-set-other l (a * n + b) (i * n + j) v nan (λ e. ne (one-row n i j a b h k e) (one-column n i j a b h k e))
 
+-- ---- a part that is filled from entry i on
+
+pub filled-from : (f : ℕ → Float) (l : List Float) (i : ℕ) → ((q : ℕ) → q < i → nth l q ≡ f q) → Filled f l i l
+filled-from f l i h = record { size = refl; done = h; left = λ q k. refl }
+
 -- ---- rows that are rewritten in place, in order
 
 -- the rows before row i, of n columns, are those of f, and the others are still those of old
@@ -84,6 +99,14 @@ pub record Rewritten (f : ℕ → ℕ → Float) (n : ℕ) (old : List Float) (i
 
 pub rewritten-none : (f : ℕ → ℕ → Float) (n : ℕ) (l : List Float) → Rewritten f n l 0 l
 rewritten-none f n l = record { rows = rows-none f n l; rest = refl }
+
+-- the rows before row i already are those of f
+pub rewritten-from : (f : ℕ → ℕ → Float) (n i : ℕ) (l : List Float) → i * n ≤ length l → ((a j : ℕ) → a < i → j < n → at l n a j ≡ f a j) → Rewritten f n l i l
+rewritten-from f n i l h e =
+    record {
+      rows = record { size = refl; done = matrix-by-entries i n f (take (i * n) l) (length-take-le (i * n) l h) (λ a j p q. getD-take (i * n) l (a * n + j) nan (cell i n p q) ∙ e a j p q) };
+      rest = refl;
+    }
 
 -- the row that is rewritten next still has its old entries
 pub rewritten-next : (f : ℕ → ℕ → Float) (n i j : ℕ) {old l : List Float} → j < n → Rewritten f n old i l → nth (midOf (i * n) (i * n + n - i * n) l) j ≡ at old n i j

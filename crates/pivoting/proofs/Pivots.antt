@@ -70,6 +70,6 @@ best-row m s n w k zero h l = h
 best-row m s n w k (suc d) h l =
     consider-row (λ (q : ℕ). q < n) (bestOf m s w k d) (nth s (k + d)) (at m w (k + d) k) (k + d) (best-row m s n w k d h (omega arith)) (omega arith)
 
--- the pivot stands in one of the n rows
-pub pivot-row : (m s : List Float) (n w k : ℕ) → k < n → pivot m s n w k .row < n
-pivot-row m s n w k h = best-row m s n w k (n - k) h (omega arith)
+-- the pivot b stands in one of the n rows
+pub pivot-row : (m s : List Float) (n w k : ℕ) {b : Pivot} → k < n → b ≡ pivot m s n w k → b .row < n
+pivot-row m s n w k h e = subst (λ (q : Pivot). q .row < n) (sym e) (best-row m s n w k (n - k) h (omega arith))

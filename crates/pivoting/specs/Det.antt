@@ -48,13 +48,15 @@ unfolding bestOf
 pivotProduct n f zero = one
 pivotProduct n f (suc k) = mul (pivotProduct n f k) (at (f k .rows) n (pivotAt n n k (f k) .row) k)
 
--- the determinant of a, n by n: 0.0 where question 5 or 6 is not met
+-- their product with its sign, where each column has one, else 0.0
+unfoldable pub product : ℕ → (ℕ → Stage) → Float
+unfolding pivoted swapSign pivotProduct
+product n f = cond (pivoted n n f n) (mul (swapSign n f n) (pivotProduct n f n)) nought
+
+-- the determinant of a, n by n: 0.0 too where no norm is large enough
 unfoldable pub determinant : List Float → ℕ → Float
-unfolding greatest someScale lowered pivoted swapSign pivotProduct tabulate
-determinant a n =
-    let s = rowNorms a n in
-    let f = lowered n (stage a s) in
-    cond (someScale n s && pivoted n n f n) (mul (swapSign n f n) (pivotProduct n f n)) nought
+unfolding greatest someScale lowered product tabulate
+determinant a n = cond (someScale n (rowNorms a n)) (product n (lowered n (stage a (rowNorms a n)))) nought
 
 -- `mat_det`
 unfoldable pub matDet : List Float → ℕ → Outcome Float

@@ -2,7 +2,9 @@
 ghost use mathlib.Core.Path.{_≡_};
 ghost use Rattle.linalg.specs.Answer.{Leaves, given};
 ghost use Rattle.pivoting.specs.Pivot.{rowInfNorms};
+ghost use Rattle.pivoting.specs.Det.{matDet};
 ghost use Rattle.pivoting.specs.Solve.{matSolve, matInv, mahalanobis};
+use crate::det::determinant;
 use crate::norms::row_norms;
 use crate::shape::is_side;
 use crate::shape::is_square;
@@ -65,6 +67,19 @@ pub fn mat_inv(a: &[f64], n: usize, out: &mut [f64]) -> Written
         return Written::Refused(LENGTH);
     }
     inverse(a, n, out)
+}
+
+// The determinant of a, n by n: 0.0 where the pivoting fails.
+pub fn mat_det(a: &[f64], n: usize) -> Number
+    ensures { λ r. ⌜ r ≡ given (matDet (now (a .entry)) n) ⌝ }
+{
+    if !is_side(n) {
+        return Number::Refused(SIDE);
+    }
+    if !is_square(a, n) {
+        return Number::Refused(LENGTH);
+    }
+    Number::Value(determinant(a, n))
 }
 
 // The squared Mahalanobis distance of x and mu under the covariance cov, n by n.

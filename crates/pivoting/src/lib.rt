@@ -1,5 +1,6 @@
 // Scaled pivoting on f64: row norms, solutions, inverses and determinants of matrices of sides 1 to 16.
 mod choice;
+mod det;
 pub mod generic;
 mod norms;
 mod reduce;

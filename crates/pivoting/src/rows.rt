@@ -10,7 +10,7 @@ ghost use Rattle.pivoting.specs.Solve.{augmentedEntry, unitEntry};
 use crate::shape::entry;
 
 // Copies x to y.
-fn copy(x: &[f64], n: usize, y: &mut [f64])
+pub(crate) fn copy(x: &[f64], n: usize, y: &mut [f64])
     requires { ⌜ (length (now x) ≡ n) × (length (now y) ≡ n) ⌝ }
     ensures { λ _. ⌜ now (y .exit) ≡ tabulate n (λ j. nth (now (x .entry)) j) ⌝ }
 {

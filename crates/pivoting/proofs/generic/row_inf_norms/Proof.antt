@@ -15,7 +15,7 @@ unfolding rowInfNorms
 returns c = rw (unmet (c .before .is-side .ensures) (c .if1 .taken))
 
 is-square-requires : tie.Need-is-square-requires
-is-square-requires c κs = 
+is-square-requires c κs =
     let x = c .before .before .before .before .args in
     let s = met (c .before .is-side .ensures) (c .if1 .left) in
     area (x .n) (x .n) s s
@@ -35,7 +35,7 @@ unfolding rowInfNorms
 returns-3 c = rw (met (c .before .before .before .before .before .before .is-side .ensures) (c .before .before .before .before .before .if1 .left), met (c .before .before .before .before .is-square .ensures) (c .before .before .before .if2 .left), unmet (c .before .is-vector .ensures) (c .if3 .taken))
 
 row-norms-requires : tie.Need-row-norms-requires
-row-norms-requires c κs = 
+row-norms-requires c κs =
     let x = c .before .before .before .before .before .before .before .before .before .before .args in
     (long-length (x .a .now) (x .n * x .n) (met (c .before .before .before .before .before .is-square .ensures) (c .before .before .before .before .if2 .left)), long-length (x .out .now) (x .n) (met (c .before .before .is-vector .ensures) (c .before .if3 .left)))
 

@@ -35,7 +35,7 @@ same-length-3 : tie.Need-same-length-3 Inv-loop μ-loop
 same-length-3 c = c .before .before .before .before .before .before .before .reduce-column .kept .1 .1 .0 ∙ c .before .before .before .before .before .before .before .before .before .before .before .before .loop .inv .3
 
 returns : tie.Need-returns Inv-loop μ-loop
-returns c = 
+returns c =
     let turn = c .before .before .before .before .before .before .before .before .before .before .before .before .loop in
     (sym (pivoted-never _ _ _ (turn .k) (c .before .before .before .before .before .before .before .before .before .before .before .loop-test .taken) (turn .inv .4) (turn .inv .5) (c .before .before .before .before .before .before .before .reduce-column .ensures .0) (not-true _ (c .if1 .taken))), λ e. absurd (let z : _≡_ {A = ℕ} 0 1 = cc in omega arith))
 
@@ -46,7 +46,7 @@ loop-less : tie.Need-loop-less Inv-loop μ-loop
 loop-less c = omega arith
 
 loop-again : tie.Need-loop-again Inv-loop μ-loop
-loop-again c = 
+loop-again c =
     let turn = c .before .before .before .before .before .before .before .before .before .before .before .before .loop in
     let ok : c .before .before .before .before .before .before .before .reduce-column .result ≡ true = not-false _ (c .if1 .left) in
     (omega arith, c .before .before .before .before .before .before .before .reduce-column .kept .0 ∙ turn .inv .1, c .before .before .before .before .before .before .before .reduce-column .kept .1 .0 ∙ turn .inv .2, c .before .before .before .before .before .before .before .reduce-column .kept .1 .1 .0 ∙ turn .inv .3, sym (pivoted-more _ _ _ (turn .k) (turn .inv .4) (turn .inv .5) (c .before .before .before .before .before .before .before .reduce-column .ensures .0)) ∙ ok, reduced-more _ _ _ _ _ _ (turn .inv .5) (c .before .before .before .before .before .before .before .reduce-column .ensures .1 ok))
@@ -61,7 +61,7 @@ same-length-6 : tie.Need-same-length-6 Inv-loop μ-loop
 same-length-6 c = c .before .loop .inv .3
 
 returns-2 : tie.Need-returns-2 Inv-loop μ-loop
-returns-2 c = 
+returns-2 c =
     let turn = c .before .loop in
     let x = c .before .before .before .before .before .args in
     let f = reduced (x .n) (x .w) (stage (x .m .now) (x .s .now)) in

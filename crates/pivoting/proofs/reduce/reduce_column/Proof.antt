@@ -1,8 +1,7 @@
 -- `reduce_column` meets its contract: the choice decides, and the step and the norms that change places make the column.
-use Prim.Native.Nat.{ℕ, _<_}
-use mathlib.Core.Path.{_≡_, sym, ap, _∙_, subst}
+use Prim.Native.Nat.{ℕ}
+use mathlib.Core.Path.{_≡_, sym, ap, _∙_}
 use Rattle.linalg.proofs.Tests.{met, unmet}
-use Rattle.pivoting.specs.declared.Pivot.{Pivot}
 use Rattle.pivoting.specs.Pivot.{taken}
 use Rattle.pivoting.proofs.Pivots.{pivot-row}
 use Rattle.pivoting.proofs.Stages.{columned}
@@ -27,14 +26,14 @@ returns : tie.Need-returns
 returns c = (sym (unmet (c .before .is-taken .ensures ∙ ap taken (c .before .before .choose .ensures)) (c .if1 .taken)), λ e. absurd (let z : _≡_ {A = ℕ} 0 1 = cc in omega arith))
 
 swap-norms-requires : tie.Need-swap-norms-requires
-swap-norms-requires c κs = 
+swap-norms-requires c κs =
     let x = c .before .before .before .before .before .before .before .before .before .args in
-    (c .before .before .before .before .before .before .before .before .before .pre .0, subst (λ (b : Pivot). b .row < x .n) (sym (c .before .before .before .choose .ensures)) (pivot-row (x .m .now) (x .s .now) (x .n) (x .w) (x .k) (c .before .before .before .before .before .before .before .before .before .pre .0)), c .before .before .before .before .before .before .before .before .before .pre .3)
+    (c .before .before .before .before .before .before .before .before .before .pre .0, pivot-row (x .m .now) (x .s .now) (x .n) (x .w) (x .k) (c .before .before .before .before .before .before .before .before .before .pre .0) (c .before .before .before .choose .ensures), c .before .before .before .before .before .before .before .before .before .pre .3)
 
 step-requires : tie.Need-step-requires
-step-requires c κs = 
+step-requires c κs =
     let x = c .before .before .before .before .before .before .before .before .before .before .before .before .before .before .args in
-    (c .before .before .before .before .before .before .before .before .before .before .before .before .before .before .pre .0, c .before .before .before .before .before .before .before .before .before .before .before .before .before .before .pre .1, subst (λ (b : Pivot). b .row < x .n) (sym (c .before .before .before .before .before .before .before .before .choose .ensures)) (pivot-row (x .m .now) (x .s .now) (x .n) (x .w) (x .k) (c .before .before .before .before .before .before .before .before .before .before .before .before .before .before .pre .0)), c .before .before .before .before .before .before .before .before .before .before .before .before .before .before .pre .2, c .before .before .before .before .before .before .before .before .before .before .before .before .before .before .pre .4)
+    (c .before .before .before .before .before .before .before .before .before .before .before .before .before .before .pre .0, c .before .before .before .before .before .before .before .before .before .before .before .before .before .before .pre .1, pivot-row (x .m .now) (x .s .now) (x .n) (x .w) (x .k) (c .before .before .before .before .before .before .before .before .before .before .before .before .before .before .pre .0) (c .before .before .before .before .before .before .before .before .choose .ensures), c .before .before .before .before .before .before .before .before .before .before .before .before .before .before .pre .2, c .before .before .before .before .before .before .before .before .before .before .before .before .before .before .pre .4)
 
 same-length-3 : tie.Need-same-length-3
 same-length-3 c = search needs

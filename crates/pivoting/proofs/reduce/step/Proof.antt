@@ -21,7 +21,7 @@ same-length-2 : tie.Need-same-length-2
 same-length-2 c = search needs
 
 returns : tie.Need-returns
-returns c = 
+returns c =
     let x = c .before .before .before .before .before .before .before .before .before .before .before .before .before .before .before .before .args in
     c .before .before .reduce-rows .ensures ∙ stepped (x .m .now) _ _ _ _ _ _ (c .before .before .before .before .before .before .before .before .before .before .before .before .before .before .before .before .pre .1) (c .before .before .before .before .before .before .before .before .before .before .before .divided-row .ensures) (c .before .before .before .before .before .before .before .copy-row .ensures)
 

@@ -1,6 +1,5 @@
 -- `inverse` meets its contract: the identity stands in the first n * n entries of a local array.
 use Prim.Native.Nat.{ℕ, _*_, _≤_}
-use native.Mathlib.Nat.{mul-le-mul-right}
 use mathlib.Core.List.{List}
 use mathlib.Core.Path.{_≡_, sym, ap, _∙_}
 use lib.Ieee.{Float}
@@ -9,27 +8,25 @@ use lib.Seq.{length-take-le, length-front}
 use Rattle.linalg.specs.Answer.{Leaves}
 use Rattle.linalg.proofs.Laws.{length-matrix, front}
 use Rattle.pivoting.specs.Solve.{unitEntry, solved}
+use Rattle.pivoting.proofs.Matrices.{square-size}
 use native.Mathlib.Omega.{arith}
 use Rattle.pivoting.proofs.solve.inverse.Statement.{statement}
 use Rattle.pivoting.proofs.solve.inverse.Tie as tie
 
-area : (n : ℕ) → n ≤ 16 → n * n ≤ 256
-area n h = omega (arith, mul-le-mul-right n h)
-
 mul-size : tie.Need-mul-size
-mul-size c = omega (arith, area (c .before .before .args .n) (c .before .before .pre .0))
+mul-size c = omega (arith, square-size (c .before .before .args .n) (c .before .before .pre .0))
 
 array-borrow-prefix-e : tie.Need-array-borrow-prefix-e
-array-borrow-prefix-e c = omega (arith, area (c .before .before .args .n) (c .before .before .pre .0))
+array-borrow-prefix-e c = omega (arith, square-size (c .before .before .args .n) (c .before .before .pre .0))
 
 slice-aggregate-identity : tie.Need-slice-aggregate-identity
-slice-aggregate-identity c = sym (length-take-le _ _ (omega (arith, area (c .before .before .before .args .n) (c .before .before .before .pre .0))))
+slice-aggregate-identity c = sym (length-take-le _ _ (omega (arith, square-size (c .before .before .before .args .n) (c .before .before .before .pre .0))))
 
 identity-requires : tie.Need-identity-requires
-identity-requires c κs = length-take-le _ _ (omega (arith, area (c .before .before .before .args .n) (c .before .before .before .pre .0)))
+identity-requires c κs = length-take-le _ _ (omega (arith, square-size (c .before .before .before .args .n) (c .before .before .before .pre .0)))
 
 array-share-prefix-e : tie.Need-array-share-prefix-e
-array-share-prefix-e c = omega (arith, area (c .before .before .before .before .before .args .n) (c .before .before .before .before .before .pre .0), length-front _ (c .before .identity .last .1 .0) (c .before .before .before .before .before .args .n * c .before .before .before .before .before .args .n) (c .before .identity .kept .1 .0))
+array-share-prefix-e c = omega (arith, square-size (c .before .before .before .before .before .args .n) (c .before .before .before .before .before .pre .0), length-front _ (c .before .identity .last .1 .0) (c .before .before .before .before .before .args .n * c .before .before .before .before .before .args .n) (c .before .identity .kept .1 .0))
 
 slice-aggregate-solve : tie.Need-slice-aggregate-solve
 slice-aggregate-solve c = sym (ap length (front _ (length-matrix (c .before .before .before .before .before .before .args .n) (c .before .before .before .before .before .before .args .n) unitEntry) (c .before .before .identity .ensures)) ∙ length-matrix (c .before .before .before .before .before .before .args .n) (c .before .before .before .before .before .before .args .n) unitEntry)

@@ -32,7 +32,7 @@ same-length c = c .before .before .before .before .before .row-norms .kept .1 .1
 
 returns : tie.Need-returns
 unfolding solved
-returns c = 
+returns c =
     let x = c .before .before .before .before .before .before .before .before .before .before .before .before .before .args in
     rw (unmet (c .before .some-scale .ensures ∙ ap (someScale (x .n)) (c .before .before .before .before .before .row-norms .ensures)) (c .if1 .taken))
 
@@ -53,7 +53,7 @@ same-length-4 c = c .before .before .before .before .before .before .before .red
 
 returns-2 : tie.Need-returns-2
 unfolding solved
-returns-2 c = 
+returns-2 c =
     let x = c .before .before .before .before .before .before .before .before .before .before .before .before .before .before .before .before .before .before .before .before .before .before .before .before .before .before .before .before .args in
     rw (met (c .before .before .before .before .before .before .before .before .before .before .before .before .before .before .before .before .some-scale .ensures ∙ ap (someScale (x .n)) (c .before .before .before .before .before .before .before .before .before .before .before .before .before .before .before .before .before .before .before .before .row-norms .ensures)) (c .before .before .before .before .before .before .before .before .before .before .before .before .before .before .before .if1 .left), unmet (c .before .before .before .before .before .before .before .reduce .ensures .0 ∙ (started (x .a .now) (x .b .now) _ _ (x .n) (x .r) (x .w) (c .before .before .before .before .before .before .before .before .before .before .before .before .before .before .before .before .before .before .before .before .before .before .before .before .before .before .before .before .pre .0) (c .before .before .before .before .before .before .before .before .before .before .before .before .before .augment .ensures) (c .before .before .before .before .before .before .before .before .before .before .before .before .before .before .before .before .before .before .before .before .row-norms .ensures)) .0) (c .if2 .taken))
 
@@ -74,7 +74,7 @@ same-length-8 c = c .before .before .right-part .kept .1 .1 .1 .1 .0
 
 returns-3 : tie.Need-returns-3
 unfolding solved
-returns-3 c = 
+returns-3 c =
     let x = c .before .before .before .before .before .before .before .before .before .before .before .before .before .before .before .before .before .before .before .before .before .before .before .before .before .before .before .before .before .before .before .before .before .args in
     rw (met (c .before .before .before .before .before .before .before .before .before .before .before .before .before .before .before .before .before .before .before .before .before .some-scale .ensures ∙ ap (someScale (x .n)) (c .before .before .before .before .before .before .before .before .before .before .before .before .before .before .before .before .before .before .before .before .before .before .before .before .before .row-norms .ensures)) (c .before .before .before .before .before .before .before .before .before .before .before .before .before .before .before .before .before .before .before .before .if1 .left), met (c .before .before .before .before .before .before .before .before .before .before .before .before .reduce .ensures .0 ∙ (started (x .a .now) (x .b .now) _ _ (x .n) (x .r) (x .w) (c .before .before .before .before .before .before .before .before .before .before .before .before .before .before .before .before .before .before .before .before .before .before .before .before .before .before .before .before .before .before .before .before .before .pre .0) (c .before .before .before .before .before .before .before .before .before .before .before .before .before .before .before .before .before .before .augment .ensures) (c .before .before .before .before .before .before .before .before .before .before .before .before .before .before .before .before .before .before .before .before .before .before .before .before .before .row-norms .ensures)) .0) (c .before .before .before .before .before .if2 .left))
     (done (c .before .before .right-part .ensures ∙ right (x .a .now) (x .b .now) _ _ (x .n) (x .r) (x .w) (c .before .before .before .before .before .before .before .before .before .before .before .before .before .before .before .before .before .before .before .before .before .before .before .before .before .before .before .before .before .before .before .before .before .pre .0) (c .before .before .before .before .before .before .before .before .before .before .before .before .reduce .ensures .1 (not-false _ (c .before .before .before .before .before .if2 .left)) ∙ (started (x .a .now) (x .b .now) _ _ (x .n) (x .r) (x .w) (c .before .before .before .before .before .before .before .before .before .before .before .before .before .before .before .before .before .before .before .before .before .before .before .before .before .before .before .before .before .before .before .before .before .pre .0) (c .before .before .before .before .before .before .before .before .before .before .before .before .before .before .before .before .before .before .augment .ensures) (c .before .before .before .before .before .before .before .before .before .before .before .before .before .before .before .before .before .before .before .before .before .before .before .before .before .row-norms .ensures)) .1)))
