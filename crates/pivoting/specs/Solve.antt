@@ -100,6 +100,10 @@ abbrev pub following : Written → Float → Number
 following (written.Refused k) v = number.Refused k
 following written.Done v = number.Value v
 
+-- column j of x, of n rows and r columns
+abbrev pub columnOf : ℕ → ℕ → ℕ → List Float → List Float
+columnOf n r j x = tabulate n (λ i. at x r i j)
+
 -- the quadratic form of x - mu under the inverse of cov, n by n, where it has one
 unfoldable pub distance : List Float → List Float → List Float → ℕ → Outcome Float
 unfolding solved quadraticForm
