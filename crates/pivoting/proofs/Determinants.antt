@@ -1,0 +1,57 @@
+-- Laws of the reduction below the diagonal: one step from its parts, and one column more of matrix, sign and product.
+use Prim.Native.Nat.{ℕ, zero, suc, _+_, _*_, _-_, _<_, _≤_}
+use native.Mathlib.Omega.{arith}
+use native.Mathlib.Numerals.{add-one}
+use native.Mathlib.Decide.{decLt, ℕ-discrete}
+use mathlib.Core.Bool.{Bool, true, false, cond}
+use mathlib.Core.List.{List}
+use mathlib.Core.Path.{_≡_, refl, sym, ap, _∙_}
+use borrow.Author.Tests.{eq-eqb, ne-eqb, lt-ltb, le-ltb}
+use lib.Dec.{eqb, ltb}
+use lib.Ieee.{Float}
+use Rattle.kernel.specs.Number.{sub, mul, div}
+use Rattle.linalg.specs.Matrix.{nth, at, matrix, tabulate}
+use Rattle.linalg.proofs.Laws.{nth-tabulate}
+use Rattle.pivoting.specs.declared.Pivot.{Pivot}
+use Rattle.pivoting.specs.Pivot.{pivot, swapped, swappedNorms, Stage, stage, pivotAt}
+use Rattle.pivoting.specs.Det.{lowerEntry, lower, lowered, flipped, swapSign, pivotProduct}
+use Rattle.pivoting.proofs.Matrices.{at-matrix, matrix-ext}
+
+-- entry (i, j) when row k of m, of n columns, becomes x, and every row below it loses its part of x
+abbrev pub belowEntry : List Float → List Float → ℕ → ℕ → ℕ → ℕ → Float
+belowEntry x m n k i j =
+    cond (ltb i k)
+    (at m n i j)
+    (cond (eqb i k) (nth x j) (cond (ltb k j) (sub (at m n i j) (mul (div (at m n i k) (nth x k)) (nth x j))) (at m n i j)))
+
+-- the pivot row x, and m₁, in which row k stands in place p, make the step
+pub lower-stepped : (m x m₁ : List Float) (n k p : ℕ) → k < n → x ≡ tabulate n (at m n p) → m₁ ≡ matrix n n (λ i j. at m n (cond (eqb i p) k i) j) → matrix n n (belowEntry x m₁ n k) ≡ matrix n n (lowerEntry m n k p)
+unfolding lowerEntry swapped
+lower-stepped m x m₁ n k p h e f = matrix-ext n n _ _ (λ i j a b. go i j a b (decLt i k) (ℕ-discrete i k))
+  where
+    copied : (j : ℕ) → j < n → nth x j ≡ at m n p j
+    copied j b = ap (λ (z : List Float). nth z j) e ∙ nth-tabulate n _ j b
+
+    other : (i j : ℕ) → i < n → j < n → at m₁ n i j ≡ at m n (cond (eqb i p) k i) j
+    other i j a b = ap (λ (z : List Float). at z n i j) f ∙ at-matrix n n _ i j a b
+
+    go : (i j : ℕ) → i < n → j < n → Dec (i < k) → Dec (i ≡ k) → belowEntry x m₁ n k i j ≡ lowerEntry m n k p i j
+    go i j a b (yes l) q = rw (lt-ltb i k l, le-ltb k i (omega arith), ne-eqb i k (λ s. absurd (omega arith)), other i j a b)
+    go i j a b (no l) (yes s) = rw (le-ltb i k (omega arith), le-ltb k i (omega arith), eq-eqb i k s, copied j b)
+    go i j a b (no l) (no s) = rw (le-ltb i k (omega arith), lt-ltb k i (below i l s), ne-eqb i k s, copied j b, copied k h, other i j a b, other i k a h)
+      where
+        below : (i : ℕ) → (i < k → ⊥) → (i ≡ k → ⊥) → k < i
+        below i l s = omega arith
+
+module _ (n : ℕ) (f : ℕ → Stage) (k : ℕ) {m s : List Float} {b : Pivot} (here : stage m s ≡ f k) (best : b ≡ pivot m s n n k) where
+  pub sign-more : {g r : Float} → g ≡ swapSign n f k → r ≡ flipped g k (b .row) → r ≡ swapSign n f (k + 1)
+  unfolding swapSign
+  sign-more p q = q ∙ rw (add-one, p, best, ← here)
+
+  pub product-more : {d v : Float} → d ≡ pivotProduct n f k → v ≡ at m n (b .row) k → mul d v ≡ pivotProduct n f (k + 1)
+  unfolding pivotProduct
+  product-more p q = rw (add-one, p, q, best, ← here)
+
+pub lowered-more : (n : ℕ) (t : Stage) (k : ℕ) (m s m₁ s₁ : List Float) (b : Pivot) → stage m s ≡ lowered n t k → b ≡ pivot m s n n k → m₁ ≡ matrix n n (lowerEntry m n k (b .row)) → s₁ ≡ swappedNorms n k (b .row) s → stage m₁ s₁ ≡ lowered n t (k + 1)
+unfolding lowered lower
+lowered-more n t k m s m₁ s₁ b here best p q = rw (add-one, p, q, best, ← here)

@@ -1,0 +1,5 @@
+pub mod Matrices
+pub mod Pivots
+pub mod Stages
+pub mod Columns
+pub mod Determinants

@@ -1,0 +1,134 @@
+-- Laws of matrices by their entries, of one cell that is written, and of rows that are rewritten in place; all over the sides.
+use Prim.Native.Nat.{ℕ, zero, suc, _+_, _*_, _-_, _<_, _≤_}
+use native.Mathlib.Omega.{arith}
+use native.Mathlib.Nat.{mul-le-mul-right, eq-or-lt-of-le, le-of-suc-le-suc, suc-mul, zero-mul, add-sub-cancel-left}
+use native.Mathlib.Decide.{decLt, ℕ-discrete}
+use mathlib.Core.Path.{_≡_, refl, sym, ap, _∙_}
+use mathlib.Core.Logic.{_⊎_, ⊎-elim}
+use mathlib.Core.List.{List, [], _∷_, _++_}
+use lib.ListN.{length, take, drop, set, length-drop, length-set, take-append-drop, List·getD-append}
+use lib.Seq.{getD-append-add, getD-take, getD-drop, getD-set-same, getD-set-other, drop-drop, length-take-le}
+use borrow.Rule.Slice.PartMut.{midOf, putMid, drop-put}
+use lib.Ieee.{Float, nan}
+use Rattle.linalg.specs.Matrix.{nth, at, matrix, tabulate}
+use Rattle.linalg.specs.Fill.{Filled, FilledRows}
+use Rattle.linalg.proofs.Laws.{cell, row-within, length-tabulate, nth-tabulate, by-entries, length-matrix, rows-none, rows-more}
+
+-- ---- sizes
+
+-- a matrix of a side up to 16 has at most 256 entries
+pub square-size : (n : ℕ) → n ≤ 16 → n * n ≤ 256
+square-size n h = omega (arith, mul-le-mul-right n h)
+
+-- and at most 512 with a right part as wide
+pub augmented-size : (n r : ℕ) → n ≤ 16 → r ≤ 16 → n * (n + r) ≤ 512
+augmented-size n r h k = omega (arith, mul-le-mul-right (n + r) h)
+
+-- ---- entries
+
+pub at-matrix : (m n : ℕ) (f : ℕ → ℕ → Float) (i j : ℕ) → i < m → j < n → at (matrix m n f) n i j ≡ f i j
+unfolding matrix
+at-matrix zero n f i j h k = absurd (omega arith)
+at-matrix (suc m) n f i j h k = ⊎-elim last (λ l. before l (at-matrix m n f i j l k)) (eq-or-lt-of-le (le-of-suc-le-suc h))
+  where
+    size : length (matrix m n f) ≡ m * n
+    size = length-matrix m n f
+
+    last : i ≡ m → at (matrix m n f ++ tabulate n (f m)) n i j ≡ f i j
+    last e =
+        ap (λ (q : ℕ). nth (matrix m n f ++ tabulate n (f m)) q) (ap (λ (x : ℕ). x * n + j) e ∙ ap (λ (x : ℕ). x + j) (sym size))
+        ∙ getD-append-add (matrix m n f) (tabulate n (f m)) j nan
+        ∙ nth-tabulate n (f m) j k
+        ∙ ap (λ (x : ℕ). f x j) (sym e)
+
+    before : i < m → at (matrix m n f) n i j ≡ f i j → at (matrix m n f ++ tabulate n (f m)) n i j ≡ f i j
+    before l e = List·getD-append (matrix m n f) (tabulate n (f m)) nan (i * n + j) (omega (arith, cell m n l k, size)) ∙ e
+
+-- a list is the matrix of its entries
+pub matrix-by-entries : (m n : ℕ) (f : ℕ → ℕ → Float) (l : List Float) → length l ≡ m * n → ((i j : ℕ) → i < m → j < n → at l n i j ≡ f i j) → l ≡ matrix m n f
+unfolding matrix
+matrix-by-entries zero n f [] e h = refl
+matrix-by-entries zero n f (x ∷ l) e h = absurd (omega (arith, zero-mul n))
+matrix-by-entries (suc m) n f l e h =
+    sym (take-append-drop (m * n) l)
+    ∙ ap (λ (z : List Float). z ++ drop (m * n) l) (matrix-by-entries m n f (take (m * n) l) count upper)
+    ∙ ap (λ (z : List Float). matrix m n f ++ z) lower
+  where
+    count : length (take (m * n) l) ≡ m * n
+    count = length-take-le (m * n) l (omega (arith, suc-mul m n))
+
+    upper : (i j : ℕ) → i < m → j < n → at (take (m * n) l) n i j ≡ f i j
+    upper i j a b = getD-take (m * n) l (i * n + j) nan (cell m n a b) ∙ h i j (omega arith) b
+
+    lower : drop (m * n) l ≡ tabulate n (f m)
+    lower = by-entries n (f m) (drop (m * n) l) (omega (arith, length-drop (m * n) l, suc-mul m n)) (λ q a. getD-drop (m * n) l q nan ∙ h m q (omega arith) a)
+
+pub matrix-ext : (m n : ℕ) (f g : ℕ → ℕ → Float) → ((i j : ℕ) → i < m → j < n → f i j ≡ g i j) → matrix m n f ≡ matrix m n g
+matrix-ext m n f g h = matrix-by-entries m n g (matrix m n f) (length-matrix m n f) (λ i j a b. at-matrix m n f i j a b ∙ h i j a b)
+
+-- ---- one cell
+
+-- a cell has one row and one column
+pub one-row : (n i j a b : ℕ) → j < n → b < n → i * n + j ≡ a * n + b → i ≡ a
+one-row n i j a b h k e = go (decLt i a) (decLt a i)
+  where
+    go : Dec (i < a) → Dec (a < i) → i ≡ a
+    go (yes l) q = absurd (omega (arith, row-within a n l))
+    go (no p) (yes l) = absurd (omega (arith, row-within i n l))
+    go (no p) (no q) = omega arith
+
+pub one-column : (n i j a b : ℕ) → j < n → b < n → i * n + j ≡ a * n + b → j ≡ b
+one-column n i j a b h k e = omega (arith, ap (λ (x : ℕ). x * n) (one-row n i j a b h k e))
+
+-- another cell is not written
+pub at-set-other : (n : ℕ) (l : List Float) (a b : ℕ) (v : Float) (i j : ℕ) → j < n → b < n → (i ≡ a → j ≡ b → ⊥) → at (set l (a * n + b) v) n i j ≡ at l n i j
+at-set-other n l a b v i j h k ne =
+    getD-set-other l (a * n + b) (i * n + j) v nan (λ e. ne (one-row n i j a b h k e) (one-column n i j a b h k e))
+
+-- ---- a part that is filled from entry i on
+
+pub filled-from : (f : ℕ → Float) (l : List Float) (i : ℕ) → ((q : ℕ) → q < i → nth l q ≡ f q) → Filled f l i l
+filled-from f l i h = record { size = refl; done = h; left = λ q k. refl }
+
+-- ---- rows that are rewritten in place, in order
+
+-- the rows before row i, of n columns, are those of f, and the others are still those of old
+pub record Rewritten (f : ℕ → ℕ → Float) (n : ℕ) (old : List Float) (i : ℕ) (new : List Float) : Type 0 where
+  pub rows : FilledRows f n old i new
+  pub rest : drop (i * n) new ≡ drop (i * n) old
+
+pub rewritten-none : (f : ℕ → ℕ → Float) (n : ℕ) (l : List Float) → Rewritten f n l 0 l
+rewritten-none f n l = record { rows = rows-none f n l; rest = refl }
+
+-- the rows before row i already are those of f
+pub rewritten-from : (f : ℕ → ℕ → Float) (n i : ℕ) (l : List Float) → i * n ≤ length l → ((a j : ℕ) → a < i → j < n → at l n a j ≡ f a j) → Rewritten f n l i l
+rewritten-from f n i l h e =
+    record {
+      rows = record { size = refl; done = matrix-by-entries i n f (take (i * n) l) (length-take-le (i * n) l h) (λ a j p q. getD-take (i * n) l (a * n + j) nan (cell i n p q) ∙ e a j p q) };
+      rest = refl;
+    }
+
+-- the row that is rewritten next still has its old entries
+pub rewritten-next : (f : ℕ → ℕ → Float) (n i j : ℕ) {old l : List Float} → j < n → Rewritten f n old i l → nth (midOf (i * n) (i * n + n - i * n) l) j ≡ at old n i j
+rewritten-next f n i j {old} {l} h w =
+    getD-take (i * n + n - i * n) (drop (i * n) l) j nan (omega (arith, add-sub-cancel-left (i * n) n))
+    ∙ ap (λ (z : List Float). nth z j) (w .rest)
+    ∙ getD-drop (i * n) old j nan
+
+pub rewritten-more : (f : ℕ → ℕ → Float) (n i : ℕ) {old l y : List Float} → i * n + n ≤ length l → y ≡ tabulate n (f i) → Rewritten f n old i l → Rewritten f n old (i + 1) (putMid (i * n) (i * n + n - i * n) l y)
+rewritten-more f n i {old} {l} {y} h e w = record { rows = rows-more f n i h e (w .rows); rest = rest }
+  where
+    count : length y ≡ i * n + n - i * n
+    count = ap length e ∙ length-tabulate n (f i) ∙ sym (add-sub-cancel-left (i * n) n)
+
+    next : (i + 1) * n ≡ i * n + n
+    next = omega arith
+
+    rest : drop ((i + 1) * n) (putMid (i * n) (i * n + n - i * n) l y) ≡ drop ((i + 1) * n) old
+    rest =
+        ap (λ (k : ℕ). drop k (putMid (i * n) (i * n + n - i * n) l y)) next
+        ∙ drop-put (i * n) (i * n + n) l y (omega arith) h count
+        ∙ sym (drop-drop n (i * n) l)
+        ∙ ap (λ (z : List Float). drop n z) (w .rest)
+        ∙ drop-drop n (i * n) old
+        ∙ ap (λ (k : ℕ). drop k old) (sym next)

@@ -1,0 +1,75 @@
+-- Laws of norms and of the choice of a pivot row: one more entry, one more row, and where the pivot can be.
+use Prim.Native.Nat.{ℕ, zero, suc, _+_, _*_, _-_, _<_, _≤_}
+use native.Mathlib.Omega.{arith}
+use native.Mathlib.Numerals.{add-one}
+use native.Mathlib.Nat.{le-antisymm, sub-self}
+use mathlib.Core.Bool.{Bool, true, false, cond, not, _||_}
+use mathlib.Core.List.{List}
+use mathlib.Core.Path.{_≡_, refl, sym, ap, _∙_, subst}
+use lib.Ieee.{Float, lt}
+use Rattle.kernel.specs.Number.{abs, div}
+use Rattle.linalg.specs.Matrix.{nought, nth, at}
+use Rattle.pivoting.specs.declared.Pivot.{Pivot}
+use Rattle.pivoting.specs.Pivot.{minScale, raised, greatest, someScale, consider, bestOf, pivot}
+
+pub greatest-more : (f : ℕ → Float) (l : ℕ) {s x t r : Float} → s ≡ greatest l f → x ≡ f l → t ≡ abs x → r ≡ raised s t → r ≡ greatest (l + 1) f
+unfolding greatest
+greatest-more f l p q u e = e ∙ rw (add-one, p, u, q)
+
+pub greatest-all : (f : ℕ → Float) {l n : ℕ} {s : Float} → l ≤ n → n ≤ l → s ≡ greatest l f → s ≡ greatest n f
+greatest-all f h k p = p ∙ ap (λ (y : ℕ). greatest y f) (le-antisymm h k)
+
+pub some-scale-more : (s : List Float) (l : ℕ) {b r : Bool} → b ≡ someScale l s → r ≡ (b || not (lt (nth s l) minScale)) → r ≡ someScale (l + 1) s
+unfolding someScale
+some-scale-more s l p e = e ∙ rw (add-one, p)
+
+pub some-scale-all : (s : List Float) {l n : ℕ} {b : Bool} → l ≤ n → n ≤ l → b ≡ someScale l s → b ≡ someScale n s
+some-scale-all s h k p = p ∙ ap (λ (y : ℕ). someScale y s) (le-antisymm h k)
+
+-- before the first row
+pub best-none : (m s : List Float) (w k : ℕ) → record { ratio = nought; row = k } ≡ bestOf m s w k (k - k)
+unfolding bestOf
+best-none m s w k = ap (λ (d : ℕ). bestOf m s w k d) (sym (sub-self k))
+
+pub best-all : (m s : List Float) (w k : ℕ) {i n : ℕ} {b : Pivot} → i ≤ n → n ≤ i → b ≡ bestOf m s w k (i - k) → b ≡ bestOf m s w k (n - k)
+best-all m s w k h l p = p ∙ ap (λ (y : ℕ). bestOf m s w k (y - k)) (le-antisymm h l)
+
+-- row i, after the rows k to i - 1
+pub best-more : (m s : List Float) (w k i : ℕ) {b r : Pivot} {x : Float} → k ≤ i → b ≡ bestOf m s w k (i - k) → x ≡ at m w i k → r ≡ consider b (nth s i) x i → r ≡ bestOf m s w k (i + 1 - k)
+unfolding bestOf
+best-more m s w k i {b} {r} {x} h p q e = e ∙ one-more ∙ ap (λ (d : ℕ). bestOf m s w k d) count
+  where
+    count : suc (i - k) ≡ i + 1 - k
+    count = omega arith
+
+    place : i ≡ k + (i - k)
+    place = omega arith
+
+    one-more : consider b (nth s i) x i ≡ consider (bestOf m s w k (i - k)) (nth s (k + (i - k))) (at m w (k + (i - k)) k) (k + (i - k))
+    one-more =
+        ap (λ (z : Pivot). consider z (nth s i) x i) p
+        ∙ ap (λ (z : Float). consider (bestOf m s w k (i - k)) (nth s i) z i) q
+        ∙ ap (λ (z : ℕ). consider (bestOf m s w k (i - k)) (nth s z) (at m w z k) z) place
+
+-- the row that is considered is the one before or the new one
+consider-row : (P : ℕ → Type 0) (b : Pivot) (s x : Float) (i : ℕ) → P (b .row) → P i → P (consider b s x i .row)
+unfolding consider
+consider-row P b s x i p q = outer (lt s minScale)
+  where
+    inner : (t : Bool) → P ((cond t (record { ratio = div (abs x) s; row = i }) b) .row)
+    inner true = q
+    inner false = p
+
+    outer : (t : Bool) → P ((cond t b (cond (lt (b .ratio) (div (abs x) s)) (record { ratio = div (abs x) s; row = i }) b)) .row)
+    outer true = p
+    outer false = inner (lt (b .ratio) (div (abs x) s))
+
+best-row : (m s : List Float) (n w k d : ℕ) → k < n → k + d ≤ n → bestOf m s w k d .row < n
+unfolding bestOf
+best-row m s n w k zero h l = h
+best-row m s n w k (suc d) h l =
+    consider-row (λ (q : ℕ). q < n) (bestOf m s w k d) (nth s (k + d)) (at m w (k + d) k) (k + d) (best-row m s n w k d h (omega arith)) (omega arith)
+
+-- the pivot b stands in one of the n rows
+pub pivot-row : (m s : List Float) (n w k : ℕ) {b : Pivot} → k < n → b ≡ pivot m s n w k → b .row < n
+pivot-row m s n w k h e = subst (λ (q : Pivot). q .row < n) (sym e) (best-row m s n w k (n - k) h (omega arith))

@@ -1,0 +1,48 @@
+-- `choose` meets its contract: before turn i the best is that of the rows k to i - 1.
+use Prim.Native.Nat.{_-_, _≤_}
+use mathlib.Core.Path.{_≡_, refl, sym, ap, _∙_}
+use native.Mathlib.Nat.{le-antisymm}
+use Rattle.linalg.specs.Matrix.{at}
+use Rattle.linalg.proofs.Laws.{cell}
+use Rattle.pivoting.specs.Pivot.{bestOf}
+use Rattle.pivoting.proofs.Pivots.{best-more, best-none, best-all}
+use borrow.Author.Needs.{needs}
+use native.Mathlib.Omega.{arith}
+use Rattle.pivoting.proofs.choice.choose.Statement.{statement}
+use Rattle.pivoting.proofs.choice.choose.Tie as tie
+
+abbrev Inv-loop : tie.InvT-loop
+Inv-loop m s n w k best₀ i₀ best i = (k ≤ i) × (i ≤ n) × (best ≡ bestOf m s w k (i - k))
+
+abbrev μ-loop : tie.MeasureT-loop
+μ-loop m s n w k best₀ i₀ best i = n - i
+
+loop-holds : tie.Need-loop-holds Inv-loop μ-loop
+loop-holds c = (omega arith, omega arith, best-none _ _ _ _)
+
+mul-consider : tie.Need-mul-consider Inv-loop μ-loop
+mul-consider c = omega arith
+
+shared-slice-read-consider : tie.Need-shared-slice-read-consider Inv-loop μ-loop
+shared-slice-read-consider c = omega arith
+
+entry-requires : tie.Need-entry-requires Inv-loop μ-loop
+entry-requires c κs = omega (arith, cell (c .before .before .before .before .before .args .n) (c .before .before .before .before .before .args .w) {i = c .before .before .loop .i} {j = c .before .before .before .before .before .args .k} (omega arith) (omega arith))
+
+consider-requires : tie.Need-consider-requires Inv-loop μ-loop
+consider-requires c κs = search needs
+
+add-i : tie.Need-add-i Inv-loop μ-loop
+add-i c = omega arith
+
+loop-less : tie.Need-loop-less Inv-loop μ-loop
+loop-less c = omega arith
+
+loop-again : tie.Need-loop-again Inv-loop μ-loop
+loop-again c = (omega arith, omega arith, best-more _ _ _ _ _ (c .before .before .before .before .loop .inv .0) (c .before .before .before .before .loop .inv .2) (c .before .entry .ensures) (c .consider .ensures))
+
+returns : tie.Need-returns Inv-loop μ-loop
+returns c = best-all _ _ _ _ (c .before .loop .inv .1) (c .loop-test .left) (c .before .loop .inv .2)
+
+pub choose-spec : {M : Type 1} → statement M
+choose-spec = tie.close (tie.spec Inv-loop μ-loop loop-holds mul-consider shared-slice-read-consider entry-requires consider-requires add-i loop-less loop-again returns)

@@ -1,0 +1,27 @@
+-- `lower_row` meets its contract: the pivot row itself, or a row that loses its part.
+use mathlib.Core.Path.{_∙_}
+use borrow.Author.Tests.{eq-eqb, ne-eqb}
+use borrow.Author.Needs.{needs}
+use Rattle.pivoting.proofs.det.lower_row.Statement.{statement}
+use Rattle.pivoting.proofs.det.lower_row.Tie as tie
+
+copy-requires : tie.Need-copy-requires
+copy-requires c κs = search needs
+
+same-length : tie.Need-same-length
+same-length c = search needs
+
+returns : tie.Need-returns
+returns c = c .before .before .copy .ensures ∙ simp (eq-eqb _ _ (c .before .before .before .before .if1 .taken))
+
+lower-entries-requires : tie.Need-lower-entries-requires
+lower-entries-requires c κs = search needs
+
+same-length-2 : tie.Need-same-length-2
+same-length-2 c = search needs
+
+returns-2 : tie.Need-returns-2
+returns-2 c = c .before .before .lower-entries .ensures ∙ simp (ne-eqb _ _ (c .before .before .before .before .if1 .left))
+
+pub lower-row-spec : {M : Type 1} → statement M
+lower-row-spec = tie.close (tie.spec copy-requires same-length returns lower-entries-requires same-length-2 returns-2)

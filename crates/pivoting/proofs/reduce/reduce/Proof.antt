@@ -1,0 +1,72 @@
+-- `reduce` meets its contract: before turn k the first k columns are reduced, each with a pivot.
+use Prim.Native.Nat.{ℕ, _-_, _≤_}
+use native.Mathlib.Nat.{le-antisymm}
+use mathlib.Core.Bool.{true, false}
+use mathlib.Core.Path.{_≡_, refl, sym, ap, _∙_}
+use borrow.Author.Tests.{not-true, not-false}
+use lib.ListN.{length}
+use Rattle.pivoting.specs.Pivot.{stage, pivoted}
+use Rattle.pivoting.specs.Solve.{reduced}
+use Rattle.pivoting.proofs.Stages.{reduced-more, pivoted-more, pivoted-never}
+use native.Mathlib.Omega.{arith}
+use Rattle.pivoting.proofs.reduce.reduce.Statement.{statement}
+use Rattle.pivoting.proofs.reduce.reduce.Tie as tie
+
+abbrev Inv-loop : tie.InvT-loop
+Inv-loop m₀ s₀ x₀ n w k₀ m s x k = (k ≤ n) × (length m ≡ length m₀) × (length s ≡ length s₀) × (length x ≡ length x₀) × (pivoted n w (reduced n w (stage m₀ s₀)) k ≡ true) × (stage m s ≡ reduced n w (stage m₀ s₀) k)
+
+abbrev μ-loop : tie.MeasureT-loop
+μ-loop m₀ s₀ x₀ n w k₀ m s x k = n - k
+
+loop-holds : tie.Need-loop-holds Inv-loop μ-loop
+unfolding pivoted reduced
+loop-holds c = (omega arith, refl, refl, refl, refl, refl)
+
+reduce-column-requires : tie.Need-reduce-column-requires Inv-loop μ-loop
+reduce-column-requires c κs = omega arith
+
+same-length : tie.Need-same-length Inv-loop μ-loop
+same-length c = c .before .before .before .before .before .before .before .reduce-column .kept .0 ∙ c .before .before .before .before .before .before .before .before .before .before .before .before .loop .inv .1
+
+same-length-2 : tie.Need-same-length-2 Inv-loop μ-loop
+same-length-2 c = c .before .before .before .before .before .before .before .reduce-column .kept .1 .0 ∙ c .before .before .before .before .before .before .before .before .before .before .before .before .loop .inv .2
+
+same-length-3 : tie.Need-same-length-3 Inv-loop μ-loop
+same-length-3 c = c .before .before .before .before .before .before .before .reduce-column .kept .1 .1 .0 ∙ c .before .before .before .before .before .before .before .before .before .before .before .before .loop .inv .3
+
+returns : tie.Need-returns Inv-loop μ-loop
+returns c =
+    let turn = c .before .before .before .before .before .before .before .before .before .before .before .before .loop in
+    (sym (pivoted-never _ _ _ (turn .k) (c .before .before .before .before .before .before .before .before .before .before .before .loop-test .taken) (turn .inv .4) (turn .inv .5) (c .before .before .before .before .before .before .before .reduce-column .ensures .0) (not-true _ (c .if1 .taken))), λ e. absurd (let z : _≡_ {A = ℕ} 0 1 = cc in omega arith))
+
+add-k : tie.Need-add-k Inv-loop μ-loop
+add-k c = omega arith
+
+loop-less : tie.Need-loop-less Inv-loop μ-loop
+loop-less c = omega arith
+
+loop-again : tie.Need-loop-again Inv-loop μ-loop
+loop-again c =
+    let turn = c .before .before .before .before .before .before .before .before .before .before .before .before .loop in
+    let ok : c .before .before .before .before .before .before .before .reduce-column .result ≡ true = not-false _ (c .if1 .left) in
+    (omega arith, c .before .before .before .before .before .before .before .reduce-column .kept .0 ∙ turn .inv .1, c .before .before .before .before .before .before .before .reduce-column .kept .1 .0 ∙ turn .inv .2, c .before .before .before .before .before .before .before .reduce-column .kept .1 .1 .0 ∙ turn .inv .3, sym (pivoted-more _ _ _ (turn .k) (turn .inv .4) (turn .inv .5) (c .before .before .before .before .before .before .before .reduce-column .ensures .0)) ∙ ok, reduced-more _ _ _ _ _ _ (turn .inv .5) (c .before .before .before .before .before .before .before .reduce-column .ensures .1 ok))
+
+same-length-4 : tie.Need-same-length-4 Inv-loop μ-loop
+same-length-4 c = c .before .loop .inv .1
+
+same-length-5 : tie.Need-same-length-5 Inv-loop μ-loop
+same-length-5 c = c .before .loop .inv .2
+
+same-length-6 : tie.Need-same-length-6 Inv-loop μ-loop
+same-length-6 c = c .before .loop .inv .3
+
+returns-2 : tie.Need-returns-2 Inv-loop μ-loop
+returns-2 c =
+    let turn = c .before .loop in
+    let x = c .before .before .before .before .before .args in
+    let f = reduced (x .n) (x .w) (stage (x .m .now) (x .s .now)) in
+    let e = le-antisymm (turn .inv .0) (c .loop-test .left) in
+    (sym (turn .inv .4) ∙ ap (pivoted (x .n) (x .w) f) e, λ q. turn .inv .5 ∙ ap f e)
+
+pub reduce-spec : {M : Type 1} → statement M
+reduce-spec = tie.close (tie.spec Inv-loop μ-loop loop-holds reduce-column-requires same-length same-length-2 same-length-3 returns add-k loop-less loop-again same-length-4 same-length-5 same-length-6 returns-2)

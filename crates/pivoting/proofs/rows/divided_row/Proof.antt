@@ -1,0 +1,51 @@
+-- `divided_row` meets its contract: before turn j the entries before j are divided.
+use Prim.Native.Nat.{_-_, _≤_}
+use Rattle.kernel.specs.Number.{div}
+use mathlib.Core.Path.{_≡_}
+use Rattle.linalg.specs.Matrix.{at}
+use Rattle.linalg.specs.Fill.{Filled}
+use Rattle.linalg.proofs.Laws.{cell, filled-none, filled-more, filled-all}
+use native.Mathlib.Omega.{arith}
+use Rattle.pivoting.proofs.rows.divided_row.Statement.{statement}
+use Rattle.pivoting.proofs.rows.divided_row.Tie as tie
+
+abbrev Inv-loop : tie.InvT-loop
+Inv-loop m n w p k y₀ d j₀ y j = (j ≤ w) × (d ≡ at m w p k) × Filled (λ q. div (at m w p q) (at m w p k)) y₀ j y
+
+abbrev μ-loop : tie.MeasureT-loop
+μ-loop m n w p k y₀ d j₀ y j = w - j
+
+entry-requires : tie.Need-entry-requires Inv-loop μ-loop
+entry-requires c κs = omega (arith, cell (c .before .before .args .n) (c .before .before .args .w) {i = c .before .before .args .p} {j = c .before .before .args .k} (omega arith) (omega arith))
+
+loop-holds : tie.Need-loop-holds Inv-loop μ-loop
+loop-holds c = (omega arith, c .entry .ensures, filled-none _ _)
+
+entry-requires-2 : tie.Need-entry-requires-2 Inv-loop μ-loop
+entry-requires-2 c κs = omega (arith, cell (c .before .before .before .before .before .args .n) (c .before .before .before .before .before .args .w) {i = c .before .before .before .before .before .args .p} {j = c .before .loop .j} (omega arith) (omega arith))
+
+mul-y : tie.Need-mul-y Inv-loop μ-loop
+mul-y c = omega arith
+
+slice-write-y : tie.Need-slice-write-y Inv-loop μ-loop
+slice-write-y c = omega arith
+
+add-j : tie.Need-add-j Inv-loop μ-loop
+add-j c = omega arith
+
+loop-less : tie.Need-loop-less Inv-loop μ-loop
+loop-less c = omega arith
+
+loop-again : tie.Need-loop-again Inv-loop μ-loop
+loop-again c =
+    let turn = c .before .before .loop in
+    (omega arith, turn .inv .1, filled-more _ (turn .j) (omega arith) (rw (turn .inv .1, c .entry2 .ensures)) (turn .inv .2))
+
+same-length : tie.Need-same-length Inv-loop μ-loop
+same-length c = c .before .loop .inv .2 .size
+
+returns : tie.Need-returns Inv-loop μ-loop
+returns c = filled-all _ (c .before .before .before .before .before .pre .3) (c .loop-test .left) (c .before .loop .inv .2)
+
+pub divided-row-spec : {M : Type 1} → statement M
+divided-row-spec = tie.close (tie.spec Inv-loop μ-loop entry-requires loop-holds entry-requires-2 mul-y slice-write-y add-j loop-less loop-again same-length returns)

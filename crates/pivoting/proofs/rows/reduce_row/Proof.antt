@@ -1,0 +1,33 @@
+-- `reduce_row` meets its contract: the pivot row itself, or a row that loses its part.
+use mathlib.Core.Path.{_∙_}
+use borrow.Author.Tests.{eq-eqb, ne-eqb}
+use borrow.Author.Needs.{needs}
+use Rattle.pivoting.proofs.rows.reduce_row.Statement.{statement}
+use Rattle.pivoting.proofs.rows.reduce_row.Tie as tie
+
+copy-requires : tie.Need-copy-requires
+copy-requires c κs = search needs
+
+same-length : tie.Need-same-length
+same-length c = search needs
+
+returns : tie.Need-returns
+returns c = c .before .before .copy .ensures ∙ simp (eq-eqb _ _ (c .before .before .before .before .if1 .taken))
+
+mul-factor : tie.Need-mul-factor
+mul-factor c = search needs
+
+slice-read-factor : tie.Need-slice-read-factor
+slice-read-factor c = search needs
+
+subtract-scaled-requires : tie.Need-subtract-scaled-requires
+subtract-scaled-requires c κs = search needs
+
+same-length-2 : tie.Need-same-length-2
+same-length-2 c = search needs
+
+returns-2 : tie.Need-returns-2
+returns-2 c = c .before .before .subtract-scaled .ensures ∙ simp (ne-eqb _ _ (c .before .before .before .before .before .if1 .left))
+
+pub reduce-row-spec : {M : Type 1} → statement M
+reduce-row-spec = tie.close (tie.spec copy-requires same-length returns mul-factor slice-read-factor subtract-scaled-requires same-length-2 returns-2)

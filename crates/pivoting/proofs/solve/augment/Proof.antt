@@ -1,0 +1,62 @@
+-- `augment` meets its contract: before turn i the rows above row i are written.
+use Prim.Native.Nat.{_+_, _*_, _-_, _≤_}
+use lib.ListN.{length}
+use Rattle.linalg.specs.Fill.{FilledRows}
+use Rattle.linalg.proofs.Laws.{row-within, length-part, rows-none, rows-more, rows-all}
+use Rattle.pivoting.specs.Solve.{augmentedEntry, augmented}
+use native.Mathlib.Omega.{arith}
+use Rattle.pivoting.proofs.solve.augment.Statement.{statement}
+use Rattle.pivoting.proofs.solve.augment.Tie as tie
+
+abbrev Inv-loop : tie.InvT-loop
+Inv-loop a b n r w m₀ i₀ m i = (i ≤ n) × FilledRows (augmentedEntry a b n r) w m₀ i m
+
+abbrev μ-loop : tie.MeasureT-loop
+μ-loop a b n r w m₀ i₀ m i = n - i
+
+-- row i lies within the slice
+within : (c : tie.In-loop Inv-loop μ-loop) → c .before .loop .i * c .before .before .before .before .before .args .w + c .before .before .before .before .before .args .w ≤ length (c .before .loop .m)
+within c = omega (arith, row-within (c .before .before .before .before .before .args .n) (c .before .before .before .before .before .args .w) {i = c .before .loop .i} (omega arith))
+
+loop-holds : tie.Need-loop-holds Inv-loop μ-loop
+loop-holds c = (omega arith, rows-none _ _ _)
+
+mul-start : tie.Need-mul-start Inv-loop μ-loop
+mul-start c = omega (arith, within c)
+
+add-augmented-row : tie.Need-add-augmented-row Inv-loop μ-loop
+add-augmented-row c = omega (arith, within c)
+
+mul-augmented-row : tie.Need-mul-augmented-row Inv-loop μ-loop
+mul-augmented-row c = omega (arith, within c)
+
+sub-augmented-row : tie.Need-sub-augmented-row Inv-loop μ-loop
+sub-augmented-row c = omega arith
+
+part-augmented-row-start : tie.Need-part-augmented-row-start Inv-loop μ-loop
+part-augmented-row-start c = omega arith
+
+part-augmented-row-end : tie.Need-part-augmented-row-end Inv-loop μ-loop
+part-augmented-row-end c = omega (arith, within c)
+
+augmented-row-requires : tie.Need-augmented-row-requires Inv-loop μ-loop
+augmented-row-requires c κs = (omega arith, omega arith, omega arith, omega arith, length-part (c .before .before .loop .m) (c .before .before .before .before .before .before .args .w) (c .before .before .loop .i) (within (c .before)))
+
+add-i : tie.Need-add-i Inv-loop μ-loop
+add-i c = omega arith
+
+loop-less : tie.Need-loop-less Inv-loop μ-loop
+loop-less c = omega arith
+
+loop-again : tie.Need-loop-again Inv-loop μ-loop
+loop-again c = (omega arith, rows-more _ (c .before .before .before .before .before .before .before .before .before .args .w) (c .before .before .before .before .before .loop .i) (within (c .before .before .before .before)) (c .before .before .augmented-row .ensures) (c .before .before .before .before .before .loop .inv .1))
+
+same-length : tie.Need-same-length Inv-loop μ-loop
+same-length c = c .before .loop .inv .1 .size
+
+returns : tie.Need-returns Inv-loop μ-loop
+unfolding augmented
+returns c = rw (← (c .before .before .before .before .before .pre .0)) (rows-all _ _ _ (c .before .before .before .before .before .pre .3) (c .before .loop .inv .0) (c .loop-test .left) (c .before .loop .inv .1))
+
+pub augment-spec : {M : Type 1} → statement M
+augment-spec = tie.close (tie.spec Inv-loop μ-loop loop-holds mul-start add-augmented-row mul-augmented-row sub-augmented-row part-augmented-row-start part-augmented-row-end augmented-row-requires add-i loop-less loop-again same-length returns)

@@ -1,0 +1,118 @@
+-- Gauss–Jordan elimination by scaled pivots, of document 01, "Pivoting": `mat_solve`, `mat_inv` and the distance over the inverse.
+use Prim.Native.Nat.{ℕ, zero, suc, _+_, _*_, _-_}
+use mathlib.Core.Bool.{Bool, true, cond, _&&_}
+use mathlib.Core.List.{List}
+use lib.Dec.{eqb, ltb}
+use lib.Ieee.{Float, binary64, ofBits}
+use Rattle.kernel.specs.Number.{sub, mul, div}
+use Rattle.kernel.specs.Answer.{Outcome, refused, answered, ask}
+use Rattle.linalg.specs.Matrix.{nought, nth, at, matrix, tabulate, side, long}
+use Rattle.linalg.specs.declared.Written.{Written}
+use Rattle.linalg.specs.declared.Written.the-variants as written
+use Rattle.linalg.specs.declared.Number.{Number}
+use Rattle.linalg.specs.declared.Number.the-variants as number
+use Rattle.linalg.specs.Sums.{difference, quadraticForm}
+use Rattle.pivoting.specs.Pivot.{rowNorms, greatest, someScale, bestOf, swapped, swappedNorms, Stage, stage, pivotAt, pivoted}
+
+-- 1.0
+abbrev pub one : Float
+one = ofBits binary64 0x3ff0000000000000
+
+-- Entry (i, j) when the pivot of column k is in row p: rows k and p of m, of w columns, have changed places, row k is
+-- divided by its entry in column k, and every other row loses its own entry in column k times that.
+unfoldable pub stepEntry : List Float → ℕ → ℕ → ℕ → ℕ → ℕ → Float
+unfolding swapped
+stepEntry m w k p i j =
+    cond (eqb i k)
+    (div (at m w p j) (at m w p k))
+    (sub (at m w (swapped k p i) j) (mul (at m w (swapped k p i) k) (div (at m w p j) (at m w p k))))
+
+-- column k of n rows and w columns is reduced
+unfoldable pub column : ℕ → ℕ → ℕ → Stage → Stage
+unfolding bestOf stepEntry matrix tabulate swapped
+column n w k t =
+    let p = pivotAt n w k t .row in
+    stage (matrix n w (stepEntry (t .rows) w k p)) (swappedNorms n k p (t .norms))
+
+-- the first k columns are reduced
+unfoldable pub reduced : ℕ → ℕ → Stage → ℕ → Stage
+unfolding column
+reduced n w t zero = t
+reduced n w t (suc k) = column n w k (reduced n w t k)
+
+-- entry (i, j) of [a | b], for a n by n and b n by r
+abbrev pub augmentedEntry : List Float → List Float → ℕ → ℕ → ℕ → ℕ → Float
+augmentedEntry a b n r i j = cond (ltb j n) (at a n i j) (at b r i (j - n))
+
+-- [a | b]
+unfoldable pub augmented : List Float → List Float → ℕ → ℕ → List Float
+unfolding matrix
+augmented a b n r = matrix n (n + r) (augmentedEntry a b n r)
+
+-- [a | b] with the norms of a
+abbrev pub start : List Float → List Float → ℕ → ℕ → Stage
+start a b n r = stage (augmented a b n r) (rowNorms a n)
+
+-- the right part of [a | b] when every column of a is reduced: the n by r matrix x with a x = b
+unfoldable pub solution : List Float → List Float → ℕ → ℕ → List Float
+unfolding augmented reduced matrix greatest
+solution a b n r = let m = reduced n (n + r) (start a b n r) n .rows in matrix n r (λ i j. at m (n + r) i (n + j))
+
+-- questions 5 and 6, and then the solution
+unfoldable pub solved : List Float → List Float → ℕ → ℕ → Outcome (List Float)
+unfolding someScale pivoted solution
+solved a b n r =
+    ask 5 (someScale n (rowNorms a n))
+    (ask 6 (pivoted n (n + r) (reduced n (n + r) (start a b n r)) n)
+    (answered (solution a b n r)))
+
+-- entry (i, j) of the identity
+abbrev pub unitEntry : ℕ → ℕ → Float
+unitEntry i j = cond (eqb i j) one nought
+
+-- the n by n identity
+abbrev pub identity : ℕ → List Float
+identity n = matrix n n unitEntry
+
+-- `mat_solve`: the vector x with a x = b, for a n by n
+unfoldable pub matSolve : List Float → List Float → ℕ → List Float → Outcome (List Float)
+unfolding solved side long
+matSolve a b n out =
+    ask 1 (side n)
+    (ask 2 (long a (n * n) && (long b n && long out n))
+    (solved a b n 1))
+
+-- `mat_inv`: the inverse of a, n by n, is the solution against the identity
+unfoldable pub matInv : List Float → ℕ → List Float → Outcome (List Float)
+unfolding solved side long
+matInv a n out =
+    ask 1 (side n)
+    (ask 2 (long a (n * n) && long out (n * n))
+    (solved a (identity n) n n))
+
+-- f of what is answered; a refusal stays
+abbrev pub through : {A B : Type 0} → (A → B) → Outcome A → Outcome B
+through f (refused k) = refused k
+through f (answered v) = answered (f v)
+
+-- the answer where v is the number that follows a call that wrote: its refusal stays
+abbrev pub following : Written → Float → Number
+following (written.Refused k) v = number.Refused k
+following written.Done v = number.Value v
+
+-- column j of x, of n rows and r columns
+abbrev pub columnOf : ℕ → ℕ → ℕ → List Float → List Float
+columnOf n r j x = tabulate n (λ i. at x r i j)
+
+-- the quadratic form of x - mu under the inverse of cov, n by n, where it has one
+unfoldable pub distance : List Float → List Float → List Float → ℕ → Outcome Float
+unfolding solved quadraticForm
+distance x mu cov n = through (λ inv. quadraticForm (difference x mu n) inv n) (solved cov (identity n) n n)
+
+-- `mahalanobis_distance_squared`
+unfoldable pub mahalanobis : List Float → List Float → List Float → ℕ → Outcome Float
+unfolding distance side long
+mahalanobis x mu cov n =
+    ask 1 (side n)
+    (ask 2 (long x n && (long mu n && long cov (n * n)))
+    (distance x mu cov n))

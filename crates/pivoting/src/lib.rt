@@ -1,0 +1,15 @@
+// Scaled pivoting on f64: row norms, solutions, inverses and determinants of matrices of sides 1 to 16.
+mod choice;
+mod det;
+pub mod generic;
+mod norms;
+mod reduce;
+mod rows;
+mod shape;
+mod solve;
+
+// The best pivot row of a column so far, and its ratio.
+pub struct Pivot {
+    pub ratio: f64,
+    pub row: usize,
+}

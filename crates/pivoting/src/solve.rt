@@ -1,0 +1,126 @@
+// The solution of a x = b for several right sides at once.
+ghost use mathlib.Core.Path.{_≡_};
+ghost use Prim.Native.Nat.{_+_, _*_, _<_, _≤_};
+ghost use lib.ListN.{length};
+ghost use Rattle.linalg.specs.Answer.{Leaves, given};
+ghost use Rattle.linalg.specs.Matrix.{at, matrix};
+ghost use Rattle.linalg.specs.Sums.{difference, quadraticForm};
+ghost use Rattle.pivoting.specs.Solve.{augmented, identity, solved, following, distance};
+use crate::norms::row_norms;
+use crate::norms::some_scale;
+use crate::reduce::reduce;
+use crate::rows::augmented_row;
+use crate::rows::right_row;
+use crate::rows::unit_row;
+use kernel::question::PIVOT_RATIO;
+use kernel::question::ROW_NORM;
+use linalg::Number;
+use linalg::Written;
+use linalg::generic::mahalanobis_distance_squared_with_inv;
+
+// Writes [a | b], for a n by n and b n by r.
+fn augment(a: &[f64], b: &[f64], n: usize, r: usize, w: usize, m: &mut [f64])
+    requires { ⌜ (w ≡ n + r) × (length (now a) ≡ n * n) × (length (now b) ≡ n * r) × (length (now m) ≡ n * w) ⌝ }
+    ensures { λ _. ⌜ now (m .exit) ≡ augmented (now (a .entry)) (now (b .entry)) n r ⌝ }
+{
+    for i in 0..n {
+        let start = i * w;
+        augmented_row(a, b, n, r, i, w, &mut m[start..start + w]);
+    }
+}
+
+// Writes what stands in m, n by w, right of its first n columns.
+fn right_part(m: &[f64], n: usize, r: usize, w: usize, out: &mut [f64])
+    requires { ⌜ (w ≡ n + r) × (length (now m) ≡ n * w) × (length (now out) ≡ n * r) ⌝ }
+    ensures { λ _. ⌜ now (out .exit) ≡ matrix n r (λ i j. at (now (m .entry)) w i (n + j)) ⌝ }
+{
+    for i in 0..n {
+        let start = i * r;
+        right_row(m, n, r, i, w, &mut out[start..start + r]);
+    }
+}
+
+// Questions 5 and 6, and then the x with a x = b, for a n by n and b n by r, into out. The slices m, s and x are room for
+// the augmented matrix, the norms and one row.
+fn solve_in(
+    a: &[f64],
+    b: &[f64],
+    n: usize,
+    r: usize,
+    w: usize,
+    m: &mut [f64],
+    s: &mut [f64],
+    x: &mut [f64],
+    out: &mut [f64],
+) -> Written
+    requires { ⌜ (w ≡ n + r) × (length (now a) ≡ n * n) × (length (now b) ≡ n * r) × (length (now m) ≡ n * w) × (length (now s) ≡ n) × (length (now x) ≡ w) × (length (now out) ≡ n * r) ⌝ }
+    ensures { λ q. ⌜ Leaves (solved (now (a .entry)) (now (b .entry)) n r) (now (out .entry)) q (now (out .exit)) ⌝ }
+{
+    row_norms(a, n, s);
+    if !some_scale(s, n) {
+        return Written::Refused(ROW_NORM);
+    }
+    augment(a, b, n, r, w, m);
+    if !reduce(m, s, x, n, w) {
+        return Written::Refused(PIVOT_RATIO);
+    }
+    right_part(m, n, r, w, out);
+    Written::Done
+}
+
+// The same with room of its own.
+pub(crate) fn solve(a: &[f64], b: &[f64], n: usize, r: usize, out: &mut [f64]) -> Written
+    requires { ⌜ (n ≤ 16) × (r ≤ 16) × (length (now a) ≡ n * n) × (length (now b) ≡ n * r) × (length (now out) ≡ n * r) ⌝ }
+    ensures { λ q. ⌜ Leaves (solved (now (a .entry)) (now (b .entry)) n r) (now (out .entry)) q (now (out .exit)) ⌝ }
+{
+    let mut m = [0.0f64; 512];
+    let mut s = [0.0f64; 16];
+    let mut x = [0.0f64; 32];
+    let w = n + r;
+    let size = n * w;
+    solve_in(a, b, n, r, w, &mut m[..size], &mut s[..n], &mut x[..w], out)
+}
+
+// Writes the n by n identity.
+fn identity(n: usize, e: &mut [f64])
+    requires { ⌜ length (now e) ≡ n * n ⌝ }
+    ensures { λ _. ⌜ now (e .exit) ≡ identity n ⌝ }
+{
+    for i in 0..n {
+        let start = i * n;
+        unit_row(n, i, &mut e[start..start + n]);
+    }
+}
+
+// Questions 5 and 6, and then the inverse of a, n by n, into out.
+pub(crate) fn inverse(a: &[f64], n: usize, out: &mut [f64]) -> Written
+    requires { ⌜ (n ≤ 16) × (length (now a) ≡ n * n) × (length (now out) ≡ n * n) ⌝ }
+    ensures { λ q. ⌜ Leaves (solved (now (a .entry)) (identity n) n n) (now (out .entry)) q (now (out .exit)) ⌝ }
+{
+    let mut e = [0.0f64; 256];
+    let size = n * n;
+    identity(n, &mut e[..size]);
+    solve(a, &e[..size], n, n, out)
+}
+
+// The quadratic form of x - mu under inv, n by n, where the call that wrote inv has answered.
+fn distance_under(answer: Written, x: &[f64], mu: &[f64], inv: &[f64], n: usize) -> Number
+    requires { ⌜ (1 ≤ n) × (n ≤ 16) × (length (now x) ≡ n) × (length (now mu) ≡ n) × (length (now inv) ≡ n * n) ⌝ }
+    ensures { λ q. ⌜ q ≡ following answer (quadraticForm (difference (now (x .entry)) (now (mu .entry)) n) (now (inv .entry)) n) ⌝ }
+{
+    match answer {
+        Written::Refused(q) => Number::Refused(q),
+        Written::Done => mahalanobis_distance_squared_with_inv(x, mu, inv, n),
+    }
+}
+
+// Questions 5 and 6, and then the quadratic form of x - mu under the inverse of cov, n by n.
+pub(crate) fn distance(x: &[f64], mu: &[f64], cov: &[f64], n: usize) -> Number
+    requires { ⌜ (1 ≤ n) × (n ≤ 16) × (length (now x) ≡ n) × (length (now mu) ≡ n) × (length (now cov) ≡ n * n) ⌝ }
+    ensures { λ q. ⌜ q ≡ given (distance (now (x .entry)) (now (mu .entry)) (now (cov .entry)) n) ⌝ }
+{
+    let mut inv = [0.0f64; 256];
+    let size = n * n;
+    let answer = inverse(cov, n, &mut inv[..size]);
+    distance_under(answer, x, mu, &inv[..size], n)
+}
