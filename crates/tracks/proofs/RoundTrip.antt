@@ -1,26 +1,26 @@
 -- The return trip, both ways: what is read is written as the same bytes, and what is written is read as the same values.
 use Prim.Native.Nat.{ℕ, zero, suc, _+_, _-_, _*_, _<_, _≤_}
 use native.Mathlib.Omega.{arith}
-use native.Mathlib.Nat.{eq-or-lt-of-le, zero-mul, suc-mul}
+use native.Mathlib.Nat.{eq-or-lt-of-le, zero-mul, suc-mul, mul-le-mul-right}
 use mathlib.Core.Path.{_≡_, refl, sym, ap, _∙_, subst}
 use mathlib.Core.Logic.{⊎-elim}
 use mathlib.Core.Bool.{true}
 use mathlib.Core.List.{List, [], _∷_, flatMap, append-nil}
-use borrow.Author.Tests.{le-leb, eq-eqb}
+use borrow.Author.Tests.{le-leb, eq-eqb, leb-true}
 use lib.ListN.{length, getD, take, drop, length-append, length-drop, List·getD-append}
 use lib.Seq.{take-all, getD-at, length-take-le}
 use lib.Ieee.{Float}
 use Rattle.kernel.specs.Answer.{answered}
-use Rattle.tracks.specs.Format.{Bytes, Words, fields}
+use Rattle.tracks.specs.Format.{Bytes, Words, fields, mapBytes}
 use Rattle.tracks.specs.Read.{Item, track, tracks, count, dimension, countMet, dimensionMet, whole, contents}
 use Rattle.tracks.specs.Write.{tabulate, allFinite, recordOf, recordsOf, listOf, tracksOf, written}
 use Rattle.tracks.specs.Calls.{doubles, patterns, Doubles, joined}
 use Rattle.tracks.proofs.Items.{items-ind, items-length}
-use Rattle.tracks.proofs.Accepted.{contents-met, contents-head}
+use Rattle.tracks.proofs.Accepted.{contents-met, contents-head, dimension-small}
 use Rattle.tracks.proofs.Lists.{length-tabulate, getD-tabulate, row}
 use Rattle.tracks.proofs.Stream.{Part, read-bytes, bytes-read}
 use Rattle.tracks.proofs.Track.{Fit, track-read, track-of}
-use Rattle.tracks.proofs.Written.{written-met}
+use Rattle.tracks.proofs.Written.{record-length, stored-size, written-met}
 use Rattle.tracks.proofs.Values.{patterns-doubles, doubles-patterns, patterns-words, all-append, all-take, all-drop, words-append, words-take, words-drop, joined-tracks, tracks-joined}
 
 -- ---- tracks that a list can hold
@@ -69,6 +69,24 @@ unfolding listOf
 accepted-list l h ts e =
     let w = contents-met l e in
     ap (λ (n : ℕ). n ∷ dimension l ∷ recordsOf ts) (accepted-length l ts e) ∙ ap (λ (s : List ℕ). count l ∷ dimension l ∷ s) (sym (accepted-records l h ts e)) ∙ sym (two-first l (w .two))
+
+-- the largest list, of 32 tracks of dimension 9
+records-size : (f : ℕ) (ts : List (List ℕ)) → f ≤ 54 → Fits f ts → length (recordsOf ts) ≤ 439 * length ts
+unfolding recordsOf flatMap
+records-size f [] le h = omega arith
+records-size f (t ∷ ts) le h =
+    let p = h 0 (omega arith) .long in
+    omega (arith, length-append (recordOf t) (recordsOf ts), record-length t, stored-size t, p, ap mapBytes p, records-size f ts le (λ k lt. h (suc k) (omega arith)))
+
+-- An accepted list has at most 14,050 bytes.
+pub accepted-size : (l : List ℕ) → Bytes l → (ts : List (List ℕ)) → contents l ≡ answered ts → length l ≤ 14050
+unfolding fields
+accepted-size l h ts e =
+    let w = contents-met l e in
+    let d = dimension l in
+    let small = dimension-small d (w .sized) in
+    let most : fields d ≤ 54 = omega (arith, mul-le-mul-right (d + 1) small) in
+    omega (arith, ap length (accepted-records l h ts e), length-drop 2 l, records-size (fields d) ts most (tracks-fit l h (fields d) (count l) _ (w .read)), accepted-length l ts e, leb-true (count l) 32 (w .few))
 
 -- ---- the list of tracks is accepted, with those tracks
 

@@ -6,7 +6,7 @@ use native.Mathlib.Numerals.{add-one}
 use mathlib.Core.Path.{_≡_, refl, sym, ap, _∙_}
 use mathlib.Core.Bool.{Bool, true, false, not, _&&_, cond}
 use mathlib.Core.List.{List, [], _∷_, _++_, flatMap, append-assoc}
-use borrow.Author.Tests.{eq-eqb, ne-eqb, eqb-true, leb-true}
+use borrow.Author.Tests.{eq-eqb, ne-eqb, eqb-true, eqb-false, leb-true}
 use lib.Dec.{T, eqb, leb}
 use lib.ListN.{length, getD, take, drop, set, length-append, length-map, take-append-drop, length-drop, List·getD-map}
 use lib.Seq.{sets-eq, take-add, take-all, length-take-le}
@@ -94,6 +94,16 @@ pub stored-part : (v : List ℕ) (k : ℕ) → length (storedBytes (take k v)) �
 unfolding storedBytes
 stored-part v k =
     omega (arith, ap (λ (u : List ℕ). length (flatMap fieldBytes u)) (take-append-drop k v), ap length (flatMap-append fieldBytes (take k v) (drop k v)), length-append (flatMap fieldBytes (take k v)) (flatMap fieldBytes (drop k v)))
+
+-- no field takes more than eight bytes
+pub stored-size : (v : List ℕ) → length (storedBytes v) ≤ 8 * length v
+unfolding storedBytes flatMap
+stored-size [] = omega arith
+stored-size (x ∷ v) = omega (arith, length-append (fieldBytes x) (storedBytes v), stored-size v, one (eqb x 0) refl)
+  where
+    one : (b : Bool) → eqb x 0 ≡ b → length (fieldBytes x) ≤ 8
+    one true e = omega (arith, ap length (field-none x (eqb-true x 0 e)))
+    one false e = omega (arith, ap length (field-some x (eqb-false x 0 e)), length-bytes 8 x)
 
 -- ---- a word's eight stores
 

@@ -3,8 +3,9 @@ use Prim.Native.Nat.{ℕ}
 use mathlib.Core.Path.{_≡_, refl}
 use mathlib.Core.List.{List, [], _∷_, flatMap}
 use Rattle.kernel.specs.Answer.{refused, answered}
-use Rattle.tracks.specs.Format.{fields, stands, number, bytes, word, none, spare}
+use Rattle.tracks.specs.Format.{part, fields, stands, number, bytes, word, none, spare}
 use Rattle.tracks.specs.Read.{oneMore, followed, items, stored, field, track, tracks, whole, contents}
+use Rattle.tracks.specs.Record.{recordEnd, recordAt}
 use Rattle.tracks.specs.Write.{tabulate, packed, mapByte, mapOf, fieldBytes, storedBytes, recordOf, recordsOf, listOf, allFinite, tracksOf, written}
 
 -- One track, d = 1, state 0, variance 1.
@@ -27,3 +28,12 @@ one-track-written = refl
 pub example-j : contents (0x01 ∷ 0x01 ∷ 0x06 ∷ []) ≡ refused 13
 unfolding fields stands number word none spare oneMore followed items stored field track tracks whole contents
 example-j = refl
+
+-- Its record runs from the map to the last stored field, and no record starts inside it.
+pub one-track-part : recordAt oneTrack 2 ≡ part oneTrack 2 11
+unfolding fields stands number word none spare oneMore followed items stored field track tracks whole contents recordEnd recordAt
+one-track-part = refl
+
+pub no-part-inside : recordAt oneTrack 3 ≡ []
+unfolding fields stands number word none spare oneMore followed items stored field track tracks whole contents recordEnd recordAt
+no-part-inside = refl
