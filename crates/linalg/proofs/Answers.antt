@@ -5,7 +5,6 @@ use mathlib.Core.Path.{_≡_, ap}
 use lib.Ieee.{Float}
 use Rattle.linalg.specs.declared.Written.{Written}
 use Rattle.linalg.specs.declared.Written.the-variants.{Done, Refused}
-use Rattle.linalg.specs.declared.Number.{Number}
 use Rattle.linalg.specs.declared.Number.the-variants.{Value}
 
 pub done : {new v : List Float} → new ≡ v → _≡_ {A = Written × List Float} (Done, new) (Done, v)

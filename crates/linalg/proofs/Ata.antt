@@ -1,15 +1,12 @@
 -- `mat_ata` of a is `mat_mul` of the transpose of a and a, refusals included, for all sides and slices.
 use Prim.Native.Nat.{ℕ, _*_, _<_}
-use native.Mathlib.Nat.{mul-comm}
 use mathlib.Core.Bool.{Bool, true, false, _&&_}
 use mathlib.Core.List.{List}
-use mathlib.Core.Path.{_≡_, refl, sym, ap, _∙_}
+use mathlib.Core.Path.{_≡_, refl, ap, _∙_}
 use borrow.Author.Tests.{eq-eqb}
 use lib.Ieee.{Float}
-use lib.ListN.{length}
 use Rattle.kernel.specs.Number.{mul}
-use Rattle.kernel.specs.Answer.{Outcome, answered, ask}
-use Rattle.linalg.specs.Matrix.{nought, sum, sumFrom, at, matrix, side, long}
+use Rattle.linalg.specs.Matrix.{nought, at, matrix, side, long}
 use Rattle.linalg.specs.Products.{productEntry, transposeEntry, ataEntry, matMul, matAta}
 use Rattle.linalg.proofs.Laws.{sum-ext, length-matrix, at-matrix, matrix-ext}
 use Rattle.linalg.proofs.Symmetry.{ata-either}

@@ -3,17 +3,17 @@ use Prim.Native.Nat.{ℕ, zero, suc, _+_, _*_, _-_, _<_, _≤_}
 use native.Mathlib.Omega.{arith}
 use native.Mathlib.Nat.{suc-mul, zero-mul, zero-add, suc-add}
 use native.Mathlib.Numerals.{add-one}
-use mathlib.Core.Bool.{Bool, true, false, _&&_}
+use mathlib.Core.Bool.{false, _&&_}
 use mathlib.Core.List.{List, [], _∷_, _++_, append-assoc}
-use mathlib.Core.Path.{_≡_, refl, sym, ap, _∙_, subst}
+use mathlib.Core.Path.{_≡_, sym, ap, _∙_, subst}
 use lib.Ieee.{Float}
 use lib.ListN.{length, set, replicate, length-append, length-set, length-replicate}
-use Rattle.kernel.specs.Number.{sub, mul, div}
+use Rattle.kernel.specs.Number.{sub}
 use Rattle.kernel.specs.Sqrt.{sqrt}
-use Rattle.linalg.specs.Matrix.{nought, nth, at, sum}
+use Rattle.linalg.specs.Matrix.{nought, at}
 use Rattle.linalg.specs.Fill.{Padded}
 use Rattle.linalg.specs.Cholesky.{isPivot, inner, belowEntry, withLeft, pivot, factor, definite}
-use Rattle.linalg.proofs.Laws.{cell, row-within, sum-ext}
+use Rattle.linalg.proofs.Laws.{row-within, sum-ext}
 use Rattle.linalg.proofs.Padding.{padded-nth, padded-push, padded-skip}
 
 pub length-left : (a : List Float) (n : ℕ) (p : List Float) (i j : ℕ) → length (withLeft a n p i j) ≡ length p + j

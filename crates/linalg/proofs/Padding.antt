@@ -1,8 +1,8 @@
 -- Laws of a slice that is filled from the front and is 0.0 behind.
-use Prim.Native.Nat.{ℕ, zero, suc, _+_, _-_, _<_, _≤_}
+use Prim.Native.Nat.{ℕ, suc, _+_, _-_, _<_, _≤_}
 use native.Mathlib.Omega.{arith}
 use mathlib.Core.List.{List, [], _∷_, _++_, append-assoc, append-nil}
-use mathlib.Core.Path.{_≡_, refl, sym, ap, _∙_}
+use mathlib.Core.Path.{_≡_, sym, ap, _∙_}
 use lib.Ieee.{Float, nan}
 use lib.ListN.{length, take, set, replicate, length-append, length-set, length-replicate, replicate-append-replicate, List·getD-append}
 use lib.Seq.{set-at, take-at}

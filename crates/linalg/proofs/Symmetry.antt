@@ -1,11 +1,11 @@
 -- Sums and products of binary64 numbers do not depend on the order of their two operands; what follows for symmetric matrices.
-use Prim.Native.Nat.{ℕ, _+_, _*_, _<_, _≤_, min, max}
+use Prim.Native.Nat.{ℕ, _*_, _<_, _≤_, min, max}
 use native.Mathlib.Omega.{arith}
 use native.Mathlib.Nat.{mul-comm, add-comm}
-use mathlib.Core.Bool.{Bool, true, false, not, Bool·beq, cond, _&&_}
+use mathlib.Core.Bool.{Bool, true, false, Bool·beq, cond}
 use mathlib.Core.List.{List}
-use mathlib.Core.Path.{_≡_, refl, sym, ap, _∙_}
-use lib.Dec.{eqb, ltb}
+use mathlib.Core.Path.{_≡_, refl, ap, _∙_}
+use lib.Dec.{eqb}
 use native.Mathlib.Decide.{decLt}
 use borrow.Author.Tests.{lt-ltb, le-ltb}
 use lib.Ieee as Ieee

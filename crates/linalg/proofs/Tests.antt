@@ -78,3 +78,7 @@ pub three-long : (a b c : List Float) (m n o : ℕ) → (long a m && (long b n &
 three-long a b c m n o e =
     let rest = two-long b c n o (and-right (long a m) (long b n && long c o) e) in
     (long-length a m (and-left (long a m) (long b n && long c o) e), rest .0, rest .1)
+
+-- two n by n matrices
+pub two-squares : (n : ℕ) → side n ≡ true → (n * n ≤ 256) × (n * n ≤ 256)
+two-squares n e = (area n n e e, area n n e e)

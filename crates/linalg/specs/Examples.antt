@@ -1,9 +1,9 @@
 -- Example i of document 01, computed on the definitions.
-use mathlib.Core.List.{List, [], _∷_}
+use mathlib.Core.List.{[], _∷_}
 use mathlib.Core.Path.{_≡_, refl}
 use lib.Ieee as Ieee
 use lib.Ieee.{Float, binary64, ofBits}
-use Rattle.kernel.specs.Answer.{Outcome, refused, answered}
+use Rattle.kernel.specs.Answer.{refused, answered}
 use Rattle.kernel.specs.Sqrt.{sqrt}
 use Rattle.linalg.specs.Matrix.{nought, sumFrom, side, long}
 use Rattle.linalg.specs.Cholesky.{isPivot, withLeft, factor, definite, matCholesky}

@@ -3,7 +3,7 @@ use Prim.Native.Nat.{ℕ, _*_}
 use mathlib.Core.Bool.{_&&_}
 use mathlib.Core.List.{List}
 use lib.Ieee.{Float}
-use Rattle.kernel.specs.Number.{add, sub, mul}
+use Rattle.kernel.specs.Number.{sub, mul}
 use Rattle.kernel.specs.Answer.{Outcome, answered, ask}
 use Rattle.linalg.specs.Matrix.{nought, sum, sumFrom, sumRowsFrom, sumPlanesFrom, nth, at, matrix, tabulate, side, long}
 use Rattle.linalg.specs.Products.{productEntry}

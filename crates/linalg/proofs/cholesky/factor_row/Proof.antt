@@ -1,10 +1,7 @@
 -- `factor_row` meets its contract: the slice holds what the pivot and the root are made of.
-use mathlib.Core.Bool.{true, false}
-use mathlib.Core.Path.{_≡_, refl, sym, ap, _∙_}
-use Prim.Native.Nat.{ℕ, _+_, _*_, _≤_}
+use mathlib.Core.Path.{sym, ap, _∙_}
 use native.Mathlib.Omega.{arith}
-use lib.ListN.{length, length-set}
-use Rattle.kernel.specs.Number.{sub}
+use lib.ListN.{length-set}
 use Rattle.kernel.specs.Sqrt.{sqrt}
 use Rattle.linalg.specs.Cholesky.{isPivot}
 use Rattle.linalg.proofs.Laws.{row-within}

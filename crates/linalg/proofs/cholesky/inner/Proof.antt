@@ -1,10 +1,7 @@
 -- `inner` meets its contract: the two parts are those of the rows.
-use mathlib.Core.Path.{_≡_, ap, _∙_}
-use Prim.Native.Nat.{ℕ, _*_}
+use mathlib.Core.Path.{_∙_}
+use Prim.Native.Nat.{_*_}
 use native.Mathlib.Omega.{arith}
-use lib.Ieee.{nan}
-use lib.ListN.{drop}
-use lib.Seq.{getD-take, getD-drop}
 use Rattle.linalg.specs.Matrix.{nought}
 use Rattle.linalg.proofs.Laws.{sum-ext, nth-part}
 use Rattle.linalg.proofs.cholesky.inner.Statement.{statement}

@@ -1,5 +1,5 @@
 -- `is_pivot` meets its contract: a number above 0 and below infinity is finite.
-use mathlib.Core.Bool.{Bool, true, false, not, _&&_}
+use mathlib.Core.Bool.{true, false}
 use mathlib.Core.Path.{_≡_, refl, sym}
 use borrow.Author.Tests.{not-true, not-false}
 use lib.Ieee as Ieee

@@ -1,10 +1,9 @@
 -- `mat_cholesky` meets its contract: each question is put by its own function, and `cholesky` has the last question and the answer.
 use borrow.Author.Needs.{needs}
 use Prim.Native.Nat.{_*_}
-use mathlib.Core.Path.{sym}
 use borrow.Author.Tests.{not-true, not-false}
 use Rattle.linalg.specs.Cholesky.{matCholesky}
-use Rattle.linalg.proofs.Tests.{met, unmet, area, two-long}
+use Rattle.linalg.proofs.Tests.{met, unmet, area, two-long, two-squares}
 use Rattle.linalg.proofs.Answers.{done, kept}
 use Rattle.linalg.proofs.generic.mat_cholesky.Statement.{statement}
 use Rattle.linalg.proofs.generic.mat_cholesky.Tie as tie
@@ -17,10 +16,7 @@ unfolding matCholesky
 returns c = rw (unmet (c .before .is-side .ensures) (c .if1 .taken))
 
 are-matrices-requires : tie.Need-are-matrices-requires
-are-matrices-requires c κs =
-    let x = c .before .before .before .before .before .args in
-    let s = met (c .before .before .is-side .ensures) (c .before .if1 .left) in
-    (area (x .n) (x .n) s s, area (x .n) (x .n) s s)
+are-matrices-requires c κs = two-squares (c .before .before .before .before .before .args .n) (met (c .before .before .is-side .ensures) (c .before .if1 .left))
 
 same-length : tie.Need-same-length
 same-length c = search needs

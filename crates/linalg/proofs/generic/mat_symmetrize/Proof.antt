@@ -2,7 +2,7 @@
 use borrow.Author.Needs.{needs}
 use Prim.Native.Nat.{_*_}
 use Rattle.linalg.specs.Products.{matSymmetrize}
-use Rattle.linalg.proofs.Tests.{met, unmet, area, two-long}
+use Rattle.linalg.proofs.Tests.{met, unmet, two-long, two-squares}
 use Rattle.linalg.proofs.Answers.{done}
 use Rattle.linalg.proofs.generic.mat_symmetrize.Statement.{statement}
 use Rattle.linalg.proofs.generic.mat_symmetrize.Tie as tie
@@ -15,10 +15,7 @@ unfolding matSymmetrize
 returns c = rw (unmet (c .before .is-side .ensures) (c .if1 .taken))
 
 are-matrices-requires : tie.Need-are-matrices-requires
-are-matrices-requires c κs =
-    let x = c .before .before .before .before .before .args in
-    let s = met (c .before .before .is-side .ensures) (c .before .if1 .left) in
-    (area (x .n) (x .n) s s, area (x .n) (x .n) s s)
+are-matrices-requires c κs = two-squares (c .before .before .before .before .before .args .n) (met (c .before .before .is-side .ensures) (c .before .if1 .left))
 
 same-length : tie.Need-same-length
 same-length c = search needs

@@ -2,7 +2,7 @@
 use borrow.Author.Needs.{needs}
 use Prim.Native.Nat.{_*_}
 use Rattle.linalg.specs.Sums.{matTraceProduct}
-use Rattle.linalg.proofs.Tests.{met, unmet, area, two-long}
+use Rattle.linalg.proofs.Tests.{met, unmet, two-long, two-squares}
 use Rattle.linalg.proofs.Answers.{value}
 use Rattle.linalg.proofs.generic.mat_trace_product.Statement.{statement}
 use Rattle.linalg.proofs.generic.mat_trace_product.Tie as tie
@@ -15,10 +15,7 @@ unfolding matTraceProduct
 returns c = rw (unmet (c .before .is-side .ensures) (c .if1 .taken))
 
 are-matrices-requires : tie.Need-are-matrices-requires
-are-matrices-requires c κs =
-    let x = c .before .before .before .before .args in
-    let s = met (c .before .is-side .ensures) (c .if1 .left) in
-    (area (x .n) (x .n) s s, area (x .n) (x .n) s s)
+are-matrices-requires c κs = two-squares (c .before .before .before .before .args .n) (met (c .before .is-side .ensures) (c .if1 .left))
 
 returns-2 : tie.Need-returns-2
 unfolding matTraceProduct

@@ -1,6 +1,6 @@
 -- `mat3_inv` meets its contract: each question is put by its own function, and `inverse` has the answer.
 use borrow.Author.Needs.{needs}
-use mathlib.Core.Path.{_≡_, refl, ap, _∙_}
+use mathlib.Core.Path.{ap, _∙_}
 use lib.ListN.{length}
 use Rattle.linalg.specs.Mat3.{mat3Inv, inverse3}
 use Rattle.linalg.proofs.Tests.{met, unmet, two-long}

@@ -1,6 +1,6 @@
 -- `mat3_solve` meets its contract: each question is put by its own function, and `solution` has the answer.
 use borrow.Author.Needs.{needs}
-use mathlib.Core.Path.{_≡_, refl, ap, _∙_}
+use mathlib.Core.Path.{ap, _∙_}
 use lib.ListN.{length}
 use Rattle.linalg.specs.Mat3.{mat3Solve, solution3}
 use Rattle.linalg.proofs.Tests.{met, unmet, three-long}

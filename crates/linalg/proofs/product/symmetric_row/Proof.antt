@@ -1,7 +1,6 @@
 -- `symmetric_row` meets its contract: before turn j the entries before j are means.
 use Prim.Native.Nat.{_-_, _≤_}
 use native.Mathlib.Omega.{arith}
-use mathlib.Core.Path.{_∙_}
 use Rattle.linalg.specs.Products.{symmetricEntry}
 use Rattle.linalg.specs.Fill.{Filled}
 use Rattle.linalg.proofs.Laws.{cell, filled-none, filled-more, filled-all}

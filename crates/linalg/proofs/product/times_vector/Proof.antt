@@ -1,8 +1,7 @@
 -- `times_vector` meets its contract: before turn i the entries before i are written.
-use mathlib.Core.Path.{_≡_, _∙_, ap}
+use mathlib.Core.Path.{_∙_}
 use Prim.Native.Nat.{_-_, _≤_}
 use native.Mathlib.Omega.{arith}
-use Rattle.linalg.specs.Matrix.{nought}
 use Rattle.linalg.specs.Products.{vectorEntry}
 use Rattle.linalg.specs.Fill.{Filled}
 use Rattle.linalg.proofs.Laws.{row-within, row-sum, filled-none, filled-more, filled-all}
