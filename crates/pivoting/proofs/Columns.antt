@@ -3,18 +3,16 @@
 use Prim.Native.Nat.{ℕ, zero, suc, _+_, _*_, _-_, _<_, _≤_}
 use native.Mathlib.Omega.{arith}
 use native.Mathlib.Decide.{ℕ-discrete}
-use mathlib.Core.Bool.{Bool, true, false, cond, _&&_}
+use mathlib.Core.Bool.{Bool, true, false}
 use mathlib.Core.List.{List}
 use mathlib.Core.Path.{_≡_, refl, sym, ap, _∙_}
 use borrow.Author.Tests.{eq-eqb, ne-eqb, lt-ltb, le-ltb}
 use lib.Ieee.{Float}
-use Rattle.kernel.specs.Answer.{Outcome, refused, answered, ask}
-use Rattle.linalg.specs.Matrix.{nth, at, matrix, tabulate}
-use Rattle.linalg.proofs.Laws.{length-matrix, nth-tabulate, by-entries, tabulate-ext}
-use Rattle.pivoting.specs.declared.Pivot.{Pivot}
-use Rattle.pivoting.specs.Pivot.{rowNorms, someScale, consider, bestOf, swapped, swappedNorms, taken, Stage, pivotAt, pivoted}
+use Rattle.kernel.specs.Answer.{answered, ask}
+use Rattle.linalg.specs.Matrix.{nth, at, matrix}
+use Rattle.linalg.proofs.Laws.{length-matrix, nth-tabulate, by-entries, at-matrix}
+use Rattle.pivoting.specs.Pivot.{rowNorms, someScale, bestOf, swapped, swappedNorms, Stage, pivotAt, pivoted}
 use Rattle.pivoting.specs.Solve.{stepEntry, column, reduced, augmentedEntry, augmented, start, solution, solved, identity, through, columnOf}
-use Rattle.pivoting.proofs.Matrices.{at-matrix}
 use Rattle.pivoting.proofs.Pivots.{pivot-row}
 
 -- Two stages of n rows, with w and v columns, have equal norms and equal first n columns, and column c of the one is column d of the other.

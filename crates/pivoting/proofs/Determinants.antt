@@ -1,21 +1,20 @@
 -- Laws of the reduction below the diagonal: one step from its parts, and one column more of matrix, sign and product.
-use Prim.Native.Nat.{ℕ, zero, suc, _+_, _*_, _-_, _<_, _≤_}
+use Prim.Native.Nat.{ℕ, _+_, _<_}
 use native.Mathlib.Omega.{arith}
 use native.Mathlib.Numerals.{add-one}
 use native.Mathlib.Decide.{decLt, ℕ-discrete}
-use mathlib.Core.Bool.{Bool, true, false, cond}
+use mathlib.Core.Bool.{cond}
 use mathlib.Core.List.{List}
-use mathlib.Core.Path.{_≡_, refl, sym, ap, _∙_}
+use mathlib.Core.Path.{_≡_, ap, _∙_}
 use borrow.Author.Tests.{eq-eqb, ne-eqb, lt-ltb, le-ltb}
 use lib.Dec.{eqb, ltb}
 use lib.Ieee.{Float}
 use Rattle.kernel.specs.Number.{sub, mul, div}
 use Rattle.linalg.specs.Matrix.{nth, at, matrix, tabulate}
-use Rattle.linalg.proofs.Laws.{nth-tabulate}
+use Rattle.linalg.proofs.Laws.{nth-tabulate, at-matrix, matrix-ext}
 use Rattle.pivoting.specs.declared.Pivot.{Pivot}
-use Rattle.pivoting.specs.Pivot.{pivot, swapped, swappedNorms, Stage, stage, pivotAt}
+use Rattle.pivoting.specs.Pivot.{pivot, swapped, swappedNorms, Stage, stage}
 use Rattle.pivoting.specs.Det.{lowerEntry, lower, lowered, flipped, swapSign, pivotProduct}
-use Rattle.pivoting.proofs.Matrices.{at-matrix, matrix-ext}
 
 -- entry (i, j) when row k of m, of n columns, becomes x, and every row below it loses its part of x
 abbrev pub belowEntry : List Float → List Float → ℕ → ℕ → ℕ → ℕ → Float

@@ -1,18 +1,17 @@
 -- Laws of matrices by their entries, of one cell that is written, and of rows that are rewritten in place; all over the sides.
-use Prim.Native.Nat.{ℕ, zero, suc, _+_, _*_, _-_, _<_, _≤_}
+use Prim.Native.Nat.{ℕ, _+_, _*_, _-_, _<_, _≤_}
 use native.Mathlib.Omega.{arith}
-use native.Mathlib.Nat.{mul-le-mul-right, eq-or-lt-of-le, le-of-suc-le-suc, suc-mul, zero-mul, add-sub-cancel-left}
-use native.Mathlib.Decide.{decLt, ℕ-discrete}
+use native.Mathlib.Nat.{mul-le-mul-right, add-sub-cancel-left}
+use native.Mathlib.Decide.{decLt}
 use mathlib.Core.Path.{_≡_, refl, sym, ap, _∙_}
-use mathlib.Core.Logic.{_⊎_, ⊎-elim}
-use mathlib.Core.List.{List, [], _∷_, _++_}
-use lib.ListN.{length, take, drop, set, length-drop, length-set, take-append-drop, List·getD-append}
-use lib.Seq.{getD-append-add, getD-take, getD-drop, getD-set-same, getD-set-other, drop-drop, length-take-le}
+use mathlib.Core.List.{List}
+use lib.ListN.{length, take, drop, set}
+use lib.Seq.{getD-take, getD-drop, getD-set-other, drop-drop, length-take-le}
 use borrow.Rule.Slice.PartMut.{midOf, putMid, drop-put}
 use lib.Ieee.{Float, nan}
-use Rattle.linalg.specs.Matrix.{nth, at, matrix, tabulate}
+use Rattle.linalg.specs.Matrix.{nth, at, tabulate}
 use Rattle.linalg.specs.Fill.{Filled, FilledRows}
-use Rattle.linalg.proofs.Laws.{cell, row-within, length-tabulate, nth-tabulate, by-entries, length-matrix, rows-none, rows-more}
+use Rattle.linalg.proofs.Laws.{cell, row-within, length-tabulate, matrix-by-entries, rows-none, rows-more}
 
 -- ---- sizes
 
@@ -23,48 +22,6 @@ square-size n h = omega (arith, mul-le-mul-right n h)
 -- and at most 512 with a right part as wide
 pub augmented-size : (n r : ℕ) → n ≤ 16 → r ≤ 16 → n * (n + r) ≤ 512
 augmented-size n r h k = omega (arith, mul-le-mul-right (n + r) h)
-
--- ---- entries
-
-pub at-matrix : (m n : ℕ) (f : ℕ → ℕ → Float) (i j : ℕ) → i < m → j < n → at (matrix m n f) n i j ≡ f i j
-unfolding matrix
-at-matrix zero n f i j h k = absurd (omega arith)
-at-matrix (suc m) n f i j h k = ⊎-elim last (λ l. before l (at-matrix m n f i j l k)) (eq-or-lt-of-le (le-of-suc-le-suc h))
-  where
-    size : length (matrix m n f) ≡ m * n
-    size = length-matrix m n f
-
-    last : i ≡ m → at (matrix m n f ++ tabulate n (f m)) n i j ≡ f i j
-    last e =
-        ap (λ (q : ℕ). nth (matrix m n f ++ tabulate n (f m)) q) (ap (λ (x : ℕ). x * n + j) e ∙ ap (λ (x : ℕ). x + j) (sym size))
-        ∙ getD-append-add (matrix m n f) (tabulate n (f m)) j nan
-        ∙ nth-tabulate n (f m) j k
-        ∙ ap (λ (x : ℕ). f x j) (sym e)
-
-    before : i < m → at (matrix m n f) n i j ≡ f i j → at (matrix m n f ++ tabulate n (f m)) n i j ≡ f i j
-    before l e = List·getD-append (matrix m n f) (tabulate n (f m)) nan (i * n + j) (omega (arith, cell m n l k, size)) ∙ e
-
--- a list is the matrix of its entries
-pub matrix-by-entries : (m n : ℕ) (f : ℕ → ℕ → Float) (l : List Float) → length l ≡ m * n → ((i j : ℕ) → i < m → j < n → at l n i j ≡ f i j) → l ≡ matrix m n f
-unfolding matrix
-matrix-by-entries zero n f [] e h = refl
-matrix-by-entries zero n f (x ∷ l) e h = absurd (omega (arith, zero-mul n))
-matrix-by-entries (suc m) n f l e h =
-    sym (take-append-drop (m * n) l)
-    ∙ ap (λ (z : List Float). z ++ drop (m * n) l) (matrix-by-entries m n f (take (m * n) l) count upper)
-    ∙ ap (λ (z : List Float). matrix m n f ++ z) lower
-  where
-    count : length (take (m * n) l) ≡ m * n
-    count = length-take-le (m * n) l (omega (arith, suc-mul m n))
-
-    upper : (i j : ℕ) → i < m → j < n → at (take (m * n) l) n i j ≡ f i j
-    upper i j a b = getD-take (m * n) l (i * n + j) nan (cell m n a b) ∙ h i j (omega arith) b
-
-    lower : drop (m * n) l ≡ tabulate n (f m)
-    lower = by-entries n (f m) (drop (m * n) l) (omega (arith, length-drop (m * n) l, suc-mul m n)) (λ q a. getD-drop (m * n) l q nan ∙ h m q (omega arith) a)
-
-pub matrix-ext : (m n : ℕ) (f g : ℕ → ℕ → Float) → ((i j : ℕ) → i < m → j < n → f i j ≡ g i j) → matrix m n f ≡ matrix m n g
-matrix-ext m n f g h = matrix-by-entries m n g (matrix m n f) (length-matrix m n f) (λ i j a b. at-matrix m n f i j a b ∙ h i j a b)
 
 -- ---- one cell
 

@@ -1,23 +1,24 @@
 -- Laws of norms and of the choice of a pivot row: one more entry, one more row, and where the pivot can be.
-use Prim.Native.Nat.{ℕ, zero, suc, _+_, _*_, _-_, _<_, _≤_}
+use Prim.Native.Nat.{ℕ, zero, suc, _+_, _-_, _<_, _≤_}
 use native.Mathlib.Omega.{arith}
 use native.Mathlib.Numerals.{add-one}
 use native.Mathlib.Nat.{le-antisymm, sub-self}
 use mathlib.Core.Bool.{Bool, true, false, cond, not, _||_}
 use mathlib.Core.List.{List}
-use mathlib.Core.Path.{_≡_, refl, sym, ap, _∙_, subst}
+use mathlib.Core.Path.{_≡_, sym, ap, _∙_, subst}
 use lib.Ieee.{Float, lt}
 use Rattle.kernel.specs.Number.{abs, div}
 use Rattle.linalg.specs.Matrix.{nought, nth, at}
+use Rattle.linalg.specs.Mat3.{greatest}
 use Rattle.pivoting.specs.declared.Pivot.{Pivot}
-use Rattle.pivoting.specs.Pivot.{minScale, raised, greatest, someScale, consider, bestOf, pivot}
+use Rattle.pivoting.specs.Pivot.{minScale, someScale, consider, bestOf, pivot}
 
-pub greatest-more : (f : ℕ → Float) (l : ℕ) {s x t r : Float} → s ≡ greatest l f → x ≡ f l → t ≡ abs x → r ≡ raised s t → r ≡ greatest (l + 1) f
+pub greatest-more : (m : List Float) (l : ℕ) {s x t r : Float} → s ≡ greatest m l → x ≡ nth m l → t ≡ abs x → r ≡ cond (lt s t) t s → r ≡ greatest m (l + 1)
 unfolding greatest
-greatest-more f l p q u e = e ∙ rw (add-one, p, u, q)
+greatest-more m l p q u e = e ∙ rw (add-one, p, u, q)
 
-pub greatest-all : (f : ℕ → Float) {l n : ℕ} {s : Float} → l ≤ n → n ≤ l → s ≡ greatest l f → s ≡ greatest n f
-greatest-all f h k p = p ∙ ap (λ (y : ℕ). greatest y f) (le-antisymm h k)
+pub greatest-all : (m : List Float) {l n : ℕ} {s : Float} → l ≤ n → n ≤ l → s ≡ greatest m l → s ≡ greatest m n
+greatest-all m h k p = p ∙ ap (greatest m) (le-antisymm h k)
 
 pub some-scale-more : (s : List Float) (l : ℕ) {b r : Bool} → b ≡ someScale l s → r ≡ (b || not (lt (nth s l) minScale)) → r ≡ someScale (l + 1) s
 unfolding someScale

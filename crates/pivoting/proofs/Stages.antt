@@ -1,22 +1,21 @@
 -- Laws of the elimination: one step from its parts, one column more, and a refusal that stays.
-use Prim.Native.Nat.{ℕ, zero, suc, _+_, _*_, _-_, _<_, _≤_}
+use Prim.Native.Nat.{ℕ, zero, suc, _+_, _-_, _<_}
 use native.Mathlib.Omega.{arith}
 use native.Mathlib.Numerals.{add-one}
 use native.Mathlib.Nat.{add-suc, add-zero}
 use native.Mathlib.Decide.{ℕ-discrete}
 use mathlib.Core.Bool.{Bool, true, false, cond}
 use mathlib.Core.List.{List}
-use mathlib.Core.Path.{_≡_, refl, sym, ap, _∙_}
+use mathlib.Core.Path.{_≡_, sym, ap, _∙_}
 use borrow.Author.Tests.{eq-eqb, ne-eqb}
 use lib.Dec.{eqb}
 use lib.Ieee.{Float}
 use Rattle.kernel.specs.Number.{sub, mul, div}
 use Rattle.linalg.specs.Matrix.{nth, at, matrix, tabulate}
-use Rattle.linalg.proofs.Laws.{nth-tabulate}
+use Rattle.linalg.proofs.Laws.{nth-tabulate, at-matrix, matrix-ext}
 use Rattle.pivoting.specs.declared.Pivot.{Pivot}
 use Rattle.pivoting.specs.Pivot.{pivot, taken, swapped, swappedNorms, Stage, stage, pivotAt, pivoted}
 use Rattle.pivoting.specs.Solve.{stepEntry, column, reduced}
-use Rattle.pivoting.proofs.Matrices.{at-matrix, matrix-ext}
 
 -- the divided pivot row x, and m₁, in which row k stands in place p, make the step
 pub stepped : (m x m₁ : List Float) (n w k p : ℕ) → k < w → x ≡ tabulate w (λ j. div (at m w p j) (at m w p k)) → m₁ ≡ matrix n w (λ i j. at m w (cond (eqb i p) k i) j) → matrix n w (λ i j. cond (eqb i k) (nth x j) (sub (at m₁ w i j) (mul (at m₁ w i k) (nth x j)))) ≡ matrix n w (stepEntry m w k p)

@@ -4,10 +4,11 @@ use mathlib.Core.List.{List, [], _∷_}
 use Prim.Native.Nat.{ℕ}
 use lib.Ieee as Ieee
 use lib.Ieee.{Float, binary64, ofBits}
-use Rattle.kernel.specs.Answer.{Outcome, refused, answered}
-use Rattle.linalg.specs.Matrix.{nought, tabulate}
-use Rattle.pivoting.specs.Pivot.{rowNorms, stage, pivotAt, bestOf, greatest}
-use Rattle.pivoting.specs.Solve.{one, matSolve, matInv}
+use Rattle.kernel.specs.Answer.{refused, answered}
+use Rattle.linalg.specs.Matrix.{nought, rowOf, tabulate}
+use Rattle.linalg.specs.Mat3.{one, greatest}
+use Rattle.pivoting.specs.Pivot.{rowNorms, stage, pivotAt, bestOf}
+use Rattle.pivoting.specs.Solve.{matSolve, matInv}
 use Rattle.pivoting.specs.Det.{matDet}
 
 double : ℕ → Float
@@ -37,7 +38,7 @@ matrix-g : List Float
 matrix-g = two ∷ double 0x4130000000000000 ∷ one ∷ one ∷ []
 
 pivot-g : pivotAt 2 2 0 (stage matrix-g (rowNorms matrix-g 2)) .row ≡ 1
-unfolding bestOf greatest tabulate matrix-g two double ofBits Ieee.div Ieee.lt
+unfolding bestOf greatest rowOf tabulate matrix-g two double ofBits Ieee.div Ieee.lt
 pivot-g = refl
 
 solve-g : matSolve matrix-g (double 0x4130000200000000 ∷ two ∷ []) 2 room ≡ answered (one ∷ one ∷ [])

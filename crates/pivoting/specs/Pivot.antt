@@ -6,30 +6,17 @@ use lib.Dec.{eqb}
 use lib.Ieee.{Float, binary64, ofBits, lt}
 use Rattle.kernel.specs.Number.{abs, div}
 use Rattle.kernel.specs.Answer.{Outcome, answered, ask}
-use Rattle.linalg.specs.Matrix.{nought, nth, at, tabulate, side, long}
+use Rattle.linalg.specs.Matrix.{nought, nth, at, rowOf, tabulate, side, long}
+use Rattle.linalg.specs.Mat3.{relTol, greatest}
 use Rattle.pivoting.specs.declared.Pivot.{Pivot}
 
 -- `NOLAN_MIN_SCALE`, 1e-150: a row whose norm is below it has no pivot
 abbrev pub minScale : Float
 minScale = ofBits binary64 0x20ca2fe76a3f9475
 
--- `NOLAN_REL_TOL`, 1e-14: no pivot is taken whose ratio is below it
-abbrev pub relTol : Float
-relTol = ofBits binary64 0x3d06849b86a12b9b
-
--- x, raised to y where y is greater: a NaN never raises it
-unfoldable pub raised : Float → Float → Float
-raised x y = cond (lt x y) y x
-
--- the greatest |f j| for j < n, from 0.0
-unfoldable pub greatest : ℕ → (ℕ → Float) → Float
-unfolding raised abs
-greatest zero f = nought
-greatest (suc n) f = raised (greatest n f) (abs (f n))
-
--- the norm of row i of a, n by n
+-- the norm of row i of a, n by n: its greatest |entry|, from 0.0
 abbrev pub rowNorm : List Float → ℕ → ℕ → Float
-rowNorm a n i = greatest n (at a n i)
+rowNorm a n i = greatest (rowOf a n i) n
 
 -- the norms of the rows of a, n by n
 abbrev pub rowNorms : List Float → ℕ → List Float
@@ -37,7 +24,7 @@ rowNorms a n = tabulate n (rowNorm a n)
 
 -- `row_inf_norms`
 unfoldable pub rowInfNorms : List Float → ℕ → List Float → Outcome (List Float)
-unfolding greatest tabulate side long
+unfolding greatest rowOf tabulate side long
 rowInfNorms a n out = ask 1 (side n) (ask 2 (long a (n * n) && long out n) (answered (rowNorms a n)))
 
 -- whether one of the first n norms is not below 1e-150

@@ -1,22 +1,19 @@
 -- Gauss–Jordan elimination by scaled pivots, of document 01, "Pivoting": `mat_solve`, `mat_inv` and the distance over the inverse.
 use Prim.Native.Nat.{ℕ, zero, suc, _+_, _*_, _-_}
-use mathlib.Core.Bool.{Bool, true, cond, _&&_}
+use mathlib.Core.Bool.{cond, _&&_}
 use mathlib.Core.List.{List}
 use lib.Dec.{eqb, ltb}
-use lib.Ieee.{Float, binary64, ofBits}
+use lib.Ieee.{Float}
 use Rattle.kernel.specs.Number.{sub, mul, div}
 use Rattle.kernel.specs.Answer.{Outcome, refused, answered, ask}
-use Rattle.linalg.specs.Matrix.{nought, nth, at, matrix, tabulate, side, long}
+use Rattle.linalg.specs.Matrix.{nought, at, rowOf, matrix, tabulate, side, long}
 use Rattle.linalg.specs.declared.Written.{Written}
 use Rattle.linalg.specs.declared.Written.the-variants as written
 use Rattle.linalg.specs.declared.Number.{Number}
 use Rattle.linalg.specs.declared.Number.the-variants as number
+use Rattle.linalg.specs.Mat3.{one, greatest}
 use Rattle.linalg.specs.Sums.{difference, quadraticForm}
-use Rattle.pivoting.specs.Pivot.{rowNorms, greatest, someScale, bestOf, swapped, swappedNorms, Stage, stage, pivotAt, pivoted}
-
--- 1.0
-abbrev pub one : Float
-one = ofBits binary64 0x3ff0000000000000
+use Rattle.pivoting.specs.Pivot.{rowNorms, someScale, bestOf, swapped, swappedNorms, Stage, stage, pivotAt, pivoted}
 
 -- Entry (i, j) when the pivot of column k is in row p: rows k and p of m, of w columns, have changed places, row k is
 -- divided by its entry in column k, and every other row loses its own entry in column k times that.
@@ -55,7 +52,7 @@ start a b n r = stage (augmented a b n r) (rowNorms a n)
 
 -- the right part of [a | b] when every column of a is reduced: the n by r matrix x with a x = b
 unfoldable pub solution : List Float → List Float → ℕ → ℕ → List Float
-unfolding augmented reduced matrix greatest
+unfolding augmented reduced matrix greatest rowOf
 solution a b n r = let m = reduced n (n + r) (start a b n r) n .rows in matrix n r (λ i j. at m (n + r) i (n + j))
 
 -- questions 5 and 6, and then the solution

@@ -1,10 +1,10 @@
 // The norms of the rows of a matrix, and question 5.
 ghost use mathlib.Core.Path.{_≡_};
-ghost use mathlib.Core.Bool.{not, _||_};
+ghost use mathlib.Core.Bool.{cond, not, _||_};
 ghost use Prim.Native.Nat.{_*_, _<_};
 ghost use lib.Ieee.{lt};
 ghost use lib.ListN.{length};
-ghost use Rattle.pivoting.specs.Pivot.{minScale, raised, rowNorm, rowNorms, someScale};
+ghost use Rattle.pivoting.specs.Pivot.{minScale, rowNorm, rowNorms, someScale};
 use crate::shape::entry;
 use kernel::number::abs;
 
@@ -13,7 +13,7 @@ pub(crate) const MIN_SCALE: f64 = 1e-150;
 
 // x, or y where that is greater.
 fn raised(x: f64, y: f64) -> f64
-    ensures { λ r. ⌜ r ≡ raised x y ⌝ }
+    ensures { λ r. ⌜ r ≡ cond (lt x y) y x ⌝ }
 {
     if y > x {
         return y;

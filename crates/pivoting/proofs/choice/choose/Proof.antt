@@ -1,8 +1,6 @@
 -- `choose` meets its contract: before turn i the best is that of the rows k to i - 1.
 use Prim.Native.Nat.{_-_, _≤_}
-use mathlib.Core.Path.{_≡_, refl, sym, ap, _∙_}
-use native.Mathlib.Nat.{le-antisymm}
-use Rattle.linalg.specs.Matrix.{at}
+use mathlib.Core.Path.{_≡_}
 use Rattle.linalg.proofs.Laws.{cell}
 use Rattle.pivoting.specs.Pivot.{bestOf}
 use Rattle.pivoting.proofs.Pivots.{best-more, best-none, best-all}

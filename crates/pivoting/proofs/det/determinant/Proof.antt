@@ -1,6 +1,5 @@
 -- `determinant` meets its contract: the local arrays have room for the work.
-use Prim.Native.Nat.{ℕ, _*_, _≤_}
-use mathlib.Core.Path.{_≡_, refl, sym}
+use mathlib.Core.Path.{refl, sym}
 use lib.Seq.{length-take-le}
 use Rattle.pivoting.proofs.Matrices.{square-size}
 use native.Mathlib.Omega.{arith}

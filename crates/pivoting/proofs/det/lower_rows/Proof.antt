@@ -2,14 +2,14 @@
 use Prim.Native.Nat.{ℕ, _+_, _*_, _-_, _<_, _≤_}
 use mathlib.Core.Bool.{cond}
 use mathlib.Core.List.{List}
-use mathlib.Core.Path.{_≡_, refl, sym, ap, _∙_}
+use mathlib.Core.Path.{_≡_, _∙_}
 use borrow.Author.Tests.{lt-ltb, le-ltb}
 use borrow.Rule.Slice.PartMut.{midOf}
 use lib.Dec.{eqb, ltb}
 use lib.Ieee.{Float}
 use lib.ListN.{length}
 use Rattle.kernel.specs.Number.{sub, mul, div}
-use Rattle.linalg.specs.Matrix.{nth, at}
+use Rattle.linalg.specs.Matrix.{nth}
 use Rattle.linalg.proofs.Laws.{row-within, length-part, tabulate-ext, rows-all}
 use Rattle.pivoting.proofs.Matrices.{Rewritten, rewritten-from, rewritten-next, rewritten-more}
 use Rattle.pivoting.proofs.Determinants.{belowEntry}

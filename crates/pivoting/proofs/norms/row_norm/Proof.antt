@@ -1,9 +1,9 @@
 -- `row_norm` meets its contract: before turn j the norm is that of the first j entries.
 use Prim.Native.Nat.{_-_, _≤_}
-use mathlib.Core.Path.{_≡_, refl}
-use Rattle.linalg.specs.Matrix.{at}
-use Rattle.linalg.proofs.Laws.{cell}
-use Rattle.pivoting.specs.Pivot.{greatest}
+use mathlib.Core.Path.{_≡_, refl, sym, _∙_}
+use Rattle.linalg.specs.Matrix.{rowOf}
+use Rattle.linalg.specs.Mat3.{greatest}
+use Rattle.linalg.proofs.Laws.{cell, nth-row}
 use Rattle.pivoting.proofs.Pivots.{greatest-more, greatest-all}
 use borrow.Author.Needs.{needs}
 use native.Mathlib.Omega.{arith}
@@ -11,7 +11,7 @@ use Rattle.pivoting.proofs.norms.row_norm.Statement.{statement}
 use Rattle.pivoting.proofs.norms.row_norm.Tie as tie
 
 abbrev Inv-loop : tie.InvT-loop
-Inv-loop a n i g₀ j₀ g j = (j ≤ n) × (g ≡ greatest j (at a n i))
+Inv-loop a n i g₀ j₀ g j = (j ≤ n) × (g ≡ greatest (rowOf a n i) j)
 
 abbrev μ-loop : tie.MeasureT-loop
 μ-loop a n i g₀ j₀ g j = n - j
@@ -36,7 +36,7 @@ loop-less : tie.Need-loop-less Inv-loop μ-loop
 loop-less c = omega arith
 
 loop-again : tie.Need-loop-again Inv-loop μ-loop
-loop-again c = (omega arith, greatest-more _ _ (c .before .before .before .before .loop .inv .1) (c .before .before .entry .ensures) (c .before .abs .ensures) (c .raised .ensures))
+loop-again c = (omega arith, greatest-more _ _ (c .before .before .before .before .loop .inv .1) (c .before .before .entry .ensures ∙ sym (nth-row (c .before .before .before .before .before .before .args .a .now) (c .before .before .before .before .before .before .args .n) (c .before .before .before .before .before .before .args .i) (c .before .before .before .before .loop .j) (c .before .before .before .loop-test .taken))) (c .before .abs .ensures) (c .raised .ensures))
 
 returns : tie.Need-returns Inv-loop μ-loop
 returns c = greatest-all _ (c .before .loop .inv .0) (c .loop-test .left) (c .before .loop .inv .1)

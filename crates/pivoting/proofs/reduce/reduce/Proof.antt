@@ -1,10 +1,11 @@
 -- `reduce` meets its contract: before turn k the first k columns are reduced, each with a pivot.
-use Prim.Native.Nat.{ℕ, _-_, _≤_}
+use Prim.Native.Nat.{_-_, _≤_}
 use native.Mathlib.Nat.{le-antisymm}
-use mathlib.Core.Bool.{true, false}
+use mathlib.Core.Bool.{true}
 use mathlib.Core.Path.{_≡_, refl, sym, ap, _∙_}
 use borrow.Author.Tests.{not-true, not-false}
 use lib.ListN.{length}
+use Rattle.linalg.proofs.Tests.{never}
 use Rattle.pivoting.specs.Pivot.{stage, pivoted}
 use Rattle.pivoting.specs.Solve.{reduced}
 use Rattle.pivoting.proofs.Stages.{reduced-more, pivoted-more, pivoted-never}
@@ -37,7 +38,7 @@ same-length-3 c = c .before .before .before .before .before .before .before .red
 returns : tie.Need-returns Inv-loop μ-loop
 returns c =
     let turn = c .before .before .before .before .before .before .before .before .before .before .before .before .loop in
-    (sym (pivoted-never _ _ _ (turn .k) (c .before .before .before .before .before .before .before .before .before .before .before .loop-test .taken) (turn .inv .4) (turn .inv .5) (c .before .before .before .before .before .before .before .reduce-column .ensures .0) (not-true _ (c .if1 .taken))), λ e. absurd (let z : _≡_ {A = ℕ} 0 1 = cc in omega arith))
+    (sym (pivoted-never _ _ _ (turn .k) (c .before .before .before .before .before .before .before .before .before .before .before .loop-test .taken) (turn .inv .4) (turn .inv .5) (c .before .before .before .before .before .before .before .reduce-column .ensures .0) (not-true _ (c .if1 .taken))), never)
 
 add-k : tie.Need-add-k Inv-loop μ-loop
 add-k c = omega arith

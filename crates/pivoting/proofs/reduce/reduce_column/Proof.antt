@@ -1,12 +1,10 @@
 -- `reduce_column` meets its contract: the choice decides, and the step and the norms that change places make the column.
-use Prim.Native.Nat.{ℕ}
-use mathlib.Core.Path.{_≡_, sym, ap, _∙_}
-use Rattle.linalg.proofs.Tests.{met, unmet}
+use mathlib.Core.Path.{sym, ap, _∙_}
+use Rattle.linalg.proofs.Tests.{met, unmet, never}
 use Rattle.pivoting.specs.Pivot.{taken}
 use Rattle.pivoting.proofs.Pivots.{pivot-row}
 use Rattle.pivoting.proofs.Stages.{columned}
 use borrow.Author.Needs.{needs}
-use native.Mathlib.Omega.{arith}
 use Rattle.pivoting.proofs.reduce.reduce_column.Statement.{statement}
 use Rattle.pivoting.proofs.reduce.reduce_column.Tie as tie
 
@@ -23,7 +21,7 @@ same-length-2 : tie.Need-same-length-2
 same-length-2 c = search needs
 
 returns : tie.Need-returns
-returns c = (sym (unmet (c .before .is-taken .ensures ∙ ap taken (c .before .before .choose .ensures)) (c .if1 .taken)), λ e. absurd (let z : _≡_ {A = ℕ} 0 1 = cc in omega arith))
+returns c = (sym (unmet (c .before .is-taken .ensures ∙ ap taken (c .before .before .choose .ensures)) (c .if1 .taken)), never)
 
 swap-norms-requires : tie.Need-swap-norms-requires
 swap-norms-requires c κs =

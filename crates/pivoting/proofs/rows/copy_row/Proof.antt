@@ -3,15 +3,15 @@ use Prim.Native.Nat.{ℕ, _+_, _*_, _-_, _<_, _≤_}
 use native.Mathlib.Decide.{ℕ-discrete}
 use mathlib.Core.Bool.{cond}
 use mathlib.Core.List.{List}
-use mathlib.Core.Path.{_≡_, refl, sym, ap, _∙_}
+use mathlib.Core.Path.{_≡_, refl, _∙_}
 use borrow.Author.Tests.{eq-eqb, ne-eqb}
 use lib.Dec.{eqb}
 use lib.Ieee.{Float, nan}
 use lib.ListN.{length, set, length-set}
 use lib.Seq.{getD-set-same}
 use Rattle.linalg.specs.Matrix.{at, matrix}
-use Rattle.linalg.proofs.Laws.{cell}
-use Rattle.pivoting.proofs.Matrices.{matrix-by-entries, at-set-other}
+use Rattle.linalg.proofs.Laws.{cell, matrix-by-entries}
+use Rattle.pivoting.proofs.Matrices.{at-set-other}
 use native.Mathlib.Omega.{arith}
 use Rattle.pivoting.proofs.rows.copy_row.Statement.{statement}
 use Rattle.pivoting.proofs.rows.copy_row.Tie as tie

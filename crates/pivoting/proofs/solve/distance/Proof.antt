@@ -1,7 +1,7 @@
 -- `distance` meets its contract: the inverse stands in the first n * n entries of a local array.
-use Prim.Native.Nat.{ℕ, _*_, _≤_}
+use Prim.Native.Nat.{_*_}
 use mathlib.Core.List.{List}
-use mathlib.Core.Path.{_≡_, refl, sym, ap, _∙_}
+use mathlib.Core.Path.{_≡_, sym, ap, _∙_}
 use lib.Ieee.{Float}
 use lib.ListN.{length, take, replicate}
 use lib.Seq.{length-take-le, length-front, take-at}

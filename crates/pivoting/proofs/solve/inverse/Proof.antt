@@ -1,13 +1,10 @@
 -- `inverse` meets its contract: the identity stands in the first n * n entries of a local array.
-use Prim.Native.Nat.{ℕ, _*_, _≤_}
-use mathlib.Core.List.{List}
-use mathlib.Core.Path.{_≡_, sym, ap, _∙_}
-use lib.Ieee.{Float}
+use Prim.Native.Nat.{_*_}
+use mathlib.Core.Path.{sym, ap, _∙_}
 use lib.ListN.{length}
 use lib.Seq.{length-take-le, length-front}
-use Rattle.linalg.specs.Answer.{Leaves}
 use Rattle.linalg.proofs.Laws.{length-matrix, front}
-use Rattle.pivoting.specs.Solve.{unitEntry, solved}
+use Rattle.pivoting.specs.Solve.{unitEntry}
 use Rattle.pivoting.proofs.Matrices.{square-size}
 use native.Mathlib.Omega.{arith}
 use Rattle.pivoting.proofs.solve.inverse.Statement.{statement}

@@ -1,7 +1,5 @@
 -- `solve` meets its contract: the local arrays have room for the work.
-use Prim.Native.Nat.{ℕ, _+_, _*_, _≤_}
-use mathlib.Core.Path.{_≡_, refl, sym, _∙_}
-use lib.ListN.{length}
+use mathlib.Core.Path.{refl, sym}
 use lib.Seq.{length-take-le}
 use Rattle.pivoting.proofs.Matrices.{augmented-size}
 use native.Mathlib.Omega.{arith}

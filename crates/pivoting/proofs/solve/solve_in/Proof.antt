@@ -1,7 +1,7 @@
 -- `solve_in` meets its contract: questions 5 and 6, and the right part of what is reduced.
 use Prim.Native.Nat.{ℕ, _+_}
 use mathlib.Core.List.{List}
-use mathlib.Core.Path.{_≡_, sym, ap, _∙_}
+use mathlib.Core.Path.{_≡_, ap, _∙_}
 use borrow.Author.Tests.{not-false}
 use lib.Ieee.{Float}
 use Rattle.linalg.specs.Matrix.{at, matrix}
