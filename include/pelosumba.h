@@ -34,6 +34,16 @@ uint32_t pel_mat_quadratic_form(const double *x, size_t x_len, const double *a, 
 uint32_t pel_mahalanobis_distance_squared_with_inv(const double *x, size_t x_len, const double *mu, size_t mu_len,
                                                    const double *inv, size_t inv_len, size_t n, double *out);
 uint32_t pel_tikhonov(const double *cov, size_t cov_len, double alpha, size_t n, double *out, size_t out_len);
+uint32_t pel_mat_frobenius(const double *a, size_t a_len, size_t m, size_t n, double *out);
+uint32_t pel_vec_norm(const double *x, size_t x_len, size_t n, double *out);
+uint32_t pel_mat_cholesky(const double *a, size_t a_len, size_t n, double *out, size_t out_len);
+uint32_t pel_row_inf_norms(const double *a, size_t a_len, size_t n, double *out, size_t out_len);
+uint32_t pel_mat_solve(const double *a, size_t a_len, const double *b, size_t b_len, size_t n, double *out,
+                       size_t out_len);
+uint32_t pel_mat_inv(const double *a, size_t a_len, size_t n, double *out, size_t out_len);
+uint32_t pel_mat_det(const double *a, size_t a_len, size_t n, double *out);
+uint32_t pel_mahalanobis_distance_squared(const double *x, size_t x_len, const double *mu, size_t mu_len,
+                                          const double *cov, size_t cov_len, size_t n, double *out);
 uint32_t pel_mat3_det(const double *m, size_t m_len, double *out);
 uint32_t pel_mat3_inv(const double *m, size_t m_len, double *out, size_t out_len);
 uint32_t pel_mat3_solve(const double *a, size_t a_len, const double *b, size_t b_len, double *out, size_t out_len);

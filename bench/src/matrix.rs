@@ -133,6 +133,20 @@ fn order<const N: usize>() {
         |c| ffi::tikhonov(c.a.as_flattened(), 0.5, N, matrix),
         |c| regularize::tikhonov(&c.a, 0.5),
     );
+    compare(
+        "mat_solve",
+        cases,
+        |c| ffi::mat_solve(c.a.as_flattened(), &c.x, N, vector),
+        |c| generic::mat_solve(&c.a, &c.x),
+    );
+    compare("mat_inv", cases, |c| ffi::mat_inv(c.a.as_flattened(), N, matrix), |c| generic::mat_inv(&c.a));
+    compare("mat_det", cases, |c| ffi::mat_det(c.a.as_flattened(), N, number), |c| generic::mat_det(&c.a));
+    compare(
+        "mahalanobis_distance_squared",
+        cases,
+        |c| ffi::mahalanobis_distance_squared(&c.x, &c.y, c.a.as_flattened(), N, number),
+        |c| generic::mahalanobis_distance_squared(&c.x, &c.y, &c.a),
+    );
 }
 
 /// The calls of order 3 alone.

@@ -57,6 +57,29 @@ extern "C" {
     fn pel_mat3_inv(m: *const f64, m_len: usize, out: *mut f64, out_len: usize) -> u32;
     fn pel_mat3_solve(a: *const f64, a_len: usize, b: *const f64, b_len: usize, out: *mut f64, out_len: usize) -> u32;
 
+    fn pel_row_inf_norms(a: *const f64, a_len: usize, n: usize, out: *mut f64, out_len: usize) -> u32;
+    fn pel_mat_solve(
+        a: *const f64,
+        a_len: usize,
+        b: *const f64,
+        b_len: usize,
+        n: usize,
+        out: *mut f64,
+        out_len: usize,
+    ) -> u32;
+    fn pel_mat_inv(a: *const f64, a_len: usize, n: usize, out: *mut f64, out_len: usize) -> u32;
+    fn pel_mat_det(a: *const f64, a_len: usize, n: usize, out: &mut f64) -> u32;
+    fn pel_mahalanobis_distance_squared(
+        x: *const f64,
+        x_len: usize,
+        mu: *const f64,
+        mu_len: usize,
+        cov: *const f64,
+        cov_len: usize,
+        n: usize,
+        out: &mut f64,
+    ) -> u32;
+
     fn pel_read_list(
         list: *const u8,
         list_len: usize,
@@ -179,6 +202,28 @@ pub fn mat3_inv(m: &[f64], out: &mut [f64]) -> u32 {
 
 pub fn mat3_solve(a: &[f64], b: &[f64], out: &mut [f64]) -> u32 {
     unsafe { pel_mat3_solve(a.as_ptr(), a.len(), b.as_ptr(), b.len(), out.as_mut_ptr(), out.len()) }
+}
+
+pub fn row_inf_norms(a: &[f64], n: usize, out: &mut [f64]) -> u32 {
+    unsafe { pel_row_inf_norms(a.as_ptr(), a.len(), n, out.as_mut_ptr(), out.len()) }
+}
+
+pub fn mat_solve(a: &[f64], b: &[f64], n: usize, out: &mut [f64]) -> u32 {
+    unsafe { pel_mat_solve(a.as_ptr(), a.len(), b.as_ptr(), b.len(), n, out.as_mut_ptr(), out.len()) }
+}
+
+pub fn mat_inv(a: &[f64], n: usize, out: &mut [f64]) -> u32 {
+    unsafe { pel_mat_inv(a.as_ptr(), a.len(), n, out.as_mut_ptr(), out.len()) }
+}
+
+pub fn mat_det(a: &[f64], n: usize, out: &mut f64) -> u32 {
+    unsafe { pel_mat_det(a.as_ptr(), a.len(), n, out) }
+}
+
+pub fn mahalanobis_distance_squared(x: &[f64], mu: &[f64], cov: &[f64], n: usize, out: &mut f64) -> u32 {
+    unsafe {
+        pel_mahalanobis_distance_squared(x.as_ptr(), x.len(), mu.as_ptr(), mu.len(), cov.as_ptr(), cov.len(), n, out)
+    }
 }
 
 pub fn read_list(list: &[u8], values: &mut [f64], count: &mut usize, dimension: &mut usize) -> u32 {

@@ -99,7 +99,7 @@ pub fn write(count: usize, dimension: usize, values: &[f64]) -> Result<Vec<u8>, 
 }
 
 /// The part of an accepted list that is the record at an offset; empty elsewhere.
-fn record<'a>(list: &'a [u8], read: &Result<Read, u32>, offset: usize) -> &'a [u8] {
+pub fn record<'a>(list: &'a [u8], read: &Result<Read, u32>, offset: usize) -> &'a [u8] {
     let Ok(read) = read else { return &[] };
     match read.starts.iter().position(|start| *start == offset) {
         Some(i) if i + 1 < read.starts.len() => &list[offset..read.starts[i + 1]],

@@ -2,6 +2,7 @@
 //! Every answer is the Rust's; the library is not asked.
 use crate::classes::CLASSES;
 use crate::ffi;
+use crate::lists;
 use crate::matrix::{draw, refused, Call, CALLS};
 use crate::number::{powers_of_two, sample, special};
 use crate::rng::Rng;
@@ -54,7 +55,7 @@ fn numbers() {
     let special = special();
     let powers: Vec<f64> = powers_of_two().into_iter().step_by(29).collect();
     let mut frozen = Frozen::new();
-    unary(&mut frozen, 0, "sqrt", &[&special[..], &powers, &samples(1500)].concat(), f64::sqrt);
+    unary(&mut frozen, 0, "sqrt", &[&special[..], &powers, &samples(1800)].concat(), f64::sqrt);
     unary(&mut frozen, 1, "abs", &[&special[..], &samples(200)].concat(), f64::abs);
     let both = special.iter().flat_map(|a| special.iter().map(|b| (*a, *b)));
     let pairs: Vec<(f64, f64)> = both.chain(samples(300).into_iter().zip(samples(300))).collect();
@@ -135,7 +136,132 @@ fn frozen_sides(call: &Call) -> Vec<Vec<usize>> {
     all.iter().filter(|sides| is_square(sides)).chain(rest).cloned().collect()
 }
 
+/// What stands in a buffer before a list is written.
+const BYTE_BEFORE: u8 = 0xA5;
+
+/// A record of the lists' program: its kind, six numbers at most, and its data, in parts that are filled up to whole words.
+fn list_record(frozen: &mut Frozen, kind: u64, named: &[usize], data: &[&[u8]]) {
+    let parts = data.iter().map(|part| part.len().div_ceil(8)).sum::<usize>();
+    frozen.words(&[8 + parts as u64, kind]);
+    let mut six = [0; 6];
+    six[..named.len()].copy_from_slice(&named.iter().map(|n| *n as u64).collect::<Vec<u64>>());
+    frozen.words(&six);
+    for part in data {
+        frozen.bytes.extend(*part);
+        frozen.bytes.resize(frozen.bytes.len().next_multiple_of(8), 0);
+    }
+}
+
+fn patterns(values: &[f64]) -> Vec<u8> {
+    values.iter().flat_map(|x| x.to_le_bytes()).collect()
+}
+
+/// A list that is read into `room` values.
+fn read_record(frozen: &mut Frozen, list: &[u8], room: usize) {
+    let mut values = vec![BEFORE; room];
+    let read = lists::read(list);
+    let (told, count, dimension) = match &read {
+        Ok(read) if read.values.len() <= room => {
+            values[..read.values.len()].copy_from_slice(&read.values);
+            (0, list[0] as usize, read.dimension)
+        }
+        Ok(_) => (2, 0, 0),
+        Err(number) => (*number as usize, 0, 0),
+    };
+    list_record(frozen, 0, &[list.len(), room, told, count, dimension], &[list, &patterns(&values)]);
+}
+
+/// Values that are written as a list into `room` bytes.
+fn write_record(frozen: &mut Frozen, count: usize, dimension: usize, values: &[f64], room: usize) {
+    let mut bytes = vec![BYTE_BEFORE; room];
+    let (told, length) = match lists::write(count, dimension, values) {
+        Ok(list) if list.len() <= room => {
+            bytes[..list.len()].copy_from_slice(&list);
+            (0, list.len())
+        }
+        Ok(_) => (20, 0),
+        Err(number) => (number as usize, 0),
+    };
+    list_record(frozen, 1, &[count, dimension, values.len(), room, told, length], &[&patterns(values), &bytes]);
+}
+
+/// Good lists and damaged ones, read and written back; their records, and which of them are equal.
+fn track_lists() {
+    let mut rng = Rng::new(29);
+    let mut frozen = Frozen::new();
+    let mut good: Vec<(usize, usize, Vec<f64>, Vec<u8>)> = Vec::new();
+    for dimension in 1..=9 {
+        for count in [0, 1, 2] {
+            let values = lists::tracks(&mut rng, count, dimension);
+            let list = lists::write(count, dimension, &values).unwrap();
+            good.push((count, dimension, values, list));
+        }
+    }
+    good.retain(|(_, _, values, _)| values.len() <= 20);
+    let mut listed: Vec<Vec<u8>> = vec![vec![], vec![1], vec![33, 1], vec![1, 0], vec![1, 10], vec![1, 1, 6]];
+    for (_, _, _, list) in &good {
+        listed.push(list.clone());
+        let mut other = list.clone();
+        other.push(0);
+        listed.push(other);
+        listed.push(list[..rng.below(list.len() as u64) as usize].to_vec());
+        for _ in 0..2 {
+            let mut other = list.clone();
+            let bit = rng.below(8 * list.len() as u64) as usize;
+            other[bit / 8] ^= 1 << (bit % 8);
+            listed.push(other);
+        }
+    }
+    for list in &listed {
+        let needed = lists::read(list).map_or(3, |read| read.values.len());
+        let room = rng.one_of(&[needed, needed, needed + 1, needed.saturating_sub(1)]);
+        read_record(&mut frozen, list, room);
+    }
+    frozen.lines.push_str(&format!("{} lists read, 0 differences\n", listed.len()));
+
+    let mut writes = 0;
+    for (count, dimension, values, list) in &good {
+        for room in [list.len() - 1, list.len(), list.len() + 3] {
+            write_record(&mut frozen, *count, *dimension, values, room);
+            writes += 1;
+        }
+    }
+    let infinite = [f64::NEG_INFINITY, 1.0];
+    for (count, dimension, values) in
+        [(33, 1, &[0.0; 2][..]), (1, 0, &[]), (1, 10, &[]), (1, 1, &[1.0]), (1, 1, &infinite)]
+    {
+        write_record(&mut frozen, count, dimension, values, 40);
+        writes += 1;
+    }
+    frozen.lines.push_str(&format!("{} lists written, 0 differences\n", writes));
+
+    let mut records = 0;
+    for list in &listed {
+        let read = lists::read(list);
+        let mut offsets = read.as_ref().map_or(vec![2], |read| read.starts.clone());
+        offsets.push(rng.below(list.len() as u64 + 2) as usize);
+        for offset in offsets {
+            let part = lists::record(list, &read, offset);
+            list_record(&mut frozen, 2, &[list.len(), offset, part.len()], &[list]);
+            records += 1;
+        }
+    }
+    frozen.lines.push_str(&format!("{} records handed out, 0 differences\n", records));
+
+    let mut compared = 0;
+    for pair in listed.windows(2).step_by(3) {
+        for (a, b) in [(&pair[0], &pair[0]), (&pair[0], &pair[1])] {
+            list_record(&mut frozen, 3, &[a.len(), b.len(), (a == b) as usize], &[a, b]);
+            compared += 1;
+        }
+    }
+    frozen.lines.push_str(&format!("{} records compared, 0 differences\n", compared));
+    assert!(frozen.bytes.len() <= BLOCK, "{} bytes in one block", frozen.bytes.len());
+    frozen.write("tracks_vectors");
+}
+
 pub fn write() {
     numbers();
     matrices();
+    track_lists();
 }

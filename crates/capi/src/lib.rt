@@ -2,4 +2,5 @@
 pub mod lists;
 pub mod matrices;
 pub mod numbers;
+pub mod solvers;
 mod told;

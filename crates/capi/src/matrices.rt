@@ -2,6 +2,8 @@
 ghost use mathlib.Core.Path.{_≡_};
 ghost use Rattle.linalg.specs.Products as Products;
 ghost use Rattle.linalg.specs.Sums as Sums;
+ghost use Rattle.linalg.specs.Norms as Norms;
+ghost use Rattle.linalg.specs.Cholesky as Cholesky;
 ghost use Rattle.linalg.specs.Regularize as Regularize;
 ghost use Rattle.linalg.specs.Mat3 as Mat3;
 ghost use Rattle.capi.specs.Told.{Tells};
@@ -137,4 +139,28 @@ pub extern "C" fn pel_mat3_solve(a: &[f64], b: &[f64], out: &mut [f64]) -> u32
     ensures { λ r. ⌜ Tells (Mat3.mat3Solve (now (a .entry)) (now (b .entry)) (now (out .entry))) (now (out .entry)) r (now (out .exit)) ⌝ }
 {
     code(mat3::mat3_solve(a, b, out))
+}
+
+// The Frobenius norm of a, m by n, into out.
+#[no_mangle]
+pub extern "C" fn pel_mat_frobenius(a: &[f64], m: usize, n: usize, out: &mut f64) -> u32
+    ensures { λ r. ⌜ Tells (Norms.matFrobenius (now (a .entry)) m n) (now (out .entry)) r (now (out .exit)) ⌝ }
+{
+    enter(generic::mat_frobenius(a, m, n), out)
+}
+
+// The Euclidean norm of x, n entries, into out.
+#[no_mangle]
+pub extern "C" fn pel_vec_norm(x: &[f64], n: usize, out: &mut f64) -> u32
+    ensures { λ r. ⌜ Tells (Norms.vecNorm (now (x .entry)) n) (now (out .entry)) r (now (out .exit)) ⌝ }
+{
+    enter(generic::vec_norm(x, n), out)
+}
+
+// The lower triangular factor of a, n by n, into out.
+#[no_mangle]
+pub extern "C" fn pel_mat_cholesky(a: &[f64], n: usize, out: &mut [f64]) -> u32
+    ensures { λ r. ⌜ Tells (Cholesky.matCholesky (now (a .entry)) n (now (out .entry))) (now (out .entry)) r (now (out .exit)) ⌝ }
+{
+    code(generic::mat_cholesky(a, n, out))
 }

@@ -161,9 +161,8 @@ fn replay_input(cases: &mut [u64; CALLS], differences: &mut [u64; CALLS]) {
     }
 }
 
-fn print_line(name: &[u8], cases: u64, differences: u64) {
+fn print_call(name: &[u8], cases: u64, differences: u64) {
     io::write_all(1, name);
-    io::write_all(1, b" ");
     io::print_decimal(1, cases);
     io::write_all(1, b" cases ");
     io::print_decimal(1, differences);
@@ -174,22 +173,22 @@ fn main() {
     let mut cases = [0u64; CALLS];
     let mut differences = [0u64; CALLS];
     replay_input(&mut cases, &mut differences);
-    print_line(b"mat_mul", cases[0], differences[0]);
-    print_line(b"mat_transpose", cases[1], differences[1]);
-    print_line(b"mat_ata", cases[2], differences[2]);
-    print_line(b"mat_symmetrize", cases[4], differences[4]);
-    print_line(b"mat_trace", cases[5], differences[5]);
-    print_line(b"mat_trace_product", cases[6], differences[6]);
-    print_line(b"mat_trace_cube", cases[7], differences[7]);
-    print_line(b"mat_vec_mul", cases[8], differences[8]);
-    print_line(b"mat_quadratic_form", cases[9], differences[9]);
-    print_line(
-        b"mahalanobis_distance_squared_with_inv",
+    print_call(b"mat_mul ", cases[0], differences[0]);
+    print_call(b"mat_transpose ", cases[1], differences[1]);
+    print_call(b"mat_ata ", cases[2], differences[2]);
+    print_call(b"mat_symmetrize ", cases[4], differences[4]);
+    print_call(b"mat_trace ", cases[5], differences[5]);
+    print_call(b"mat_trace_product ", cases[6], differences[6]);
+    print_call(b"mat_trace_cube ", cases[7], differences[7]);
+    print_call(b"mat_vec_mul ", cases[8], differences[8]);
+    print_call(b"mat_quadratic_form ", cases[9], differences[9]);
+    print_call(
+        b"mahalanobis_distance_squared_with_inv ",
         cases[11],
         differences[11],
     );
-    print_line(b"tikhonov", cases[13], differences[13]);
-    print_line(b"mat3_det", cases[14], differences[14]);
-    print_line(b"mat3_inv", cases[15], differences[15]);
-    print_line(b"mat3_solve", cases[16], differences[16]);
+    print_call(b"tikhonov ", cases[13], differences[13]);
+    print_call(b"mat3_det ", cases[14], differences[14]);
+    print_call(b"mat3_inv ", cases[15], differences[15]);
+    print_call(b"mat3_solve ", cases[16], differences[16]);
 }

@@ -1,5 +1,5 @@
-// Replays frozen answers of the number helpers. A record is four numbers of eight bytes, low byte first: which call, its
-// one or two arguments by their bit patterns, and the answer's bit pattern.
+// Replays frozen answers of the number helpers: two blocks of 65,536 bytes at most. A record is four numbers of eight
+// bytes, low byte first: which call, its one or two arguments by their bit patterns, and the answer's bit pattern.
 use kernel::number;
 
 const RECORD: usize = 32;
@@ -41,42 +41,32 @@ fn replay_all(s: &[u8], cases: &mut [u64; CALLS], differences: &mut [u64; CALLS]
     }
 }
 
-// Reads some records and replays them; answers whether there were any.
-fn replay_some(cases: &mut [u64; CALLS], differences: &mut [u64; CALLS]) -> bool {
-    let mut buffer = io::buffer();
+// Reads a block of records and replays it.
+fn replay_block(cases: &mut [u64; CALLS], differences: &mut [u64; CALLS]) {
+    let mut buffer = io::large_buffer();
     let n = io::read_full(0, &mut buffer);
-    if n == 0 {
-        return false;
-    }
     replay_all(&buffer[..n], cases, differences);
-    true
 }
 
-// Reads to the end of the input. A proved loop has to end, and nothing says that the input does: so the turns are counted
-// down, from a number that no run uses up.
-fn replay_input(cases: &mut [u64; CALLS], differences: &mut [u64; CALLS]) {
-    let mut turns = u64::MAX;
-    while turns > 0 && replay_some(cases, differences) {
-        turns -= 1;
-    }
+fn print_count(before: &[u8], n: u64, after: &[u8]) {
+    io::write_all(1, before);
+    io::print_decimal(1, n);
+    io::write_all(1, after);
 }
 
-fn print_line(name: &[u8], cases: u64, differences: u64) {
-    io::write_all(1, name);
-    io::write_all(1, b" ");
-    io::print_decimal(1, cases);
-    io::write_all(1, b" cases ");
-    io::print_decimal(1, differences);
-    io::write_all(1, b" differences\n");
+fn print_call(name: &[u8], cases: u64, differences: u64) {
+    print_count(name, cases, b" cases ");
+    print_count(b"", differences, b" differences\n");
 }
 
 fn main() {
     let mut cases = [0u64; CALLS];
     let mut differences = [0u64; CALLS];
-    replay_input(&mut cases, &mut differences);
-    print_line(b"sqrt", cases[0], differences[0]);
-    print_line(b"abs", cases[1], differences[1]);
-    print_line(b"max", cases[2], differences[2]);
-    print_line(b"value", cases[3], differences[3]);
-    print_line(b"constant", cases[4], differences[4]);
+    replay_block(&mut cases, &mut differences);
+    replay_block(&mut cases, &mut differences);
+    print_call(b"sqrt ", cases[0], differences[0]);
+    print_call(b"abs ", cases[1], differences[1]);
+    print_call(b"max ", cases[2], differences[2]);
+    print_call(b"value ", cases[3], differences[3]);
+    print_call(b"constant ", cases[4], differences[4]);
 }

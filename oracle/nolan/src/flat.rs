@@ -1,5 +1,5 @@
 //! The source's functions on flat slices, row by row: each at all its sides, as a table of its instances.
-use crate::linalg::{generic, mat3, regularize};
+use crate::linalg::{generic, mat3, regularize, NOLAN_MIN_SCALE};
 
 /// What a call is lent to read: its slices, and the one number that some calls take.
 pub struct Given<'a> {
@@ -54,6 +54,34 @@ theirs!(det3<> g => [[mat3::mat3_det(matrix(g.slices[0]))]]);
 
 fn cholesky<const N: usize>(g: &Given, out: &mut [f64]) -> u32 {
     generic::mat_cholesky::<N>(matrix(g.slices[0])).map_or(7, |l| answer(out, l.as_flattened()))
+}
+
+/// The question that a `None` of the solvers stands for: 5 where no row has a norm to divide by, or else 6.
+fn unsolved<const N: usize>(a: &[f64]) -> u32 {
+    let small = generic::row_inf_norms::<f64, N>(matrix(a)).iter().all(|norm| *norm < NOLAN_MIN_SCALE);
+    if small {
+        5
+    } else {
+        6
+    }
+}
+
+theirs!(norms<N> g => [generic::row_inf_norms::<f64, N>(matrix(g.slices[0]))]);
+theirs!(det<N> g => [[generic::mat_det::<N>(matrix(g.slices[0]))]]);
+
+fn solve<const N: usize>(g: &Given, out: &mut [f64]) -> u32 {
+    let x = generic::mat_solve::<f64, N>(matrix(g.slices[0]), vector(g.slices[1]));
+    x.map_or_else(|| unsolved::<N>(g.slices[0]), |x| answer(out, &x))
+}
+
+fn inv<const N: usize>(g: &Given, out: &mut [f64]) -> u32 {
+    let m = generic::mat_inv::<f64, N>(matrix(g.slices[0]));
+    m.map_or_else(|| unsolved::<N>(g.slices[0]), |m| answer(out, m.as_flattened()))
+}
+
+fn distance<const N: usize>(g: &Given, out: &mut [f64]) -> u32 {
+    let d = generic::mahalanobis_distance_squared::<N>(vector(g.slices[0]), vector(g.slices[1]), matrix(g.slices[2]));
+    d.map_or_else(|| unsolved::<N>(g.slices[2]), |d| answer(out, &[d]))
 }
 
 fn inv3(g: &Given, out: &mut [f64]) -> u32 {
@@ -209,6 +237,26 @@ pub mod at {
 
     pub fn tikhonov(s: &[usize]) -> Theirs {
         orders!(damped)[s[0] - 1]
+    }
+
+    pub fn row_inf_norms(s: &[usize]) -> Theirs {
+        orders!(norms)[s[0] - 1]
+    }
+
+    pub fn mat_solve(s: &[usize]) -> Theirs {
+        orders!(solve)[s[0] - 1]
+    }
+
+    pub fn mat_inv(s: &[usize]) -> Theirs {
+        orders!(inv)[s[0] - 1]
+    }
+
+    pub fn mat_det(s: &[usize]) -> Theirs {
+        orders!(det)[s[0] - 1]
+    }
+
+    pub fn mahalanobis_distance_squared(s: &[usize]) -> Theirs {
+        orders!(distance)[s[0] - 1]
     }
 
     pub fn mat3_det(_: &[usize]) -> Theirs {

@@ -1,0 +1,273 @@
+// Replays frozen answers of the track lists: one block of 65,536 bytes, some records and then zeros. All numbers have eight
+// bytes, low byte first, values stand by their bit patterns, and bytes are filled up with zeros to a whole number. A record
+// has its length in numbers, its kind and six numbers more, which each kind below names in their order, and then its data.
+use tracks::format;
+use tracks::format::ReadList;
+use tracks::format::WrittenList;
+use tracks::record;
+ghost use Prim.Native.Nat.{_+_, _≤_};
+
+// The bytes of a record before its data.
+const HEAD: usize = 64;
+// The most values and bytes that a record lends.
+const VALUES: usize = 128;
+
+const BYTES: usize = 1100;
+
+const KINDS: usize = 4;
+
+// What stands in lent memory before a call.
+const VALUE_BEFORE: f64 = 7.0;
+
+const BYTE_BEFORE: u8 = 0xA5;
+
+fn one_more(n: u64) -> u64 {
+    std::num::wrapping_add_u64(n, 1)
+}
+
+// One of the numbers at the head of a record.
+fn named(s: &[u8], k: usize) -> u64
+    requires { ⌜ k ≤ 7 ⌝ }
+{
+    replay::word(s, 8 * k)
+}
+
+// The part of s with so many bytes at an index; empty where it is not all there.
+fn part(s: &[u8], at: u64, length: u64) -> &[u8] {
+    let from = at as usize;
+    let n = length as usize;
+    if s.len() < from {
+        return &s[..0];
+    }
+    if s.len() - from < n {
+        return &s[..0];
+    }
+    let to = from + n;
+    &s[from..to]
+}
+
+// The bytes that s has from an index on.
+fn rest(s: &[u8], at: usize) -> &[u8] {
+    if s.len() < at {
+        return &s[..0];
+    }
+    &s[at..]
+}
+
+// So many bytes, filled up to whole numbers.
+fn whole(n: u64) -> usize
+    ensures { λ r. ⌜ r ≤ 65544 ⌝ }
+{
+    ((n % 0x1_0000 + 7) / 8 * 8) as usize
+}
+
+// Whether the values are those at the start of s.
+fn holds_values(s: &[u8], values: &[f64]) -> bool {
+    for i in 0..values.len() {
+        if VALUES <= i {
+            return false;
+        }
+        if !replay::is_same(values[i], replay::word(s, 8 * i)) {
+            return false;
+        }
+    }
+    true
+}
+
+// Whether a list is read into values as told, with this count and dimension, and leaves those values.
+fn is_read(
+    list: &[u8],
+    values: &mut [f64],
+    told: u64,
+    count: u64,
+    dimension: u64,
+    left: &[u8],
+) -> bool {
+    let answer = format::read_list(list, values);
+    match answer {
+        ReadList::Read {
+            count: n,
+            dimension: d,
+        } => {
+            if told != 0 || n as u64 != count || d as u64 != dimension {
+                return false;
+            }
+        }
+        ReadList::Refused(question) => {
+            if told != question as u64 {
+                return false;
+            }
+        }
+    }
+    holds_values(left, values)
+}
+
+// The values at the start of s, and past those that were meant, whatever follows.
+fn load(s: &[u8]) -> [f64; VALUES] {
+    let mut values = [0.0; VALUES];
+    for i in 0..VALUES {
+        values[i] = replay::double(replay::word(s, 8 * i));
+    }
+    values
+}
+
+// Whether values are written as a list into out as told, with this length, and leave those bytes.
+fn is_written(
+    count: usize,
+    dimension: usize,
+    values: &[f64],
+    out: &mut [u8],
+    told: u64,
+    length: u64,
+    left: &[u8],
+) -> bool {
+    let answer = format::write_list(count, dimension, values, out);
+    match answer {
+        WrittenList::Length(n) => {
+            if told != 0 || n as u64 != length {
+                return false;
+            }
+        }
+        WrittenList::Refused(question) => {
+            if told != question as u64 {
+                return false;
+            }
+        }
+    }
+    record::same_record(left, out)
+}
+
+// How many values, or bytes, a record lends.
+fn values_lent(n: u64) -> usize
+    ensures { λ r. ⌜ r ≤ 128 ⌝ }
+{
+    (n % 129) as usize
+}
+
+fn bytes_lent(n: u64) -> usize
+    ensures { λ r. ⌜ r ≤ 1100 ⌝ }
+{
+    (n % 1101) as usize
+}
+
+// Kind 0, a list that is read: the list's length, the values that are lent, the answer's number, the count and the
+// dimension; the list, and the values afterwards.
+fn reads(s: &[u8]) -> bool {
+    let data = rest(s, HEAD);
+    let list = part(data, 0, named(s, 2));
+    let left = rest(data, whole(named(s, 2)));
+    let room = values_lent(named(s, 3));
+    let mut values = [VALUE_BEFORE; VALUES];
+    is_read(
+        list,
+        &mut values[..room],
+        named(s, 4),
+        named(s, 5),
+        named(s, 6),
+        left,
+    )
+}
+
+// Kind 1, a list that is written: the count, the dimension, the values' number, the bytes that are lent, the answer's number
+// and the list's length; the values, and the bytes afterwards.
+fn writes(s: &[u8]) -> bool {
+    let data = rest(s, HEAD);
+    let n = values_lent(named(s, 4));
+    let values = load(data);
+    let room = bytes_lent(named(s, 5));
+    let left = part(rest(data, 8 * n), 0, named(s, 5));
+    let mut out = [BYTE_BEFORE; BYTES];
+    is_written(
+        named(s, 2) as usize,
+        named(s, 3) as usize,
+        &values[..n],
+        &mut out[..room],
+        named(s, 6),
+        named(s, 7),
+        left,
+    )
+}
+
+// Kind 2, a track's own bytes: the list's length, the offset and the record's length; the list.
+fn hands_out(s: &[u8]) -> bool {
+    let list = part(rest(s, HEAD), 0, named(s, 2));
+    let wanted = part(list, named(s, 3), named(s, 4));
+    let given = record::record(list, named(s, 3) as usize);
+    if given.len() as u64 != named(s, 4) {
+        return false;
+    }
+    record::same_record(wanted, given)
+}
+
+// Kind 3, whether two records are equal: their lengths, and 1 for yes; the two.
+fn compares(s: &[u8]) -> bool {
+    let data = rest(s, HEAD);
+    let a = part(data, 0, named(s, 2));
+    let b = part(rest(data, whole(named(s, 2))), 0, named(s, 3));
+    if record::same_record(a, b) {
+        return named(s, 4) == 1;
+    }
+    named(s, 4) == 0
+}
+
+// Whether the record at the start of s is answered as it says.
+fn is_met(s: &[u8], kind: usize) -> bool {
+    match kind {
+        0 => reads(s),
+        1 => writes(s),
+        2 => hands_out(s),
+        _ => compares(s),
+    }
+}
+
+// Counts the record at the start of s under its kind, and where it is answered otherwise, that too.
+fn replay_record(s: &[u8], cases: &mut [u64; KINDS], differences: &mut [u64; KINDS]) {
+    let kind = (named(s, 1) % 4) as usize;
+    cases[kind] = one_more(cases[kind]);
+    if !is_met(s, kind) {
+        differences[kind] = one_more(differences[kind]);
+    }
+}
+
+// The bytes of the record at the start of s; 0 where none stands.
+fn size(s: &[u8]) -> usize
+    ensures { λ r. do ⌜ r ≤ (← ⟦s.len()⟧ .entry) ⌝ }
+{
+    let n = 8 * (named(s, 0) % 0x1_0000) as usize;
+    if s.len() < n {
+        return 0;
+    }
+    n
+}
+
+// The records of a block, one after the other.
+fn replay_block(s: &[u8], cases: &mut [u64; KINDS], differences: &mut [u64; KINDS]) {
+    let mut at = 0;
+    while at < s.len() {
+        let n = size(&s[at..]);
+        if n == 0 {
+            return;
+        }
+        replay_record(&s[at..], cases, differences);
+        at += n;
+    }
+}
+
+fn print_kind(cases: u64, name: &[u8], differences: u64) {
+    io::print_decimal(1, cases);
+    io::write_all(1, name);
+    io::print_decimal(1, differences);
+    io::write_all(1, b" differences\n");
+}
+
+fn main() {
+    let mut cases = [0u64; KINDS];
+    let mut differences = [0u64; KINDS];
+    let mut buffer = io::large_buffer();
+    let n = io::read_full(0, &mut buffer);
+    replay_block(&buffer[..n], &mut cases, &mut differences);
+    print_kind(cases[0], b" lists read, ", differences[0]);
+    print_kind(cases[1], b" lists written, ", differences[1]);
+    print_kind(cases[2], b" records handed out, ", differences[2]);
+    print_kind(cases[3], b" records compared, ", differences[3]);
+}
