@@ -4,6 +4,7 @@ use linalg::Written;
 use linalg::generic;
 use linalg::mat3;
 use linalg::regularize;
+use pivoting::generic as solvers;
 
 fn written(answer: Written) -> u64 {
     match answer {
@@ -41,19 +42,27 @@ pub(crate) fn answer(
         0 => written(generic::mat_mul(a, b, m, k, n, out)),
         1 => written(generic::mat_transpose(a, m, n, out)),
         2 => written(generic::mat_ata(a, m, n, out)),
+        3 => entered(generic::mat_frobenius(a, m, n), out),
         4 => written(generic::mat_symmetrize(a, n, out)),
         5 => entered(generic::mat_trace(a, n), out),
         6 => entered(generic::mat_trace_product(a, b, n), out),
         7 => entered(generic::mat_trace_cube(a, b, n), out),
         8 => written(generic::mat_vec_mul(a, b, n, out)),
         9 => entered(generic::mat_quadratic_form(a, b, n), out),
+        10 => entered(generic::vec_norm(a, n), out),
         11 => entered(
             generic::mahalanobis_distance_squared_with_inv(a, b, c, n),
             out,
         ),
+        12 => written(generic::mat_cholesky(a, n, out)),
         13 => written(regularize::tikhonov(a, x, n, out)),
         14 => entered(mat3::mat3_det(a), out),
         15 => written(mat3::mat3_inv(a, out)),
-        _ => written(mat3::mat3_solve(a, b, out)),
+        16 => written(mat3::mat3_solve(a, b, out)),
+        17 => written(solvers::row_inf_norms(a, n, out)),
+        18 => written(solvers::mat_solve(a, b, n, out)),
+        19 => written(solvers::mat_inv(a, n, out)),
+        20 => entered(solvers::mat_det(a, n), out),
+        _ => entered(solvers::mahalanobis_distance_squared(a, b, c, n), out),
     }
 }

@@ -10,7 +10,7 @@ const HEAD: usize = 11;
 // The most entries of a slice, one of a wrong length included.
 const ENTRIES: usize = 272;
 
-const CALLS: usize = 17;
+const CALLS: usize = 22;
 
 // What stands in a slice before it is written.
 const BEFORE: f64 = 7.0;
@@ -111,7 +111,7 @@ fn is_record_met(s: &[u8], call: usize) -> bool {
 
 // Counts the record at the start of s under its call, and where it is answered otherwise, that too.
 fn replay_record(s: &[u8], cases: &mut [u64; CALLS], differences: &mut [u64; CALLS]) {
-    let call = (number(s, 1) % 17) as usize;
+    let call = (number(s, 1) % 22) as usize;
     cases[call] = one_more(cases[call]);
     if !is_record_met(s, call) {
         differences[call] = one_more(differences[call]);
@@ -176,19 +176,27 @@ fn main() {
     print_call(b"mat_mul ", cases[0], differences[0]);
     print_call(b"mat_transpose ", cases[1], differences[1]);
     print_call(b"mat_ata ", cases[2], differences[2]);
+    print_call(b"mat_frobenius ", cases[3], differences[3]);
     print_call(b"mat_symmetrize ", cases[4], differences[4]);
     print_call(b"mat_trace ", cases[5], differences[5]);
     print_call(b"mat_trace_product ", cases[6], differences[6]);
     print_call(b"mat_trace_cube ", cases[7], differences[7]);
     print_call(b"mat_vec_mul ", cases[8], differences[8]);
     print_call(b"mat_quadratic_form ", cases[9], differences[9]);
+    print_call(b"vec_norm ", cases[10], differences[10]);
     print_call(
         b"mahalanobis_distance_squared_with_inv ",
         cases[11],
         differences[11],
     );
+    print_call(b"mat_cholesky ", cases[12], differences[12]);
     print_call(b"tikhonov ", cases[13], differences[13]);
     print_call(b"mat3_det ", cases[14], differences[14]);
     print_call(b"mat3_inv ", cases[15], differences[15]);
     print_call(b"mat3_solve ", cases[16], differences[16]);
+    print_call(b"row_inf_norms ", cases[17], differences[17]);
+    print_call(b"mat_solve ", cases[18], differences[18]);
+    print_call(b"mat_inv ", cases[19], differences[19]);
+    print_call(b"mat_det ", cases[20], differences[20]);
+    print_call(b"mahalanobis_distance_squared ", cases[21], differences[21]);
 }
