@@ -5,17 +5,53 @@ use native.Mathlib.Numerals.{add-one}
 use native.Mathlib.Nat.{le-antisymm, sub-self}
 use mathlib.Core.Bool.{Bool, true, false, cond, not, _||_}
 use mathlib.Core.List.{List}
-use mathlib.Core.Path.{_≡_, sym, ap, _∙_, subst}
-use lib.Ieee.{Float, lt}
+use mathlib.Core.Path.{_≡_, refl, sym, ap, _∙_, subst}
+use lib.Ieee.{Float, nan, inf, fin, lt, neg, ofBits}
 use Rattle.kernel.specs.Number.{abs, div}
 use Rattle.linalg.specs.Matrix.{nought, nth, at}
 use Rattle.linalg.specs.Mat3.{greatest}
 use Rattle.pivoting.specs.declared.Pivot.{Pivot}
 use Rattle.pivoting.specs.Pivot.{minScale, someScale, consider, bestOf, pivot}
 
-pub greatest-more : (m : List Float) (l : ℕ) {s x t r : Float} → s ≡ greatest m l → x ≡ nth m l → t ≡ abs x → r ≡ cond (lt s t) t s → r ≡ greatest m (l + 1)
+-- ---- absolute values
+
+abs-abs : (x : Float) → abs (abs x) ≡ abs x
+unfolding abs
+abs-abs nan = refl
+abs-abs (inf s) = refl
+abs-abs (fin s m e) = refl
+
+-- |y| against a number without a sign, by y and -y
+raised-by-sign : (x y : Float) → cond (lt (abs x) y) y (cond (lt (abs x) (neg y)) (neg y) (abs x)) ≡ cond (lt (abs x) (abs y)) (abs y) (abs x)
+unfolding abs lt neg
+raised-by-sign nan y = refl
+raised-by-sign (inf s) nan = refl
+raised-by-sign (inf s) (inf t) = refl
+raised-by-sign (inf s) (fin t n d) = refl
+raised-by-sign (fin s m e) nan = refl
+raised-by-sign (fin s m e) (inf true) = refl
+raised-by-sign (fin s m e) (inf false) = refl
+raised-by-sign (fin s m e) (fin true n d) = refl
+raised-by-sign (fin s m e) (fin false n d) = refl
+
+pub raised-abs : (x y : Float) → abs x ≡ x → cond (lt x y) y (cond (lt x (neg y)) (neg y) x) ≡ cond (lt x (abs y)) (abs y) x
+raised-abs x y e = rw e at (raised-by-sign x y)
+
+-- ---- norms
+
+-- a norm has no sign
+pub greatest-abs : (m : List Float) (l : ℕ) → abs (greatest m l) ≡ greatest m l
+unfolding greatest abs ofBits
+greatest-abs m zero = refl
+greatest-abs m (suc l) = either (lt (greatest m l) (abs (nth m l))) (abs-abs (nth m l)) (greatest-abs m l)
+  where
+    either : (t : Bool) {u v : Float} → abs u ≡ u → abs v ≡ v → abs (cond t u v) ≡ cond t u v
+    either true p q = p
+    either false p q = q
+
+pub greatest-more : (m : List Float) (l : ℕ) {s x r : Float} → s ≡ greatest m l → x ≡ nth m l → r ≡ cond (lt s (abs x)) (abs x) s → r ≡ greatest m (l + 1)
 unfolding greatest
-greatest-more m l p q u e = e ∙ rw (add-one, p, u, q)
+greatest-more m l p q e = e ∙ rw (add-one, p, q)
 
 pub greatest-all : (m : List Float) {l n : ℕ} {s : Float} → l ≤ n → n ≤ l → s ≡ greatest m l → s ≡ greatest m n
 greatest-all m h k p = p ∙ ap (greatest m) (le-antisymm h k)

@@ -3,20 +3,24 @@ ghost use mathlib.Core.Path.{_≡_};
 ghost use mathlib.Core.Bool.{cond, not, _||_};
 ghost use Prim.Native.Nat.{_*_, _<_};
 ghost use lib.Ieee.{lt};
+ghost use Rattle.kernel.specs.Number.{abs};
 ghost use lib.ListN.{length};
 ghost use Rattle.pivoting.specs.Pivot.{minScale, rowNorm, rowNorms, someScale};
 use crate::shape::entry;
-use kernel::number::abs;
 
 // A row whose norm is below this has no pivot.
 pub(crate) const MIN_SCALE: f64 = 1e-150;
 
-// x, or y where that is greater.
+// x, which has no sign, or |y| where that is greater: both tests seldom hold, where the sign of y is any.
 fn raised(x: f64, y: f64) -> f64
-    ensures { λ r. ⌜ r ≡ cond (lt x y) y x ⌝ }
+    requires { ⌜ abs x ≡ x ⌝ }
+    ensures { λ r. ⌜ r ≡ cond (lt x (abs y)) (abs y) x ⌝ }
 {
     if y > x {
         return y;
+    }
+    if -y > x {
+        return -y;
     }
     x
 }
@@ -28,7 +32,7 @@ fn row_norm(a: &[f64], n: usize, i: usize) -> f64
 {
     let mut g = 0.0;
     for j in 0..n {
-        g = raised(g, abs(entry(a, n, i, j)));
+        g = raised(g, entry(a, n, i, j));
     }
     g
 }
