@@ -144,6 +144,9 @@ impl Compared {
         }
         let (mut count, mut dimension) = (usize::MAX, usize::MAX);
         let number = ffi::read_list(list, &mut self.values[..room], &mut count, &mut dimension);
+        if !matches!(wanted, Ok(read) if room >= read.values.len()) {
+            self.reads.refused();
+        }
         let mut written = 0;
         let agrees = match wanted {
             Ok(read) if room >= read.values.len() => {
@@ -182,6 +185,9 @@ impl Compared {
         }
         let mut length = usize::MAX;
         let number = ffi::write_list(count, dimension, values, &mut self.bytes[..room], &mut length);
+        if !matches!(wanted, Ok(list) if room >= list.len()) {
+            self.writes.refused();
+        }
         let mut written = 0;
         let agrees = match wanted {
             Ok(list) if room >= list.len() => {

@@ -290,6 +290,9 @@ fn compare(
             x.to_bits() == before[i].to_bits()
         }
     });
+    if wanted.0 != 0 {
+        tally.refused();
+    }
     tally.case(number == wanted.0 && agrees, || {
         let lengths: Vec<usize> = given.slices.iter().map(|s| s.len()).collect();
         format!(

@@ -8,12 +8,13 @@ pub fn same(a: f64, b: f64) -> bool {
 pub struct Tally {
     name: &'static str,
     cases: u64,
+    refused: u64,
     differences: u64,
 }
 
 impl Tally {
     pub fn new(name: &'static str) -> Tally {
-        Tally { name, cases: 0, differences: 0 }
+        Tally { name, cases: 0, refused: 0, differences: 0 }
     }
 
     /// Counts a case; the first few that differ are printed as `what` describes them.
@@ -27,9 +28,15 @@ impl Tally {
         }
     }
 
+    /// Counts a case that is to be refused.
+    pub fn refused(&mut self) {
+        self.refused += 1;
+    }
+
     /// Prints the counts and answers the number of differences.
     pub fn close(self) -> u64 {
-        println!("{}: {} cases, {} differences", self.name, self.cases, self.differences);
+        let refused = if self.refused == 0 { String::new() } else { format!(", {} of them refused", self.refused) };
+        println!("{}: {} cases{refused}, {} differences", self.name, self.cases, self.differences);
         self.differences
     }
 }
