@@ -2,26 +2,33 @@
 ghost use mathlib.Core.Path.{_≡_};
 ghost use Prim.Native.Nat.{_*_, _<_};
 ghost use lib.ListN.{length};
+ghost use Rattle.kernel.specs.Number.{abs};
 ghost use Rattle.pivoting.specs.Pivot.{consider, pivot, taken, swappedNorms};
 use crate::Pivot;
 use crate::norms::MIN_SCALE;
 use crate::shape::entry;
-use kernel::number::abs;
 
 // No pivot is taken whose ratio is below this.
 const REL_TOL: f64 = 1e-14;
 
 // The best row so far, and then row i, whose norm is s and whose entry in the column is x.
 fn consider(best: Pivot, s: f64, x: f64, i: usize) -> Pivot
+    requires { ⌜ abs (best .ratio) ≡ best .ratio ⌝ }
     ensures { λ r. ⌜ r ≡ consider best s x i ⌝ }
 {
     if s < MIN_SCALE {
         return best;
     }
-    let ratio = abs(x) / s;
+    let ratio = x / s;
     if ratio > best.ratio {
         return Pivot {
             ratio: ratio,
+            row: i,
+        };
+    }
+    if -ratio > best.ratio {
+        return Pivot {
+            ratio: -ratio,
             row: i,
         };
     }

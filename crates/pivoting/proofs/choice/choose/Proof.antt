@@ -3,8 +3,7 @@ use Prim.Native.Nat.{_-_, _≤_}
 use mathlib.Core.Path.{_≡_}
 use Rattle.linalg.proofs.Laws.{cell}
 use Rattle.pivoting.specs.Pivot.{bestOf}
-use Rattle.pivoting.proofs.Pivots.{best-more, best-none, best-all}
-use borrow.Author.Needs.{needs}
+use Rattle.pivoting.proofs.Pivots.{best-abs, best-more, best-none, best-all}
 use native.Mathlib.Omega.{arith}
 use Rattle.pivoting.proofs.choice.choose.Statement.{statement}
 use Rattle.pivoting.proofs.choice.choose.Tie as tie
@@ -28,7 +27,7 @@ entry-requires : tie.Need-entry-requires Inv-loop μ-loop
 entry-requires c κs = omega (arith, cell (c .before .before .before .before .before .args .n) (c .before .before .before .before .before .args .w) {i = c .before .before .loop .i} {j = c .before .before .before .before .before .args .k} (omega arith) (omega arith))
 
 consider-requires : tie.Need-consider-requires Inv-loop μ-loop
-consider-requires c κs = search needs
+consider-requires c κs = best-abs _ _ _ _ _ (c .before .before .before .loop .inv .2)
 
 add-i : tie.Need-add-i Inv-loop μ-loop
 add-i c = omega arith

@@ -1,6 +1,8 @@
--- `consider` meets its contract: each way out has the tests of `consider`.
+-- `consider` meets its contract: each way out has the tests of `consider`, the ratio with either sign.
+use lib.Ieee.{Float}
+use Rattle.kernel.specs.Number.{div}
 use Rattle.pivoting.specs.Pivot.{consider}
-use borrow.Author.Needs.{needs}
+use Rattle.pivoting.proofs.Pivots.{abs-ratio, first, second, third}
 use Rattle.pivoting.proofs.choice.consider.Statement.{statement}
 use Rattle.pivoting.proofs.choice.consider.Tie as tie
 
@@ -8,16 +10,26 @@ returns : tie.Need-returns
 unfolding consider
 returns c = rw (c .if1 .taken)
 
-abs-requires : tie.Need-abs-requires
-abs-requires c κs = search needs
-
 returns-2 : tie.Need-returns-2
 unfolding consider
-returns-2 c = rw (c .before .before .before .if1 .left, ← (c .before .before .abs .ensures), c .if2 .taken)
+returns-2 c =
+    let b = c .before .before .before .args .best in
+    let y = div (c .before .before .before .args .x) (c .before .before .before .args .s) in
+    rw (c .before .before .if1 .left, ← (abs-ratio (c .before .before .before .args .x) (c .before .before .before .args .s) (c .before .before .if1 .left))) (first (λ (q : Float). record { ratio = q; row = c .before .before .before .args .i }) b (b .ratio) y (c .before .before .before .pre) (c .if2 .taken))
 
 returns-3 : tie.Need-returns-3
 unfolding consider
-returns-3 c = rw (c .before .before .before .if1 .left, ← (c .before .before .abs .ensures), c .if2 .left)
+returns-3 c =
+    let b = c .before .before .before .before .before .args .best in
+    let y = div (c .before .before .before .before .before .args .x) (c .before .before .before .before .before .args .s) in
+    rw (c .before .before .before .before .if1 .left, ← (abs-ratio (c .before .before .before .before .before .args .x) (c .before .before .before .before .before .args .s) (c .before .before .before .before .if1 .left))) (second (λ (q : Float). record { ratio = q; row = c .before .before .before .before .before .args .i }) b (b .ratio) y (c .before .before .before .before .before .pre) (c .before .before .if2 .left) (c .if3 .taken))
+
+returns-4 : tie.Need-returns-4
+unfolding consider
+returns-4 c =
+    let b = c .before .before .before .before .before .args .best in
+    let y = div (c .before .before .before .before .before .args .x) (c .before .before .before .before .before .args .s) in
+    rw (c .before .before .before .before .if1 .left, ← (abs-ratio (c .before .before .before .before .before .args .x) (c .before .before .before .before .before .args .s) (c .before .before .before .before .if1 .left))) (third (λ (q : Float). record { ratio = q; row = c .before .before .before .before .before .args .i }) b (b .ratio) y (c .before .before .before .before .before .pre) (c .before .before .if2 .left) (c .if3 .left))
 
 pub consider-spec : {M : Type 1} → statement M
-consider-spec = tie.close (tie.spec returns abs-requires returns-2 returns-3)
+consider-spec = tie.close (tie.spec returns returns-2 returns-3 returns-4)
