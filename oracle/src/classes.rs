@@ -18,6 +18,13 @@ pub const CLASSES: &[(&str, Class)] = &[
     ("equal rows", equal_rows),
     ("signed zeros", |rng, _, m| each(m, || rng.one_of(&[0.0, -0.0, 0.0, -0.0, 1.0, -1.0]))),
     ("patterns", patterns),
+    ("badly scaled rows", scaled_rows),
+    ("proportional rows", proportional_rows),
+    ("tied ratios", tied_ratios),
+    ("zero rows", zero_rows),
+    ("permuted triangular", permuted_triangular),
+    ("hilbert", hilbert),
+    ("at the least scale", least_scale),
 ];
 
 fn each(m: &mut [f64], mut entry: impl FnMut() -> f64) {
@@ -117,4 +124,77 @@ fn patterns(rng: &mut Rng, _: usize, m: &mut [f64]) {
             sample(rng, turn)
         }
     });
+}
+
+/// Rows of sizes from 1e-160 to 1e160.
+fn scaled_rows(rng: &mut Rng, cols: usize, m: &mut [f64]) {
+    random(rng, cols, m);
+    for row in m.chunks_mut(cols) {
+        let scale = f64::powi(10.0, rng.below(321) as i32 - 160);
+        each_of(row, |x| x * scale);
+    }
+}
+
+/// Some rows are multiples of others.
+fn proportional_rows(rng: &mut Rng, cols: usize, m: &mut [f64]) {
+    equal_rows(rng, cols, m);
+    for row in m.chunks_mut(cols) {
+        let factor = rng.one_of(&[1.0, -1.0, 2.0, 3.0, -0.1, 1e10]);
+        each_of(row, |x| x * factor);
+    }
+}
+
+/// Entries of one size and any sign, each row times a power of two: the ratios of a column are equal at first.
+fn tied_ratios(rng: &mut Rng, cols: usize, m: &mut [f64]) {
+    each(m, || rng.one_of(&[1.0, -1.0, 1.0, -1.0, 0.5, 0.0]));
+    for row in m.chunks_mut(cols) {
+        let scale = f64::powi(2.0, rng.below(41) as i32 - 20);
+        each_of(row, |x| x * scale);
+    }
+}
+
+fn zero_rows(rng: &mut Rng, cols: usize, m: &mut [f64]) {
+    random(rng, cols, m);
+    let rows = (m.len() / cols) as u64;
+    let zero = rng.below(rows) as usize * cols;
+    m[zero..zero + cols].fill(rng.one_of(&[0.0, -0.0]));
+}
+
+/// The rows of an upper triangular matrix in any order: elimination finds each pivot elsewhere.
+fn permuted_triangular(rng: &mut Rng, cols: usize, m: &mut [f64]) {
+    random(rng, cols, m);
+    let rows = m.len() / cols;
+    for i in 0..rows {
+        m[i * cols..i * cols + i.min(cols)].fill(0.0);
+    }
+    for i in (1..rows).rev() {
+        let j = rng.below(i as u64 + 1) as usize;
+        for c in 0..cols {
+            m.swap(i * cols + c, j * cols + c);
+        }
+    }
+}
+
+/// 1 / (i + j + 1), at times with another scale.
+fn hilbert(rng: &mut Rng, cols: usize, m: &mut [f64]) {
+    let scale = rng.one_of(&[1.0, 3.0, 1e-8, 1e8]);
+    for (at, x) in m.iter_mut().enumerate() {
+        *x = scale / (at / cols + at % cols + 1) as f64;
+    }
+}
+
+/// The least norm that counts, 1e-150, and its neighbours.
+fn least_scale(rng: &mut Rng, _: usize, m: &mut [f64]) {
+    let sign = rng.one_of(&[1.0, -1.0]);
+    each(m, || match rng.below(4) {
+        0 => 0.0,
+        1 => 1e-151 * sign,
+        _ => f64::from_bits(1e-150f64.to_bits() + rng.below(5) - 2) * sign,
+    });
+}
+
+fn each_of(row: &mut [f64], to: impl Fn(f64) -> f64) {
+    for x in row {
+        *x = to(*x);
+    }
 }

@@ -1,4 +1,4 @@
-// Reading and writing the list record.
+// Reading and writing the list record. Every question is put before anything is written.
 ghost use mathlib.Core.Path.{_≡_};
 ghost use Prim.Native.Nat.{_+_, _*_, _/_, _<_, _≤_};
 ghost use mathlib.Core.List.{[], _∷_};
