@@ -1,4 +1,5 @@
 pub mod Matrices
+pub mod Signs
 pub mod Pivots
 pub mod Stages
 pub mod Columns

@@ -1,124 +1,19 @@
 -- Laws of norms and of the choice of a pivot row: one more entry, one more row, and where the pivot can be.
-use Prim.Native.Nat.{ℕ, zero, suc, _+_, _*_, _-_, _^_, _/_, _%_, compare, _<_, _≤_}
+use Prim.Native.Nat.{ℕ, zero, suc, _+_, _-_, _<_, _≤_}
 use native.Mathlib.Omega.{arith}
 use native.Mathlib.Numerals.{add-one}
-use native.Mathlib.Nat.{le-antisymm, sub-self, mul-le-mul}
+use native.Mathlib.Nat.{le-antisymm, sub-self}
 use mathlib.Core.Bool.{Bool, true, false, cond, not, _||_}
 use mathlib.Core.List.{List}
 use mathlib.Core.Path.{_≡_, refl, sym, ap, _∙_, subst}
-use lib.Dec.{T, eqb, ltb}
-use borrow.Author.Tests.{lt-ltb}
-use lib.IntN.{ℤ, negsuc}
-use lib.Ieee.Fits.{up-pos, down-pos}
 use lib.Ieee as Ieee
-use lib.Ieee.{Float, nan, inf, fin, binary64, prec, emax, low, size, nearest, odd, units, round, up, down, lt, neg, ofBits}
+use lib.Ieee.{Float, lt, ofBits}
 use Rattle.kernel.specs.Number.{abs, div}
 use Rattle.linalg.specs.Matrix.{nought, nth, at}
 use Rattle.linalg.specs.Mat3.{greatest}
 use Rattle.pivoting.specs.declared.Pivot.{Pivot}
 use Rattle.pivoting.specs.Pivot.{minScale, someScale, consider, bestOf, pivot}
-
--- ---- absolute values
-
-abs-abs : (x : Float) → abs (abs x) ≡ abs x
-unfolding abs
-abs-abs nan = refl
-abs-abs (inf s) = refl
-abs-abs (fin s m e) = refl
-
--- |y| against a number without a sign, by y and -y
-by-sign : {A : Type 0} (f : Float → A) (z : A) (x y : Float) → cond (lt (abs x) y) (f y) (cond (lt (abs x) (neg y)) (f (neg y)) z) ≡ cond (lt (abs x) (abs y)) (f (abs y)) z
-unfolding abs lt neg
-by-sign f z nan y = refl
-by-sign f z (inf s) nan = refl
-by-sign f z (inf s) (inf t) = refl
-by-sign f z (inf s) (fin t n d) = refl
-by-sign f z (fin s m e) nan = refl
-by-sign f z (fin s m e) (inf true) = refl
-by-sign f z (fin s m e) (inf false) = refl
-by-sign f z (fin s m e) (fin true n d) = refl
-by-sign f z (fin s m e) (fin false n d) = refl
-
--- what follows where |y| is above x, which has no sign, as a test of y, a test of -y, and a rest
-abbrev pub tested : {A : Type 0} → (Float → A) → A → Float → Float → A
-tested f z x y = cond (lt x y) (f y) (cond (lt x (neg y)) (f (neg y)) z)
-
-pub tested-abs : {A : Type 0} (f : Float → A) (z : A) (x y : Float) → abs x ≡ x → tested f z x y ≡ cond (lt x (abs y)) (f (abs y)) z
-tested-abs f z x y e = rw e at (by-sign f z x y)
-
-pub first : {A : Type 0} (f : Float → A) (z : A) (x y : Float) → abs x ≡ x → lt x y ≡ true → f y ≡ cond (lt x (abs y)) (f (abs y)) z
-first f z x y e p = rw p at (tested-abs f z x y e)
-
-pub second : {A : Type 0} (f : Float → A) (z : A) (x y : Float) → abs x ≡ x → lt x y ≡ false → lt x (neg y) ≡ true → f (neg y) ≡ cond (lt x (abs y)) (f (abs y)) z
-second f z x y e p q = rw (p, q) at (tested-abs f z x y e)
-
-pub third : {A : Type 0} (f : Float → A) (z : A) (x y : Float) → abs x ≡ x → lt x y ≡ false → lt x (neg y) ≡ false → z ≡ cond (lt x (abs y)) (f (abs y)) z
-third f z x y e p q = rw (p, q) at (tested-abs f z x y e)
-
--- ---- ratios
-
-abs-odd : (d : ℕ) (s : Bool) (q k l : ℕ) → abs (odd d s q k l) ≡ odd d false q k l
-unfolding abs odd
-abs-odd d s zero k l = refl
-abs-odd d s (suc q) k l = refl
-
-abs-units : (s : Bool) (q k : ℕ) → abs (units binary64 s q k) ≡ units binary64 false q k
-unfolding abs units
-abs-units s q k = go (ltb (q * 2 ^ k) (2 ^ (low binary64 + suc (emax binary64))))
-  where
-    go : (t : Bool) → abs (cond t (odd (suc (prec binary64)) s q k (low binary64)) (inf s)) ≡ cond t (odd (suc (prec binary64)) false q k (low binary64)) (inf false)
-    go true = abs-odd (suc (prec binary64)) s q k (low binary64)
-    go false = refl
-
-abs-round : (s : Bool) (a b : ℕ) → abs (round binary64 s a b) ≡ round binary64 false a b
-unfolding round
-abs-round s a b =
-    let n = a * 2 ^ low binary64 in
-    let k = size (n / b) - prec binary64 in
-    let u = b * 2 ^ k in
-    abs-units s (nearest (n / u) (compare (n % u * 2) u)) k
-
--- |x| / s is |x / s|, for an s without a sign
-abs-div : (x s : Float) → div (abs x) (abs s) ≡ abs (div x (abs s))
-unfolding abs Ieee.div
-abs-div nan s = refl
-abs-div (inf u) nan = refl
-abs-div (inf u) (inf t) = refl
-abs-div (inf u) (fin t n d) = refl
-abs-div (fin u m e) nan = refl
-abs-div (fin u m e) (inf t) = refl
-abs-div (fin true m e) (fin t n d) = go (eqb n 0) (eqb m 0)
-  where
-    go : (y z : Bool) → cond y (cond z nan (inf false)) (round binary64 false (m * up e * down d) (n * up d * down e)) ≡ abs (cond y (cond z nan (inf true)) (round binary64 true (m * up e * down d) (n * up d * down e)))
-    go true true = refl
-    go true false = refl
-    go false z = sym (abs-round true (m * up e * down d) (n * up d * down e))
-abs-div (fin false m e) (fin t n d) = go (eqb n 0) (eqb m 0)
-  where
-    go : (y z : Bool) → cond y (cond z nan (inf false)) (round binary64 false (m * up e * down d) (n * up d * down e)) ≡ abs (cond y (cond z nan (inf false)) (round binary64 false (m * up e * down d) (n * up d * down e)))
-    go true true = refl
-    go true false = refl
-    go false z = sym (abs-round false (m * up e * down d) (n * up d * down e))
-
--- a negative number is below a positive one
-negative-below : (m n : ℕ) (k d : ℤ) → 0 < n → lt (fin true m k) (fin false n d) ≡ true
-unfolding lt
-negative-below m n k d h = lt-ltb 0 (m * up k * down d + n * up d * down k) (omega (arith, positive))
-  where
-    positive : 1 * 1 * 1 ≤ n * up d * down k
-    positive = mul-le-mul (mul-le-mul h (up-pos d)) (down-pos k)
-
--- a norm that is not too small has no sign
-scale-abs : (s : Float) → lt s minScale ≡ false → abs s ≡ s
-unfolding abs lt ofBits
-scale-abs nan e = refl
-scale-abs (inf true) e = absurd (subst T e tt)
-scale-abs (inf false) e = refl
-scale-abs (fin false m k) e = refl
-scale-abs (fin true m k) e = absurd (subst T (sym (negative-below m 7371020360979573 k (negsuc 550) (omega arith)) ∙ e) tt)
-
-pub abs-ratio : (x s : Float) → lt s minScale ≡ false → abs (div x s) ≡ div (abs x) s
-abs-ratio x s e = sym (rw (scale-abs s e) at (abs-div x s))
+use Rattle.pivoting.proofs.Signs.{abs-abs, abs-ratio}
 
 -- ---- norms
 

@@ -1,6 +1,6 @@
 -- `raised` meets its contract: y or -y is |y|, and neither is above x where |y| is not.
 use lib.Ieee.{Float}
-use Rattle.pivoting.proofs.Pivots.{first, second, third}
+use Rattle.pivoting.proofs.Signs.{first, second, third}
 use Rattle.pivoting.proofs.norms.raised.Statement.{statement}
 use Rattle.pivoting.proofs.norms.raised.Tie as tie
 
