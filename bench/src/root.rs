@@ -30,13 +30,30 @@ pub fn run() {
     println!("sqrt, guess: {missed} of {calls} random normal numbers need the digits");
 }
 
-/// Whether the guess of `kernel::number::root`, operation by operation, has the digits of the root of the normal number with
-/// this bit pattern.
+/// Whether the exact test of `kernel::number::root` admits its guess for the normal number with this bit pattern. Both are
+/// written here again, operation by operation: the library does not tell which way it took.
 fn guessed(bits: u64) -> bool {
-    let n = (bits + (1 << 52)) % (1 << 53);
-    guess(n).to_bits() == f64::from_bits(ONE + n).sqrt().to_bits()
+    let n = (bits + LEAD) % (2 * LEAD);
+    let g = guess(n).to_bits();
+    let w = (LEAD + n % LEAD) * (1 + n / LEAD);
+    (ONE..ONE + LEAD).contains(&g) && is_nearest(w, g - (ONE - LEAD))
 }
 
+fn is_nearest(w: u64, r: u64) -> bool {
+    let (a, b) = (r / (1 << 27), r % (1 << 27));
+    let high = 4 * a * a;
+    if w + 2 < high || 1 << 30 <= w + 2 - high {
+        return false;
+    }
+    let (sum, cross) = ((w + 2 - high) << 24, a * b);
+    if sum < cross || 1 << 35 <= sum - cross {
+        return false;
+    }
+    let (left, right) = ((sum - cross) << 28, b * b + (1 << 53));
+    right < left + r && left <= right + r
+}
+
+const LEAD: u64 = 1 << 52;
 const ONE: u64 = 0x3FF0_0000_0000_0000;
 const RECIPROCAL: u64 = 0x5FE6_EB50_C7B5_37A9;
 const HEAD: f64 = 201326592.0;
