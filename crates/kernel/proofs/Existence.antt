@@ -7,7 +7,7 @@ use mathlib.Core.Path.{_≡_, refl, sym, ap, _∙_, subst}
 use lib.Pow.{pow-pos, pow-add}
 use lib.Ieee.{size}
 use lib.Ieee.Digits.{size-lt, size-reaches, size-le}
-use Rattle.kernel.specs.Sqrt.{units, rootPattern}
+use Rattle.kernel.specs.Sqrt.{scaledBits, rootPattern}
 use Rattle.kernel.specs.Nearest.{Nearest, Rounds}
 use Rattle.kernel.proofs.Root.{significand-range, rounds-of, root-of, subnormal-argument, normal-argument}
 
@@ -42,7 +42,7 @@ record Argument (x : ℕ) : Type 0 where
   e-is : e < 3069
   same : x * 2 ^ 1074 ≡ (2 ^ 52 + digits) * 2 ^ (52 + e)
 
-subnormal : (b : ℕ) → 0 < b → b < 2 ^ 52 → Argument (units b)
+subnormal : (b : ℕ) → 0 < b → b < 2 ^ 52 → Argument (scaledBits b)
 subnormal b h l =
     let k = size b in
     let s = 53 - k in
@@ -61,10 +61,10 @@ subnormal b h l =
       same = subnormal-argument b (b * 2 ^ s) s l (omega arith) refl low;
     }
 
-argument : (b : ℕ) → 0 < b → b < 0x7FF0_0000_0000_0000 → Argument (units b)
+argument : (b : ℕ) → 0 < b → b < 0x7FF0_0000_0000_0000 → Argument (scaledBits b)
 argument b h l = go (decLt b (2 ^ 52))
   where
-    go : Dec (b < 2 ^ 52) → Argument (units b)
+    go : Dec (b < 2 ^ 52) → Argument (scaledBits b)
     go (yes k) = subnormal b h k
     go (no k) = record {
       digits = b % 2 ^ 52;
@@ -83,7 +83,7 @@ pub record Found (x : ℕ) : Type 0 where
   pub is-found : pattern ≡ rootPattern x
   pub rounds : Rounds x pattern
 
-pub root-found : (b : ℕ) → 0 < b → b < 0x7FF0_0000_0000_0000 → Found (units b)
+pub root-found : (b : ℕ) → 0 < b → b < 0x7FF0_0000_0000_0000 → Found (scaledBits b)
 root-found b h l =
     let a = argument b h l in
     let n = nearest ((2 ^ 52 + a .digits) * (1 + a .e % 2)) (omega arith) in
@@ -92,6 +92,6 @@ root-found b h l =
       pattern = a .e / 2 * 2 ^ 52 + n .0;
       above-zero = omega (arith, significand-range (a .digits) (a .e % 2) (n .0) (a .digits-are) (omega arith) (n .1) .least);
       finite = r .finite;
-      is-found = r .root (units b) (a .same);
-      rounds = rounds-of (units b) (a .digits) (a .e) (n .0) (a .digits-are) (n .1) (a .same);
+      is-found = r .root (scaledBits b) (a .same);
+      rounds = rounds-of (scaledBits b) (a .digits) (a .e) (n .0) (a .digits-are) (n .1) (a .same);
     }

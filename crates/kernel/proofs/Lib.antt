@@ -1,6 +1,8 @@
+pub mod Answers
+pub mod Lists
 pub mod Whole
 pub mod Doubles
-pub mod Units
+pub mod Patterns
 pub mod Root
 pub mod Signs
 pub mod SquareRoot

@@ -8,10 +8,10 @@ use mathlib.Core.Logic.{⊎-elim}
 use mathlib.Core.Bool.{Bool, true, false, cond}
 use lib.Pow.{pow-pos, pow-mono, pow-add}
 use borrow.Author.Tests.{lt-ltb, le-ltb, ltb-true, ltb-false}
-use Rattle.kernel.specs.Sqrt.{square, units, greatest, notAbove, rootPattern}
+use Rattle.kernel.specs.Sqrt.{square, scaledBits, greatest, notAbove, rootPattern}
 use Rattle.kernel.specs.Nearest.{Nearest, Significand, Rounds, RootOf}
 use Rattle.kernel.proofs.Whole.{nearest-range, argument-least, argument-most}
-use Rattle.kernel.proofs.Units.{units-low, units-at, split-pattern, units-grows, units-mono}
+use Rattle.kernel.proofs.Patterns.{scaled-bits-low, scaled-bits-at, split-pattern, scaled-bits-grows, scaled-bits-mono}
 
 -- ---- only one pattern
 
@@ -19,12 +19,12 @@ square-mono : {a b : ℕ} → a ≤ b → square a ≤ square b
 square-mono h = mul-le-mul h h
 
 -- twice the midpoint above p is at most twice that below q, for p before q
-midpoints : (p q : ℕ) → p < q → square (units p + units (p + 1)) ≤ square (units (q - 1) + units q)
-midpoints p q h = square-mono (add-le-add (units-mono p (q - 1) (omega arith)) (units-mono (p + 1) q (omega arith)))
+midpoints : (p q : ℕ) → p < q → square (scaledBits p + scaledBits (p + 1)) ≤ square (scaledBits (q - 1) + scaledBits q)
+midpoints p q h = square-mono (add-le-add (scaled-bits-mono p (q - 1) (omega arith)) (scaled-bits-mono (p + 1) q (omega arith)))
 
 -- r and p both have n between their midpoints, p with room on both sides
-pub one-pattern : (n r p : ℕ) → square (units (r - 1) + units r) < n → n ≤ square (units r + units (r + 1))
-    → square (units (p - 1) + units p) < n → n < square (units p + units (p + 1)) → r ≡ p
+pub one-pattern : (n r p : ℕ) → square (scaledBits (r - 1) + scaledBits r) < n → n ≤ square (scaledBits r + scaledBits (r + 1))
+    → square (scaledBits (p - 1) + scaledBits p) < n → n < square (scaledBits p + scaledBits (p + 1)) → r ≡ p
 one-pattern n r p rl rh pl ph = go (decLt r p) (decLt p r)
   where
     go : Dec (r < p) → Dec (p < r) → r ≡ p
@@ -47,14 +47,14 @@ greatest-last holds (suc k) p yes-p no-p = go (holds (p + 2 ^ k)) refl (greatest
     go true e rest = rest (p + 2 ^ k) e (ap holds (omega (arith, two-pow-succ k)) ∙ no-p)
     go false e rest = rest p yes-p e
 
-found : (n p : ℕ) → square (units (p - 1) + units p) < n → n < square (units p + units (p + 1)) → p < 2 ^ 63 → greatest (notAbove n) 63 0 ≡ p
+found : (n p : ℕ) → square (scaledBits (p - 1) + scaledBits p) < n → n < square (scaledBits p + scaledBits (p + 1)) → p < 2 ^ 63 → greatest (notAbove n) 63 0 ≡ p
 unfolding notAbove
 found n p low high h =
     let at-zero : notAbove n 0 ≡ true = lt-ltb 0 n (omega arith) in
     let past : notAbove n (0 + 2 ^ 63) ≡ false = le-ltb _ _ (le-trans (le-of-lt high) (midpoints p (2 ^ 63) h)) in
     let l = greatest-last (notAbove n) 63 0 at-zero past in
     let r = greatest (notAbove n) 63 0 in
-    let next : n ≤ square (units (r + 1 - 1) + units (r + 1)) = ltb-false _ _ (l .not-next) in
+    let next : n ≤ square (scaledBits (r + 1 - 1) + scaledBits (r + 1)) = ltb-false _ _ (l .not-next) in
     one-pattern n r p (ltb-true _ _ (l .here)) (rw (add-sub-cancel r 1) at next) low high
 
 pub rootPattern-is : (x p : ℕ) → Rounds x p → p < 2 ^ 63 → rootPattern x ≡ p
@@ -76,32 +76,32 @@ scale-power v a r u h l = let k : suc (a + r * u) ≤ 2 * (r * u) = omega arith 
 
 -- The pattern is that of r * 2 ^ t, and w * 2 ^ 52 * 4 ^ t is the argument.
 module _ (w t r : ℕ) (s : Significand r) (n : Nearest w r) where
-  here : units (t * 2 ^ 52 + r) ≡ r * 2 ^ t
-  here = units-at t r (s .least) (omega (arith, s .most))
+  here : scaledBits (t * 2 ^ 52 + r) ≡ r * 2 ^ t
+  here = scaled-bits-at t r (s .least) (omega (arith, s .most))
 
-  midpoint-above : 4 * (w * 2 ^ 52) * (2 ^ t * 2 ^ t) < square (units (t * 2 ^ 52 + r) + units (t * 2 ^ 52 + r + 1))
+  midpoint-above : 4 * (w * 2 ^ 52) * (2 ^ t * 2 ^ t) < square (scaledBits (t * 2 ^ 52 + r) + scaledBits (t * 2 ^ 52 + r + 1))
   midpoint-above =
-      let next : units (t * 2 ^ 52 + r + 1) ≡ (r + 1) * 2 ^ t = ap units (omega arith) ∙ units-at t (r + 1) (omega (arith, s .least)) (omega (arith, s .most)) in
+      let next : scaledBits (t * 2 ^ 52 + r + 1) ≡ (r + 1) * 2 ^ t = ap scaledBits (omega arith) ∙ scaled-bits-at t (r + 1) (omega (arith, s .least)) (omega (arith, s .most)) in
       rw (here, next) (scale-above (w * 2 ^ 52) r (2 ^ t) (pow-pos t) (omega (arith, n .not-greater)))
 
   -- above a power of two the double below is one unit away; at a power of two it is nearer, but the argument is not below that power's square
-  midpoint-below : 2 ^ 52 ≤ w → square (units (t * 2 ^ 52 + r - 1) + units (t * 2 ^ 52 + r)) < 4 * (w * 2 ^ 52) * (2 ^ t * 2 ^ t)
+  midpoint-below : 2 ^ 52 ≤ w → square (scaledBits (t * 2 ^ 52 + r - 1) + scaledBits (t * 2 ^ 52 + r)) < 4 * (w * 2 ^ 52) * (2 ^ t * 2 ^ t)
   midpoint-below h = ⊎-elim power inner (eq-or-lt-of-le (s .least))
     where
-      inner : 2 ^ 52 < r → square (units (t * 2 ^ 52 + r - 1) + units (t * 2 ^ 52 + r)) < 4 * (w * 2 ^ 52) * (2 ^ t * 2 ^ t)
+      inner : 2 ^ 52 < r → square (scaledBits (t * 2 ^ 52 + r - 1) + scaledBits (t * 2 ^ 52 + r)) < 4 * (w * 2 ^ 52) * (2 ^ t * 2 ^ t)
       inner l =
           let q = r - 1 in
           let e : r ≡ q + 1 = omega arith in
-          let before : units (t * 2 ^ 52 + r - 1) ≡ q * 2 ^ t = ap units (omega arith) ∙ units-at t q (omega arith) (omega (arith, s .most)) in
-          let same : units (t * 2 ^ 52 + r) ≡ (q + 1) * 2 ^ t = here ∙ ap (λ (x : ℕ). x * 2 ^ t) e in
+          let before : scaledBits (t * 2 ^ 52 + r - 1) ≡ q * 2 ^ t = ap scaledBits (omega arith) ∙ scaled-bits-at t q (omega arith) (omega (arith, s .most)) in
+          let same : scaledBits (t * 2 ^ 52 + r) ≡ (q + 1) * 2 ^ t = here ∙ ap (λ (x : ℕ). x * 2 ^ t) e in
           let sq : r * r ≡ (q + 1) * (q + 1) = ap square e in
           rw (before, same) (scale-below (w * 2 ^ 52) q (2 ^ t) (pow-pos t) (omega (arith, n .not-less)))
 
-      power : 2 ^ 52 ≡ r → square (units (t * 2 ^ 52 + r - 1) + units (t * 2 ^ 52 + r)) < 4 * (w * 2 ^ 52) * (2 ^ t * 2 ^ t)
+      power : 2 ^ 52 ≡ r → square (scaledBits (t * 2 ^ 52 + r - 1) + scaledBits (t * 2 ^ 52 + r)) < 4 * (w * 2 ^ 52) * (2 ^ t * 2 ^ t)
       power e =
           let p = t * 2 ^ 52 + r in
-          let less : units (p - 1) < r * 2 ^ t = subst (λ (x : ℕ). units (p - 1) < x) (ap units (omega arith) ∙ here) (units-grows (p - 1)) in
-          rw here (scale-power (w * 2 ^ 52) (units (p - 1)) r (2 ^ t) less (omega (arith, ap square e)))
+          let less : scaledBits (p - 1) < r * 2 ^ t = subst (λ (x : ℕ). scaledBits (p - 1) < x) (ap scaledBits (omega arith) ∙ here) (scaled-bits-grows (p - 1)) in
+          rw here (scale-power (w * 2 ^ 52) (scaledBits (p - 1)) r (2 ^ t) less (omega (arith, ap square e)))
 
 -- 2 ^ e by the half of e and its last digit
 power-halves : (e : ℕ) → 2 ^ e ≡ (1 + e % 2) * (2 ^ (e / 2) * 2 ^ (e / 2))
@@ -124,8 +124,8 @@ rounds-of x digits e r h n same =
     let s = nearest-range w r (argument-least digits (e % 2)) (argument-most digits (e % 2) h (omega arith)) n in
     let scaled = argument x (2 ^ 1074) m e same in
     record {
-      not-less = subst (λ (y : ℕ). square (units (e / 2 * 2 ^ 52 + r - 1) + units (e / 2 * 2 ^ 52 + r)) < y) scaled (midpoint-below w (e / 2) r s n (argument-least digits (e % 2)));
-      not-greater = subst (λ (y : ℕ). y < square (units (e / 2 * 2 ^ 52 + r) + units (e / 2 * 2 ^ 52 + r + 1))) scaled (midpoint-above w (e / 2) r s n);
+      not-less = subst (λ (y : ℕ). square (scaledBits (e / 2 * 2 ^ 52 + r - 1) + scaledBits (e / 2 * 2 ^ 52 + r)) < y) scaled (midpoint-below w (e / 2) r s n (argument-least digits (e % 2)));
+      not-greater = subst (λ (y : ℕ). y < square (scaledBits (e / 2 * 2 ^ 52 + r) + scaledBits (e / 2 * 2 ^ 52 + r + 1))) scaled (midpoint-above w (e / 2) r s n);
     }
 
 pub significand-range : (digits odd r : ℕ) → digits < 2 ^ 52 → odd < 2 → Nearest ((2 ^ 52 + digits) * (1 + odd)) r → Significand r
@@ -154,19 +154,19 @@ places b s h l = go (decLt s 53)
     go (no k) = let m : 2 ^ 53 ≤ 2 ^ s = pow-mono {i = 53} {j = s} (omega arith) in absurd (omega (arith, mul-le-mul h m))
 
 -- a double without a leading digit, moved up by s places until it has one
-pub subnormal-argument : (b m s : ℕ) → b < 2 ^ 52 → s ≤ 52 → m ≡ b * 2 ^ s → 2 ^ 52 ≤ m → units b * 2 ^ 1074 ≡ (2 ^ 52 + (m - 2 ^ 52)) * 2 ^ (52 + (1022 - s))
+pub subnormal-argument : (b m s : ℕ) → b < 2 ^ 52 → s ≤ 52 → m ≡ b * 2 ^ s → 2 ^ 52 ≤ m → scaledBits b * 2 ^ 1074 ≡ (2 ^ 52 + (m - 2 ^ 52)) * 2 ^ (52 + (1022 - s))
 subnormal-argument b m s l k e h =
     let whole : m ≡ 2 ^ 52 + (m - 2 ^ 52) = omega arith in
-    ap (λ (x : ℕ). x * 2 ^ 1074) (units-low b l) ∙ moved-up b m s (52 + (1022 - s)) 1074 e (omega arith) ∙ ap (λ (x : ℕ). x * 2 ^ (52 + (1022 - s))) whole
+    ap (λ (x : ℕ). x * 2 ^ 1074) (scaled-bits-low b l) ∙ moved-up b m s (52 + (1022 - s)) 1074 e (omega arith) ∙ ap (λ (x : ℕ). x * 2 ^ (52 + (1022 - s))) whole
 
 -- a double with a leading digit
-pub normal-argument : (b : ℕ) → 2 ^ 52 ≤ b → units b * 2 ^ 1074 ≡ (2 ^ 52 + b % 2 ^ 52) * 2 ^ (52 + (b / 2 ^ 52 + 1021))
+pub normal-argument : (b : ℕ) → 2 ^ 52 ≤ b → scaledBits b * 2 ^ 1074 ≡ (2 ^ 52 + b % 2 ^ 52) * 2 ^ (52 + (b / 2 ^ 52 + 1021))
 normal-argument b h =
     let t = b / 2 ^ 52 - 1 in
     let r = 2 ^ 52 + b % 2 ^ 52 in
-    let value : units b ≡ r * 2 ^ t = ap units (sym (split-pattern b h)) ∙ units-at t r (omega arith) (omega arith) in
+    let value : scaledBits b ≡ r * 2 ^ t = ap scaledBits (sym (split-pattern b h)) ∙ scaled-bits-at t r (omega arith) (omega arith) in
     let places : t + 1074 ≡ 52 + (b / 2 ^ 52 + 1021) = omega arith in
-    up-by (units b) r t 1074 _ value places
+    up-by (scaledBits b) r t 1074 _ value places
   where
     up-by : (x r t k n : ℕ) → x ≡ r * 2 ^ t → t + k ≡ n → x * 2 ^ k ≡ r * 2 ^ n
     up-by x r t k n e f = ap (λ (y : ℕ). y * 2 ^ k) e ∙ sym (moved-up r (r * 2 ^ t) t k n refl f)

@@ -10,34 +10,34 @@ use lib.Ieee.{Float, nan, inf, fin, binary64, fits, ofBits, toBits}
 use lib.Ieee.Bits.{ofBits-toBits, toBits-ofBits, ofBits-fits}
 use lib.Ieee.Fits.{nan-fits, inf-fits}
 use lib.Ieee.Positive.{positive}
-use Rattle.kernel.specs.Sqrt.{square, scaled, above, below, Root, units, rootPattern, sqrt}
+use Rattle.kernel.specs.Sqrt.{square, scaled, nextUp, nextDown, Root, scaledBits, rootPattern, sqrt}
 use Rattle.kernel.specs.Nearest.{Rounds}
 use Rattle.kernel.proofs.Doubles.{positive-pattern, pattern-size, pattern-positive, positive-no-nan}
 use Rattle.kernel.proofs.Signs.{negative, isZero}
-use Rattle.kernel.proofs.Units.{units-grows, units-mono}
+use Rattle.kernel.proofs.Patterns.{scaled-bits-grows, scaled-bits-mono}
 use Rattle.kernel.proofs.Root.{one-pattern}
 use Rattle.kernel.proofs.Existence.{root-found}
 
 -- ---- the doubles next to a finite double above 0
 
 module _ (r : Float) (f : T (fits binary64 r)) (h : T (positive r)) where
-  here : scaled r ≡ units (toBits binary64 r)
+  here : scaled r ≡ scaledBits (toBits binary64 r)
   here = positive-pattern r f h .size
 
-  up-next : scaled (above r) ≡ units (toBits binary64 r + 1)
+  up-next : scaled (nextUp r) ≡ scaledBits (toBits binary64 r + 1)
   up-next = pattern-size (toBits binary64 r + 1) (omega (arith, positive-pattern r f h .below-infinity))
 
-  down-next : scaled (below r) ≡ units (toBits binary64 r - 1)
+  down-next : scaled (nextDown r) ≡ scaledBits (toBits binary64 r - 1)
   down-next = pattern-size (toBits binary64 r - 1) (omega (arith, positive-pattern r f h .below-infinity))
 
-  pub above-is-greater : scaled r < scaled (above r)
-  above-is-greater = rw (here, up-next) (units-grows (toBits binary64 r))
+  pub above-is-greater : scaled r < scaled (nextUp r)
+  above-is-greater = rw (here, up-next) (scaled-bits-grows (toBits binary64 r))
 
-  pub below-is-less : scaled (below r) < scaled r
+  pub below-is-less : scaled (nextDown r) < scaled r
   below-is-less =
       let p = toBits binary64 r in
       let back : p - 1 + 1 ≡ p = omega (arith, positive-pattern r f h .above-zero) in
-      rw (here, down-next) (subst (λ (x : ℕ). units (p - 1) < units x) back (units-grows (p - 1)))
+      rw (here, down-next) (subst (λ (x : ℕ). scaledBits (p - 1) < scaledBits x) back (scaled-bits-grows (p - 1)))
 
 -- doubles above 0 and their patterns have one order
 same-order : (r t : Float) → T (fits binary64 r) → T (positive r) → T (fits binary64 t) → T (positive t) → scaled r < scaled t → toBits binary64 r < toBits binary64 t
@@ -45,15 +45,15 @@ same-order r t fr hr ft ht l = go (decLt (toBits binary64 r) (toBits binary64 t)
   where
     go : Dec (toBits binary64 r < toBits binary64 t) → toBits binary64 r < toBits binary64 t
     go (yes k) = k
-    go (no k) = absurd (omega (arith, here r fr hr, here t ft ht, units-mono (toBits binary64 t) (toBits binary64 r) (omega arith)))
+    go (no k) = absurd (omega (arith, here r fr hr, here t ft ht, scaled-bits-mono (toBits binary64 t) (toBits binary64 r) (omega arith)))
 
 -- no double lies between r and r⁺, and none between r⁻ and r
 module _ (r t : Float) (fr : T (fits binary64 r)) (hr : T (positive r)) (ft : T (fits binary64 t)) (ht : T (positive t)) where
-  pub next-above : scaled r < scaled t → scaled (above r) ≤ scaled t
-  next-above l = rw (up-next r fr hr, here t ft ht) (units-mono _ _ (omega (arith, same-order r t fr hr ft ht l)))
+  pub next-above : scaled r < scaled t → scaled (nextUp r) ≤ scaled t
+  next-above l = rw (up-next r fr hr, here t ft ht) (scaled-bits-mono _ _ (omega (arith, same-order r t fr hr ft ht l)))
 
-  pub next-below : scaled t < scaled r → scaled t ≤ scaled (below r)
-  next-below l = rw (down-next r fr hr, here t ft ht) (units-mono _ _ (omega (arith, same-order t r ft ht fr hr l)))
+  pub next-below : scaled t < scaled r → scaled t ≤ scaled (nextDown r)
+  next-below l = rw (down-next r fr hr, here t ft ht) (scaled-bits-mono _ _ (omega (arith, same-order t r ft ht fr hr l)))
 
 -- ---- the root
 
@@ -62,10 +62,10 @@ pub root-unique : (x r s : Float) → Root x r → Root x s → r ≡ s
 root-unique x r s a b =
     sym (ofBits-toBits binary64 r (a .double)) ∙ ap (ofBits binary64) (one-pattern _ _ _ (at-low r a) (le-of-lt (at-high r a)) (at-low s b) (at-high s b)) ∙ ofBits-toBits binary64 s (b .double)
   where
-    at-low : (r : Float) → Root x r → square (units (toBits binary64 r - 1) + units (toBits binary64 r)) < 4 * scaled x * 2 ^ 1074
+    at-low : (r : Float) → Root x r → square (scaledBits (toBits binary64 r - 1) + scaledBits (toBits binary64 r)) < 4 * scaled x * 2 ^ 1074
     at-low r a = rw (← down-next r (a .double) (a .finite), ← here r (a .double) (a .finite)) (a .not-less)
 
-    at-high : (r : Float) → Root x r → 4 * scaled x * 2 ^ 1074 < square (units (toBits binary64 r) + units (toBits binary64 r + 1))
+    at-high : (r : Float) → Root x r → 4 * scaled x * 2 ^ 1074 < square (scaledBits (toBits binary64 r) + scaledBits (toBits binary64 r + 1))
     at-high r a = rw (← up-next r (a .double) (a .finite), ← here r (a .double) (a .finite)) (a .not-greater)
 
 -- the double whose pattern meets it

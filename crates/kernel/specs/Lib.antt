@@ -1,4 +1,6 @@
 pub mod Answer
+pub mod Constants
+pub mod Lists
 pub mod Number
 pub mod Sqrt
 pub mod Nearest

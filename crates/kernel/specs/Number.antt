@@ -2,6 +2,8 @@
 use mathlib.Core.Bool.{false, cond}
 use lib.Ieee as Ieee
 use lib.Ieee.{Float, nan, inf, fin, binary64, isNan, lt}
+-- `finite`: neither a NaN nor an infinity
+pub use lib.Ieee.Scale.{finite}
 
 abbrev pub add : Float → Float → Float
 add x y = Ieee.add binary64 x y

@@ -1,3 +1,4 @@
-// The number layer of the dense f64 kernel, and the numbers of document 01's questions.
+// The number layer of the dense f64 kernel: numbers, the source's constants, and the numbers of document 01's questions.
+pub mod constants;
 pub mod number;
 pub mod question;

@@ -3,7 +3,7 @@
 ghost use mathlib.Core.Path.{_≡_};
 ghost use mathlib.Core.Bool.{true};
 ghost use Prim.Native.Nat.{ℕ, _+_, _*_, _/_, _%_, _^_, _≤_, _<_};
-ghost use Rattle.kernel.specs.Sqrt.{units, rootPattern};
+ghost use Rattle.kernel.specs.Sqrt.{scaledBits, rootPattern};
 ghost use Rattle.kernel.specs.Nearest.{Nearest, Significand, RootOf};
 
 // 2 ^ 52, the weight of a significand's leading digit and of the exponent's field.
@@ -145,7 +145,7 @@ fn pattern(digits: u64, e: u64) -> u64
 // The bit pattern of the root of a double without a leading digit, whose bit pattern is b: doubled until it has one.
 fn subnormal_pattern(b: u64) -> u64
     requires { ⌜ (0 < b) × (b < 2 ^ 52) ⌝ }
-    ensures { λ r. ⌜ (r ≡ rootPattern (units b)) × (r < 0x7FF0_0000_0000_0000) ⌝ }
+    ensures { λ r. ⌜ (r ≡ rootPattern (scaledBits b)) × (r < 0x7FF0_0000_0000_0000) ⌝ }
 {
     let mut m = b;
     let mut shift = 0u64;
@@ -159,7 +159,7 @@ fn subnormal_pattern(b: u64) -> u64
 // The bit pattern of the root of the finite double above 0 with the bit pattern b.
 pub(crate) fn root_pattern(b: u64) -> u64
     requires { ⌜ (0 < b) × (b < 0x7FF0_0000_0000_0000) ⌝ }
-    ensures { λ r. ⌜ (r ≡ rootPattern (units b)) × (r < 0x7FF0_0000_0000_0000) ⌝ }
+    ensures { λ r. ⌜ (r ≡ rootPattern (scaledBits b)) × (r < 0x7FF0_0000_0000_0000) ⌝ }
 {
     if b < LEAD {
         return subnormal_pattern(b);

@@ -1,0 +1,26 @@
+-- The doubles that the source names, and the small ones that its formulas write out.
+use lib.Ieee.{Float, binary64, ofBits}
+
+-- 0.0, with which every sum of the kernel starts
+abbrev pub nought : Float
+nought = ofBits binary64 0
+
+-- 0.5
+abbrev pub half : Float
+half = ofBits binary64 0x3FE0_0000_0000_0000
+
+-- 1.0
+abbrev pub one : Float
+one = ofBits binary64 0x3FF0_0000_0000_0000
+
+-- `NOLAN_REL_TOL`, 1e-14
+abbrev pub relTol : Float
+relTol = ofBits binary64 0x3D06_849B_86A1_2B9B
+
+-- `NOLAN_MIN_SCALE`, 1e-150
+abbrev pub minScale : Float
+minScale = ofBits binary64 0x20CA_2FE7_6A3F_9475
+
+-- `f64::MIN_POSITIVE`, the least normal number
+abbrev pub minPositive : Float
+minPositive = ofBits binary64 0x0010_0000_0000_0000
