@@ -4,9 +4,9 @@ use mathlib.Core.Path.{_≡_, refl, ap, _∙_}
 use mathlib.Core.List.{List}
 use lib.Ieee.{Float}
 use Rattle.kernel.specs.Answer.{Outcome, refused, answered}
-use Rattle.linalg.specs.declared.Written.{Written}
-use Rattle.linalg.specs.declared.Number.{Number}
-use Rattle.linalg.specs.Answer.{after, Leaves, given}
+use Rattle.dense.specs.declared.Written.{Written}
+use Rattle.dense.specs.declared.Number.{Number}
+use Rattle.dense.specs.Answer.{after, Leaves, given}
 use Rattle.tracks.specs.declared.format.ReadList.{ReadList}
 use Rattle.tracks.specs.declared.format.WrittenList.{WrittenList}
 use Rattle.tracks.specs.Calls.{readAnswer, writeAnswer}

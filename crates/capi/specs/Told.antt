@@ -5,10 +5,10 @@ use mathlib.Core.List.{List}
 use lib.ListN.{length}
 use lib.Ieee.{Float}
 use Rattle.kernel.specs.Answer.{Outcome, refused, answered}
-use Rattle.linalg.specs.declared.Written.{Written}
-use Rattle.linalg.specs.declared.Written.the-variants as written
-use Rattle.linalg.specs.declared.Number.{Number}
-use Rattle.linalg.specs.declared.Number.the-variants as number
+use Rattle.dense.specs.declared.Written.{Written}
+use Rattle.dense.specs.declared.Written.the-variants as written
+use Rattle.dense.specs.declared.Number.{Number}
+use Rattle.dense.specs.declared.Number.the-variants as number
 use Rattle.tracks.specs.Read.{count, dimension}
 use Rattle.tracks.specs.declared.format.ReadList.{ReadList}
 use Rattle.tracks.specs.declared.format.ReadList.the-variants as read

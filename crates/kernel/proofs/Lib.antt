@@ -1,3 +1,4 @@
+pub mod Loops
 pub mod Answers
 pub mod Lists
 pub mod Whole

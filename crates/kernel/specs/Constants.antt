@@ -13,6 +13,10 @@ half = ofBits binary64 0x3FE0_0000_0000_0000
 abbrev pub one : Float
 one = ofBits binary64 0x3FF0_0000_0000_0000
 
+-- 2.0
+abbrev pub two : Float
+two = ofBits binary64 0x4000_0000_0000_0000
+
 -- `NOLAN_REL_TOL`, 1e-14
 abbrev pub relTol : Float
 relTol = ofBits binary64 0x3D06_849B_86A1_2B9B

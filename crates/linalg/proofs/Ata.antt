@@ -6,9 +6,10 @@ use mathlib.Core.Path.{_≡_, refl, ap, _∙_}
 use borrow.Author.Tests.{eq-eqb}
 use lib.Ieee.{Float}
 use Rattle.kernel.specs.Number.{mul}
-use Rattle.linalg.specs.Matrix.{nought, at, matrix, side, long}
+use Rattle.kernel.specs.Constants.{nought}
+use Rattle.dense.specs.Matrix.{at, matrix, side, long}
 use Rattle.linalg.specs.Products.{productEntry, transposeEntry, ataEntry, matMul, matAta}
-use Rattle.linalg.proofs.Laws.{sum-ext, length-matrix, at-matrix, matrix-ext}
+use Rattle.dense.proofs.Laws.{sum-ext, length-matrix, at-matrix, matrix-ext}
 use Rattle.linalg.proofs.Symmetry.{ata-either}
 
 -- what `mat_transpose` leaves of a, m by n

@@ -10,10 +10,11 @@ use lib.Ieee.{Float}
 use lib.ListN.{length, set, replicate, length-append, length-set, length-replicate}
 use Rattle.kernel.specs.Number.{sub}
 use Rattle.kernel.specs.Sqrt.{sqrt}
-use Rattle.linalg.specs.Matrix.{nought, at}
-use Rattle.linalg.specs.Fill.{Padded}
-use Rattle.linalg.specs.Cholesky.{isPivot, inner, belowEntry, withLeft, pivot, factor, definite}
-use Rattle.linalg.proofs.Laws.{row-within, sum-ext}
+use Rattle.kernel.specs.Constants.{nought}
+use Rattle.dense.specs.Matrix.{at}
+use Rattle.dense.specs.Fill.{Padded}
+use Rattle.linalg.specs.Cholesky.{isPivot, inner, belowEntry, withLeft, reachedPivot, factor, definite}
+use Rattle.dense.proofs.Laws.{row-within, sum-ext}
 use Rattle.linalg.proofs.Padding.{padded-nth, padded-push, padded-skip}
 
 pub length-left : (a : List Float) (n : ℕ) (p : List Float) (i j : ℕ) → length (withLeft a n p i j) ≡ length p + j
@@ -26,13 +27,13 @@ unfolding factor
 length-factor a n zero h = sym (zero-mul n)
 length-factor a n (suc i) h =
     let p = withLeft a n (factor a n i) i i in
-    omega (arith, length-append p (sqrt (pivot a n p i) ∷ replicate (n - suc i) nought), length-replicate (n - suc i) nought, length-left a n (factor a n i) i i, length-factor a n i (omega arith), suc-mul i n)
+    omega (arith, length-append p (sqrt (reachedPivot a n p i) ∷ replicate (n - suc i) nought), length-replicate (n - suc i) nought, length-left a n (factor a n i) i i, length-factor a n i (omega arith), suc-mul i n)
 
 left-suc : (a : List Float) (n : ℕ) (p : List Float) (i j : ℕ) → withLeft a n p i (j + 1) ≡ withLeft a n p i j ++ (belowEntry a n (withLeft a n p i j) i j ∷ [])
 unfolding withLeft
 left-suc a n p i j = rw add-one
 
-factor-suc : (a : List Float) (n i : ℕ) → factor a n (i + 1) ≡ withLeft a n (factor a n i) i i ++ (sqrt (pivot a n (withLeft a n (factor a n i) i i) i) ∷ replicate (n - suc i) nought)
+factor-suc : (a : List Float) (n i : ℕ) → factor a n (i + 1) ≡ withLeft a n (factor a n i) i i ++ (sqrt (reachedPivot a n (withLeft a n (factor a n i) i i) i) ∷ replicate (n - suc i) nought)
 unfolding factor
 factor-suc a n i = rw add-one
 
@@ -56,13 +57,13 @@ module _ (a l : List Float) (n i : ℕ) (size : length l ≡ n * n) (hi : i < n)
       subst (λ (z : List Float). Padded z (set l (i * n + j) v)) (ap (λ (x : Float). q ++ (x ∷ [])) same ∙ sym (left-suc a n (factor a n i) i j)) (padded-push q l (i * n + j) v len (omega (arith, row-within n n hi)) w)
 
   -- the pivot can be made in the slice
-  pub pivot-in : {x y : Float} → x ≡ at a n i i → y ≡ inner l n i i → Padded (withLeft a n (factor a n i) i i) l → sub x y ≡ pivot a n (withLeft a n (factor a n i) i i) i
+  pub pivot-in : {x y : Float} → x ≡ at a n i i → y ≡ inner l n i i → Padded (withLeft a n (factor a n i) i i) l → sub x y ≡ reachedPivot a n (withLeft a n (factor a n i) i i) i
   pivot-in e f w =
       let q = withLeft a n (factor a n i) i i in
       rw (e, f, inner-in q l n i i w (omega (arith, length-row a n i i hi)) (omega (arith, length-row a n i i hi)))
 
   -- the diagonal is made in the slice, and the rest of the row is 0.0 already
-  pub row-more : (v : Float) → v ≡ sqrt (pivot a n (withLeft a n (factor a n i) i i) i) → Padded (withLeft a n (factor a n i) i i) l → Padded (factor a n (i + 1)) (set l (i * n + i) v)
+  pub row-more : (v : Float) → v ≡ sqrt (reachedPivot a n (withLeft a n (factor a n i) i i) i) → Padded (withLeft a n (factor a n i) i i) l → Padded (factor a n (i + 1)) (set l (i * n + i) v)
   row-more v e w =
       let q = withLeft a n (factor a n i) i i in
       let len : length q ≡ i * n + i = length-row a n i i hi in
@@ -75,7 +76,7 @@ module _ (a l : List Float) (n i : ℕ) (size : length l ≡ n * n) (hi : i < n)
 
 -- ---- pivots
 
-pub definite-suc : (a : List Float) (n i : ℕ) → definite a n (i + 1) ≡ (definite a n i && isPivot (pivot a n (withLeft a n (factor a n i) i i) i))
+pub definite-suc : (a : List Float) (n i : ℕ) → definite a n (i + 1) ≡ (definite a n i && isPivot (reachedPivot a n (withLeft a n (factor a n i) i i) i))
 unfolding definite
 definite-suc a n i = rw add-one
 

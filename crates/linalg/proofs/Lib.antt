@@ -1,6 +1,3 @@
-pub mod Tests
-pub mod Answers
-pub mod Laws
 pub mod Symmetry
 pub mod Ata
 pub mod Padding

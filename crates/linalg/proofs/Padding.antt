@@ -6,8 +6,9 @@ use mathlib.Core.Path.{_≡_, sym, ap, _∙_}
 use lib.Ieee.{Float, nan}
 use lib.ListN.{length, take, set, replicate, length-append, length-set, length-replicate, replicate-append-replicate, List·getD-append}
 use lib.Seq.{set-at, take-at}
-use Rattle.linalg.specs.Matrix.{nought, nth}
-use Rattle.linalg.specs.Fill.{Padded}
+use Rattle.kernel.specs.Constants.{nought}
+use Rattle.dense.specs.Matrix.{nth}
+use Rattle.dense.specs.Fill.{Padded}
 
 -- the front of a slice of zeros
 pub zeros-front : (k n : ℕ) → k ≤ n → take k (replicate n nought) ≡ replicate k nought

@@ -11,9 +11,10 @@ use borrow.Author.Tests.{lt-ltb, le-ltb}
 use lib.Ieee as Ieee
 use lib.Ieee.{Float, nan, inf, fin, binary64, unlike, round, up, down}
 use Rattle.kernel.specs.Number.{add, mul}
-use Rattle.linalg.specs.Matrix.{sum, at}
-use Rattle.linalg.specs.Products.{half, ataEntry, symmetricEntry}
-use Rattle.linalg.proofs.Laws.{sum-ext}
+use Rattle.dense.specs.Matrix.{total, at}
+use Rattle.kernel.specs.Constants.{half}
+use Rattle.linalg.specs.Products.{ataEntry, symmetricEntry}
+use Rattle.dense.proofs.Laws.{sum-ext}
 
 unlike-comm : (s t : Bool) → unlike s t ≡ unlike t s
 unlike-comm true true = refl
@@ -77,10 +78,10 @@ lesser : {i j : ℕ} → j ≤ i → (max i j ≡ i) × (min i j ≡ j)
 lesser h = (omega arith, omega arith)
 
 -- the sum of the products of two columns, whichever comes first
-pub ata-either : (a : List Float) (m n i j : ℕ) → sum m (λ k. mul (at a n k i) (at a n k j)) ≡ ataEntry a m n i j
+pub ata-either : (a : List Float) (m n i j : ℕ) → total m (λ k. mul (at a n k i) (at a n k j)) ≡ ataEntry a m n i j
 ata-either a m n i j = go (decLt i j)
   where
-    go : Dec (i < j) → sum m (λ k. mul (at a n k i) (at a n k j)) ≡ ataEntry a m n i j
+    go : Dec (i < j) → total m (λ k. mul (at a n k i) (at a n k j)) ≡ ataEntry a m n i j
     go (yes h) = rw (greater h .0, greater h .1) (sum-ext _ m _ _ (λ k l. mul-float-comm (at a n k i) (at a n k j)))
     go (no h) = let w = lesser {i = i} {j = j} (omega arith) in rw (w .0, w .1)
 

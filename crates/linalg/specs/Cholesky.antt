@@ -1,18 +1,14 @@
 -- The Cholesky factor of linalg/generic.rs. Its entries are made row by row, each from those before it; p is the list of the entries made so far.
 use Prim.Native.Nat.{ℕ, zero, suc, _-_, _*_}
-use mathlib.Core.Bool.{Bool, true, false, _&&_}
+use mathlib.Core.Bool.{Bool, true, _&&_}
 use mathlib.Core.List.{List, [], _∷_, _++_}
 use lib.ListN.{replicate}
-use lib.Ieee.{Float, nan, inf, fin, lt}
-use Rattle.kernel.specs.Number.{sub, mul, div}
+use lib.Ieee.{Float, lt}
+use Rattle.kernel.specs.Number.{sub, mul, div, finite}
 use Rattle.kernel.specs.Sqrt.{sqrt}
 use Rattle.kernel.specs.Answer.{Outcome, answered, ask}
-use Rattle.linalg.specs.Matrix.{nought, sum, sumFrom, at, side, long}
-
-abbrev pub finite : Float → Bool
-finite nan = false
-finite (inf s) = false
-finite (fin s m e) = true
+use Rattle.kernel.specs.Constants.{nought}
+use Rattle.dense.specs.Matrix.{total, sumFrom, at, side, long}
 
 -- question 7, of one pivot: above 0 and finite; a NaN is not
 unfoldable pub isPivot : Float → Bool
@@ -20,7 +16,7 @@ isPivot d = lt nought d && finite d
 
 -- the product of the parts of rows i and j of p before column j
 abbrev pub inner : List Float → ℕ → ℕ → ℕ → Float
-inner p n i j = sum j (λ k. mul (at p n i k) (at p n j k))
+inner p n i j = total j (λ k. mul (at p n i k) (at p n j k))
 
 -- entry (i, j) left of the diagonal
 abbrev pub belowEntry : List Float → ℕ → List Float → ℕ → ℕ → Float
@@ -33,8 +29,8 @@ withLeft a n p i zero = p
 withLeft a n p i (suc j) = let q = withLeft a n p i j in q ++ (belowEntry a n q i j ∷ [])
 
 -- the pivot of row i, whose entries left of the diagonal end p
-abbrev pub pivot : List Float → ℕ → List Float → ℕ → Float
-pivot a n p i = sub (at a n i i) (inner p n i i)
+abbrev pub reachedPivot : List Float → ℕ → List Float → ℕ → Float
+reachedPivot a n p i = sub (at a n i i) (inner p n i i)
 
 -- the first i rows of the factor: in each, the entries left of the diagonal, the root of the pivot, and +0.0 to the right
 unfoldable pub factor : List Float → ℕ → ℕ → List Float
@@ -42,13 +38,13 @@ unfolding withLeft sqrt
 factor a n zero = []
 factor a n (suc i) =
     let p = withLeft a n (factor a n i) i i in
-    p ++ (sqrt (pivot a n p i) ∷ replicate (n - suc i) nought)
+    p ++ (sqrt (reachedPivot a n p i) ∷ replicate (n - suc i) nought)
 
 -- whether the first i pivots are met
 unfoldable pub definite : List Float → ℕ → ℕ → Bool
 unfolding isPivot factor
 definite a n zero = true
-definite a n (suc i) = definite a n i && isPivot (pivot a n (withLeft a n (factor a n i) i i) i)
+definite a n (suc i) = definite a n i && isPivot (reachedPivot a n (withLeft a n (factor a n i) i i) i)
 
 -- `mat_cholesky`: the lower factor of a, n by n, whose entries right of the diagonal are not read
 unfoldable pub matCholesky : List Float → ℕ → List Float → Outcome (List Float)

@@ -5,14 +5,9 @@ use lib.Ieee as Ieee
 use lib.Ieee.{Float, binary64, ofBits}
 use Rattle.kernel.specs.Answer.{refused, answered}
 use Rattle.kernel.specs.Sqrt.{sqrt}
-use Rattle.linalg.specs.Matrix.{nought, sumFrom, side, long}
+use Rattle.kernel.specs.Constants.{nought, one, two}
+use Rattle.dense.specs.Matrix.{sumFrom, side, long}
 use Rattle.linalg.specs.Cholesky.{isPivot, withLeft, factor, definite, matCholesky}
-
-abbrev one : Float
-one = ofBits binary64 0x3ff0000000000000
-
-abbrev two : Float
-two = ofBits binary64 0x4000000000000000
 
 abbrev four : Float
 four = ofBits binary64 0x4010000000000000

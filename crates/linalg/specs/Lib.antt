@@ -1,10 +1,6 @@
-pub mod Answer
-pub mod Matrix
-pub mod Fill
 pub mod Products
 pub mod Sums
 pub mod Norms
 pub mod Cholesky
 pub mod Regularize
-pub mod Mat3
 pub mod Examples

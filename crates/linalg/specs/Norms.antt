@@ -6,11 +6,11 @@ use lib.Ieee.{Float}
 use Rattle.kernel.specs.Number.{mul}
 use Rattle.kernel.specs.Sqrt.{sqrt}
 use Rattle.kernel.specs.Answer.{Outcome, answered, ask}
-use Rattle.linalg.specs.Matrix.{sum, sumFrom, nth, side, long}
+use Rattle.dense.specs.Matrix.{total, sumFrom, nth, side, long}
 
 -- the root of the sum of the squares of the first n entries
 abbrev pub norm : List Float → ℕ → Float
-norm x n = sqrt (sum n (λ j. mul (nth x j) (nth x j)))
+norm x n = sqrt (total n (λ j. mul (nth x j) (nth x j)))
 
 -- `vec_norm`
 unfoldable pub vecNorm : List Float → ℕ → Outcome Float

@@ -2,18 +2,16 @@
 use Prim.Native.Nat.{ℕ, _*_, min, max}
 use mathlib.Core.Bool.{_&&_}
 use mathlib.Core.List.{List}
-use lib.Ieee.{Float, binary64, ofBits}
+use lib.Ieee.{Float}
 use Rattle.kernel.specs.Number.{add, mul}
 use Rattle.kernel.specs.Answer.{Outcome, answered, ask}
-use Rattle.linalg.specs.Matrix.{sum, sumFrom, nth, at, matrix, tabulate, side, long}
-
--- 0.5
-abbrev pub half : Float
-half = ofBits binary64 0x3fe0000000000000
+use Rattle.dense.specs.Matrix.{total, sumFrom, nth, at, matrix, side, long}
+use Rattle.kernel.specs.Lists.{tabulate}
+use Rattle.kernel.specs.Constants.{half}
 
 -- entry (i, j) of a b, where a has k columns and b has n
 abbrev pub productEntry : List Float → List Float → ℕ → ℕ → ℕ → ℕ → Float
-productEntry a b k n i j = sum k (λ l. mul (at a k i l) (at b n l j))
+productEntry a b k n i j = total k (λ l. mul (at a k i l) (at b n l j))
 
 -- `mat_mul`: the m by n product of a, m by k, and b, k by n
 unfoldable pub matMul : List Float → List Float → ℕ → ℕ → ℕ → List Float → Outcome (List Float)
@@ -37,7 +35,7 @@ matTranspose a m n out =
 
 -- entry (i, j) of the product of the transpose of a, m by n, and a: those on and below the diagonal are summed, and mirrored
 abbrev pub ataEntry : List Float → ℕ → ℕ → ℕ → ℕ → Float
-ataEntry a m n i j = sum m (λ k. mul (at a n k (max i j)) (at a n k (min i j)))
+ataEntry a m n i j = total m (λ k. mul (at a n k (max i j)) (at a n k (min i j)))
 
 -- `mat_ata`: the n by n product of the transpose of a, m by n, and a
 unfoldable pub matAta : List Float → ℕ → ℕ → List Float → Outcome (List Float)
@@ -61,7 +59,7 @@ matSymmetrize a n out =
 
 -- entry i of the product of a, of n columns, and the vector x
 abbrev pub vectorEntry : List Float → List Float → ℕ → ℕ → Float
-vectorEntry a x n i = sum n (λ j. mul (at a n i j) (nth x j))
+vectorEntry a x n i = total n (λ j. mul (at a n i j) (nth x j))
 
 -- `mat_vec_mul`: the product of a, n by n, and the vector x
 unfoldable pub matVecMul : List Float → List Float → ℕ → List Float → Outcome (List Float)

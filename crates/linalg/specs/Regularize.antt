@@ -6,7 +6,8 @@ use lib.Dec.{eqb}
 use lib.Ieee.{Float}
 use Rattle.kernel.specs.Number.{add}
 use Rattle.kernel.specs.Answer.{Outcome, answered, ask}
-use Rattle.linalg.specs.Matrix.{at, matrix, tabulate, side, long}
+use Rattle.dense.specs.Matrix.{at, matrix, side, long}
+use Rattle.kernel.specs.Lists.{tabulate}
 
 -- entry (i, j) of a with alpha added on the diagonal
 abbrev pub dampedEntry : List Float → ℕ → Float → ℕ → ℕ → Float

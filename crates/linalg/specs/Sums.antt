@@ -5,13 +5,15 @@ use mathlib.Core.List.{List}
 use lib.Ieee.{Float}
 use Rattle.kernel.specs.Number.{sub, mul}
 use Rattle.kernel.specs.Answer.{Outcome, answered, ask}
-use Rattle.linalg.specs.Matrix.{nought, sum, sumFrom, sumRowsFrom, sumPlanesFrom, nth, at, matrix, tabulate, side, long}
+use Rattle.kernel.specs.Constants.{nought}
+use Rattle.dense.specs.Matrix.{total, sumFrom, sumRowsFrom, sumPlanesFrom, nth, at, matrix, side, long}
+use Rattle.kernel.specs.Lists.{tabulate}
 use Rattle.linalg.specs.Products.{productEntry}
 
 -- `mat_trace`: the sum of the diagonal of a, n by n
 unfoldable pub matTrace : List Float → ℕ → Outcome Float
 unfolding sumFrom side long
-matTrace a n = ask 1 (side n) (ask 2 (long a (n * n)) (answered (sum n (λ i. at a n i i))))
+matTrace a n = ask 1 (side n) (ask 2 (long a (n * n)) (answered (total n (λ i. at a n i i))))
 
 -- `mat_trace_product`: the trace of a b, both n by n, as one sum of a_ij b_ji
 unfoldable pub matTraceProduct : List Float → List Float → ℕ → Outcome Float

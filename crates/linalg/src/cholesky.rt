@@ -1,15 +1,15 @@
 // The Cholesky factor, made row by row in a slice that starts out as +0.0 throughout.
 ghost use mathlib.Core.Path.{_≡_};
 ghost use mathlib.Core.Bool.{true, false};
-ghost use Prim.Native.Nat.{ℕ, _+_, _*_, _<_, _≤_};
+ghost use Prim.Native.Nat.{_+_, _*_, _<_, _≤_};
 ghost use lib.ListN.{length, replicate};
-ghost use Rattle.linalg.specs.Matrix.{nought};
-ghost use Rattle.linalg.specs.Fill.{Padded};
-ghost use Rattle.linalg.specs.Cholesky.{isPivot, inner, withLeft, pivot, factor, definite};
-use crate::shape::entry;
-use crate::shape::part;
-use crate::vector::copy;
-use crate::vector::dot;
+ghost use Rattle.kernel.specs.Constants.{nought};
+ghost use Rattle.dense.specs.Fill.{Padded};
+ghost use Rattle.linalg.specs.Cholesky.{isPivot, inner, withLeft, reachedPivot, factor, definite};
+use dense::shape::entry;
+use dense::shape::part;
+use dense::vector::copy;
+use dense::vector::dot;
 use kernel::number::sqrt;
 
 // Question 7, of one pivot: whether d is above 0 and finite.
@@ -43,7 +43,7 @@ fn left_entries(a: &[f64], n: usize, i: usize, l: &mut [f64])
 // Makes row i where its pivot is met, and says whether it is.
 fn factor_row(a: &[f64], n: usize, i: usize, l: &mut [f64]) -> bool
     requires { ⌜ (i < n) × (length (now a) ≡ n * n) × (length (now l) ≡ n * n) × Padded (factor (now a) n i) (now l) ⌝ }
-    ensures { λ r. ⌜ (r ≡ isPivot (pivot (now (a .entry)) n (withLeft (now (a .entry)) n (factor (now (a .entry)) n i) i i) i)) × (r ≡ true → Padded (factor (now (a .entry)) n (i + 1)) (now (l .exit))) ⌝ }
+    ensures { λ r. ⌜ (r ≡ isPivot (reachedPivot (now (a .entry)) n (withLeft (now (a .entry)) n (factor (now (a .entry)) n i) i i) i)) × (r ≡ true → Padded (factor (now (a .entry)) n (i + 1)) (now (l .exit))) ⌝ }
 {
     left_entries(a, n, i, l);
     let d = entry(a, n, i, i) - inner(l, n, i, i);

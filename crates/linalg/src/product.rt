@@ -1,14 +1,15 @@
 // Matrices and vectors that are written row by row. Each sum goes up by its index; the loops run along the rows.
 ghost use mathlib.Core.Path.{_≡_};
-ghost use Prim.Native.Nat.{ℕ, _+_, _*_, _<_, _≤_};
+ghost use Prim.Native.Nat.{_+_, _*_, _<_, _≤_};
 ghost use lib.ListN.{length};
-ghost use Rattle.linalg.specs.Matrix.{matrix, tabulate};
+ghost use Rattle.dense.specs.Matrix.{matrix};
+ghost use Rattle.kernel.specs.Lists.{tabulate};
 ghost use Rattle.linalg.specs.Products.{productEntry, transposeEntry, ataEntry, symmetricEntry, vectorEntry};
-use crate::shape::entry;
-use crate::shape::row;
-use crate::vector::add_scaled;
-use crate::vector::copy;
-use crate::vector::dot;
+use dense::shape::entry;
+use dense::shape::row;
+use dense::vector::add_scaled;
+use dense::vector::copy;
+use dense::vector::dot;
 
 // Writes row i of the product of a, of k columns, and b, k by n.
 fn product_row(a: &[f64], b: &[f64], k: usize, n: usize, i: usize, y: &mut [f64])

@@ -1,15 +1,16 @@
 // The calls of regularize.rs.
 ghost use mathlib.Core.Path.{_≡_};
-ghost use Prim.Native.Nat.{ℕ, _+_, _*_, _<_, _≤_};
+ghost use Prim.Native.Nat.{_+_, _*_, _<_};
 ghost use lib.ListN.{length};
-ghost use Rattle.linalg.specs.Answer.{Leaves};
-ghost use Rattle.linalg.specs.Matrix.{matrix, tabulate};
+ghost use Rattle.dense.specs.Answer.{Leaves};
+ghost use Rattle.dense.specs.Matrix.{matrix};
+ghost use Rattle.kernel.specs.Lists.{tabulate};
 ghost use Rattle.linalg.specs.Regularize.{dampedEntry, tikhonov};
-use crate::Written;
-use crate::shape::are_matrices;
-use crate::shape::is_side;
-use crate::shape::row;
-use crate::vector::copy;
+use dense::Written;
+use dense::shape::are_matrices;
+use dense::shape::is_side;
+use dense::shape::row;
+use dense::vector::copy;
 use kernel::question::LENGTH;
 use kernel::question::SIDE;
 

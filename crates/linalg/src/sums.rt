@@ -1,19 +1,20 @@
 // Sums that run through a whole matrix, row by row.
 ghost use mathlib.Core.Path.{_≡_};
-ghost use Prim.Native.Nat.{ℕ, _+_, _*_, _<_, _≤_};
+ghost use Prim.Native.Nat.{_+_, _*_, _<_, _≤_};
 ghost use lib.ListN.{length};
 ghost use Rattle.kernel.specs.Number.{mul};
-ghost use Rattle.linalg.specs.Matrix.{nought, nth, at, sum, sumFrom, sumRowsFrom, matrix};
+ghost use Rattle.kernel.specs.Constants.{nought};
+ghost use Rattle.dense.specs.Matrix.{nth, at, total, sumFrom, sumRowsFrom, matrix};
 ghost use Rattle.linalg.specs.Products.{productEntry};
 ghost use Rattle.linalg.specs.Sums.{traceCube, quadraticForm, difference};
 use crate::product::product;
-use crate::shape::entry;
 use crate::vector::subtract;
+use dense::shape::entry;
 
 // The sum of the diagonal of a, n by n.
 pub(crate) fn trace(a: &[f64], n: usize) -> f64
     requires { ⌜ length (now a) ≡ n * n ⌝ }
-    ensures { λ r. ⌜ r ≡ sum n (λ i. at (now (a .entry)) n i i) ⌝ }
+    ensures { λ r. ⌜ r ≡ total n (λ i. at (now (a .entry)) n i i) ⌝ }
 {
     let mut s = 0.0;
     for i in 0..n {

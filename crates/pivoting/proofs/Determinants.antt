@@ -10,8 +10,9 @@ use borrow.Author.Tests.{eq-eqb, ne-eqb, lt-ltb, le-ltb}
 use lib.Dec.{eqb, ltb}
 use lib.Ieee.{Float}
 use Rattle.kernel.specs.Number.{sub, mul, div}
-use Rattle.linalg.specs.Matrix.{nth, at, matrix, tabulate}
-use Rattle.linalg.proofs.Laws.{nth-tabulate, at-matrix, matrix-ext}
+use Rattle.dense.specs.Matrix.{nth, at, matrix}
+use Rattle.kernel.specs.Lists.{tabulate}
+use Rattle.dense.proofs.Laws.{nth-tabulate, at-matrix, matrix-ext}
 use Rattle.pivoting.specs.declared.Pivot.{Pivot}
 use Rattle.pivoting.specs.Pivot.{pivot, swapped, swappedNorms, Stage, stage}
 use Rattle.pivoting.specs.Det.{lowerEntry, lower, lowered, flipped, swapSign, pivotProduct}

@@ -1,5 +1,4 @@
-pub mod Matrices
-pub mod Signs
+pub mod Ratios
 pub mod Pivots
 pub mod Stages
 pub mod Columns

@@ -9,30 +9,14 @@ use mathlib.Core.Path.{_≡_, refl, sym, ap, _∙_, subst}
 use lib.Ieee as Ieee
 use lib.Ieee.{Float, lt, ofBits}
 use Rattle.kernel.specs.Number.{abs, div}
-use Rattle.linalg.specs.Matrix.{nought, nth, at}
-use Rattle.linalg.specs.Mat3.{greatest}
+use Rattle.kernel.specs.Constants.{nought, minScale}
+use Rattle.dense.specs.Matrix.{nth, at}
 use Rattle.pivoting.specs.declared.Pivot.{Pivot}
-use Rattle.pivoting.specs.Pivot.{minScale, someScale, consider, bestOf, pivot}
-use Rattle.pivoting.proofs.Signs.{abs-abs, abs-ratio}
+use Rattle.pivoting.specs.Pivot.{someScale, consider, bestOf, pivot}
+use Rattle.dense.proofs.Signs.{abs-abs}
+use Rattle.pivoting.proofs.Ratios.{abs-ratio}
 
 -- ---- norms
-
--- a norm has no sign
-pub greatest-abs : (m : List Float) (l : ℕ) → abs (greatest m l) ≡ greatest m l
-unfolding greatest abs ofBits
-greatest-abs m zero = refl
-greatest-abs m (suc l) = either (lt (greatest m l) (abs (nth m l))) (abs-abs (nth m l)) (greatest-abs m l)
-  where
-    either : (t : Bool) {u v : Float} → abs u ≡ u → abs v ≡ v → abs (cond t u v) ≡ cond t u v
-    either true p q = p
-    either false p q = q
-
-pub greatest-more : (m : List Float) (l : ℕ) {s x r : Float} → s ≡ greatest m l → x ≡ nth m l → r ≡ cond (lt s (abs x)) (abs x) s → r ≡ greatest m (l + 1)
-unfolding greatest
-greatest-more m l p q e = e ∙ rw (add-one, p, q)
-
-pub greatest-all : (m : List Float) {l n : ℕ} {s : Float} → l ≤ n → n ≤ l → s ≡ greatest m l → s ≡ greatest m n
-greatest-all m h k p = p ∙ ap (greatest m) (le-antisymm h k)
 
 pub some-scale-more : (s : List Float) (l : ℕ) {b r : Bool} → b ≡ someScale l s → r ≡ (b || not (lt (nth s l) minScale)) → r ≡ someScale (l + 1) s
 unfolding someScale

@@ -6,9 +6,10 @@ use lib.Dec.{eqb, ltb}
 use lib.Ieee.{Float, neg}
 use Rattle.kernel.specs.Number.{sub, mul, div}
 use Rattle.kernel.specs.Answer.{Outcome, answered, ask}
-use Rattle.linalg.specs.Matrix.{nought, at, rowOf, matrix, tabulate, side, long}
+use Rattle.kernel.specs.Constants.{nought, one}
+use Rattle.dense.specs.Matrix.{at, rowOf, matrix, side, long, maxAbs}
+use Rattle.kernel.specs.Lists.{tabulate}
 use Rattle.pivoting.specs.Pivot.{rowNorms, someScale, bestOf, swapped, swappedNorms, Stage, stage, pivotAt, pivoted}
-use Rattle.linalg.specs.Mat3.{one, greatest}
 
 -- Entry (i, j) when the pivot of column k is in row p: rows k and p of m, of n columns, have changed places, and each row
 -- below row k loses, right of column k, its own entry in column k over the pivot, times row k.
@@ -55,7 +56,7 @@ product n f = cond (pivoted n n f n) (mul (swapSign n f n) (pivotProduct n f n))
 
 -- the determinant of a, n by n: 0.0 too where no norm is large enough
 unfoldable pub determinant : List Float → ℕ → Float
-unfolding greatest rowOf someScale lowered product tabulate
+unfolding maxAbs rowOf someScale lowered product tabulate
 determinant a n = cond (someScale n (rowNorms a n)) (product n (lowered n (stage a (rowNorms a n)))) nought
 
 -- `mat_det`

@@ -3,20 +3,17 @@ use Prim.Native.Nat.{ℕ, zero, suc, _+_, _*_, _-_}
 use mathlib.Core.Bool.{Bool, true, false, cond, not, _&&_, _||_}
 use mathlib.Core.List.{List}
 use lib.Dec.{eqb}
-use lib.Ieee.{Float, binary64, ofBits, lt}
+use lib.Ieee.{Float, lt}
 use Rattle.kernel.specs.Number.{abs, div}
 use Rattle.kernel.specs.Answer.{Outcome, answered, ask}
-use Rattle.linalg.specs.Matrix.{nought, nth, at, rowOf, tabulate, side, long}
-use Rattle.linalg.specs.Mat3.{relTol, greatest}
+use Rattle.kernel.specs.Constants.{nought, relTol, minScale}
+use Rattle.dense.specs.Matrix.{nth, at, rowOf, side, long, maxAbs}
+use Rattle.kernel.specs.Lists.{tabulate}
 use Rattle.pivoting.specs.declared.Pivot.{Pivot}
-
--- `NOLAN_MIN_SCALE`, 1e-150: a row whose norm is below it has no pivot
-abbrev pub minScale : Float
-minScale = ofBits binary64 0x20ca2fe76a3f9475
 
 -- the norm of row i of a, n by n: its greatest |entry|, from 0.0
 abbrev pub rowNorm : List Float → ℕ → ℕ → Float
-rowNorm a n i = greatest (rowOf a n i) n
+rowNorm a n i = maxAbs (rowOf a n i) n
 
 -- the norms of the rows of a, n by n
 abbrev pub rowNorms : List Float → ℕ → List Float
@@ -24,7 +21,7 @@ rowNorms a n = tabulate n (rowNorm a n)
 
 -- `row_inf_norms`
 unfoldable pub rowInfNorms : List Float → ℕ → List Float → Outcome (List Float)
-unfolding greatest rowOf tabulate side long
+unfolding maxAbs rowOf tabulate side long
 rowInfNorms a n out = ask 1 (side n) (ask 2 (long a (n * n) && long out n) (answered (rowNorms a n)))
 
 -- whether one of the first n norms is not below 1e-150

@@ -5,13 +5,14 @@ use mathlib.Core.List.{List}
 use lib.Dec.{eqb, ltb}
 use lib.Ieee.{Float}
 use Rattle.kernel.specs.Number.{sub, mul, div}
-use Rattle.kernel.specs.Answer.{Outcome, refused, answered, ask}
-use Rattle.linalg.specs.Matrix.{nought, at, rowOf, matrix, tabulate, side, long}
-use Rattle.linalg.specs.declared.Written.{Written}
-use Rattle.linalg.specs.declared.Written.the-variants as written
-use Rattle.linalg.specs.declared.Number.{Number}
-use Rattle.linalg.specs.declared.Number.the-variants as number
-use Rattle.linalg.specs.Mat3.{one, greatest}
+use Rattle.kernel.specs.Answer.{Outcome, answered, ask, through}
+use Rattle.kernel.specs.Constants.{nought, one}
+use Rattle.dense.specs.Matrix.{at, rowOf, matrix, side, long, maxAbs}
+use Rattle.kernel.specs.Lists.{tabulate}
+use Rattle.dense.specs.declared.Written.{Written}
+use Rattle.dense.specs.declared.Written.the-variants as written
+use Rattle.dense.specs.declared.Number.{Number}
+use Rattle.dense.specs.declared.Number.the-variants as number
 use Rattle.linalg.specs.Sums.{difference, quadraticForm}
 use Rattle.pivoting.specs.Pivot.{rowNorms, someScale, bestOf, swapped, swappedNorms, Stage, stage, pivotAt, pivoted}
 
@@ -52,7 +53,7 @@ start a b n r = stage (augmented a b n r) (rowNorms a n)
 
 -- the right part of [a | b] when every column of a is reduced: the n by r matrix x with a x = b
 unfoldable pub solution : List Float → List Float → ℕ → ℕ → List Float
-unfolding augmented reduced matrix greatest rowOf
+unfolding augmented reduced matrix maxAbs rowOf
 solution a b n r = let m = reduced n (n + r) (start a b n r) n .rows in matrix n r (λ i j. at m (n + r) i (n + j))
 
 -- questions 5 and 6, and then the solution
@@ -86,11 +87,6 @@ matInv a n out =
     ask 1 (side n)
     (ask 2 (long a (n * n) && long out (n * n))
     (solved a (identity n) n n))
-
--- f of what is answered; a refusal stays
-abbrev pub through : {A B : Type 0} → (A → B) → Outcome A → Outcome B
-through f (refused k) = refused k
-through f (answered v) = answered (f v)
 
 -- the answer where v is the number that follows a call that wrote: its refusal stays
 abbrev pub following : Written → Float → Number

@@ -5,11 +5,9 @@ ghost use lib.ListN.{length};
 ghost use Rattle.kernel.specs.Number.{abs};
 ghost use Rattle.pivoting.specs.Pivot.{consider, pivot, taken, swappedNorms};
 use crate::Pivot;
-use crate::norms::MIN_SCALE;
-use crate::shape::entry;
-
-// No pivot is taken whose ratio is below this.
-const REL_TOL: f64 = 1e-14;
+use dense::shape::entry;
+use kernel::constants::MIN_SCALE;
+use kernel::constants::REL_TOL;
 
 // The best row so far, and then row i, whose norm is s and whose entry in the column is x.
 fn consider(best: Pivot, s: f64, x: f64, i: usize) -> Pivot

@@ -5,7 +5,8 @@ ghost use Prim.Native.Nat.{_*_, _<_, _≤_};
 ghost use lib.Dec.{eqb, ltb};
 ghost use lib.ListN.{length};
 ghost use Rattle.kernel.specs.Number.{sub, mul, div};
-ghost use Rattle.linalg.specs.Matrix.{nth, at, matrix, tabulate};
+ghost use Rattle.dense.specs.Matrix.{nth, at, matrix};
+ghost use Rattle.kernel.specs.Lists.{tabulate};
 ghost use Rattle.pivoting.specs.Pivot.{rowNorms, someScale, stage, pivoted};
 ghost use Rattle.pivoting.specs.Det.{lowerEntry, flipped, lowered, swapSign, pivotProduct, determinant, product};
 use crate::choice::choose;
@@ -13,9 +14,9 @@ use crate::choice::is_taken;
 use crate::choice::swap_norms;
 use crate::norms::row_norms;
 use crate::norms::some_scale;
-use crate::rows::copy;
 use crate::rows::copy_row;
-use crate::shape::entry;
+use dense::shape::entry;
+use dense::vector::copy;
 
 // Writes row p of m, n by n.
 fn row_of(m: &[f64], n: usize, p: usize, y: &mut [f64])

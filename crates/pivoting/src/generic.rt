@@ -1,21 +1,24 @@
 // The pivoting calls of generic.rs, for matrices of any side from 1 to 16.
 ghost use mathlib.Core.Path.{_≡_};
-ghost use Rattle.linalg.specs.Answer.{Leaves, given};
+ghost use Rattle.dense.specs.Answer.{Leaves, given};
 ghost use Rattle.pivoting.specs.Pivot.{rowInfNorms};
 ghost use Rattle.pivoting.specs.Det.{matDet};
 ghost use Rattle.pivoting.specs.Solve.{matSolve, matInv, mahalanobis};
 use crate::det::determinant;
 use crate::norms::row_norms;
-use crate::shape::is_side;
-use crate::shape::is_square;
-use crate::shape::is_vector;
 use crate::solve::distance;
 use crate::solve::inverse;
 use crate::solve::solve;
+use dense::Number;
+use dense::Written;
+use dense::shape::are_matrices;
+use dense::shape::is_distance;
+use dense::shape::is_matrix;
+use dense::shape::is_side;
+use dense::shape::is_system;
+use dense::shape::is_vector;
 use kernel::question::LENGTH;
 use kernel::question::SIDE;
-use linalg::Number;
-use linalg::Written;
 
 // The greatest absolute values of the rows of a, n by n, into out.
 pub fn row_inf_norms(a: &[f64], n: usize, out: &mut [f64]) -> Written
@@ -24,7 +27,7 @@ pub fn row_inf_norms(a: &[f64], n: usize, out: &mut [f64]) -> Written
     if !is_side(n) {
         return Written::Refused(SIDE);
     }
-    if !is_square(a, n) {
+    if !is_matrix(a, n, n) {
         return Written::Refused(LENGTH);
     }
     if !is_vector(out, n) {
@@ -41,13 +44,7 @@ pub fn mat_solve(a: &[f64], b: &[f64], n: usize, out: &mut [f64]) -> Written
     if !is_side(n) {
         return Written::Refused(SIDE);
     }
-    if !is_square(a, n) {
-        return Written::Refused(LENGTH);
-    }
-    if !is_vector(b, n) {
-        return Written::Refused(LENGTH);
-    }
-    if !is_vector(out, n) {
+    if !is_system(a, b, out, n) {
         return Written::Refused(LENGTH);
     }
     solve(a, b, n, 1, out)
@@ -60,10 +57,7 @@ pub fn mat_inv(a: &[f64], n: usize, out: &mut [f64]) -> Written
     if !is_side(n) {
         return Written::Refused(SIDE);
     }
-    if !is_square(a, n) {
-        return Written::Refused(LENGTH);
-    }
-    if !is_square(out, n) {
+    if !are_matrices(a, n, n, out, n, n) {
         return Written::Refused(LENGTH);
     }
     inverse(a, n, out)
@@ -76,7 +70,7 @@ pub fn mat_det(a: &[f64], n: usize) -> Number
     if !is_side(n) {
         return Number::Refused(SIDE);
     }
-    if !is_square(a, n) {
+    if !is_matrix(a, n, n) {
         return Number::Refused(LENGTH);
     }
     Number::Value(determinant(a, n))
@@ -89,13 +83,7 @@ pub fn mahalanobis_distance_squared(x: &[f64], mu: &[f64], cov: &[f64], n: usize
     if !is_side(n) {
         return Number::Refused(SIDE);
     }
-    if !is_vector(x, n) {
-        return Number::Refused(LENGTH);
-    }
-    if !is_vector(mu, n) {
-        return Number::Refused(LENGTH);
-    }
-    if !is_square(cov, n) {
+    if !is_distance(x, mu, cov, n) {
         return Number::Refused(LENGTH);
     }
     distance(x, mu, cov, n)

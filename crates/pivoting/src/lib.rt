@@ -5,7 +5,6 @@ pub mod generic;
 mod norms;
 mod reduce;
 mod rows;
-mod shape;
 mod solve;
 
 // The best pivot row of a column so far, and its ratio.

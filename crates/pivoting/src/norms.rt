@@ -1,40 +1,21 @@
 // The norms of the rows of a matrix, and question 5.
 ghost use mathlib.Core.Path.{_≡_};
-ghost use mathlib.Core.Bool.{cond, not, _||_};
+ghost use mathlib.Core.Bool.{not, _||_};
 ghost use Prim.Native.Nat.{_*_, _<_};
 ghost use lib.Ieee.{lt};
-ghost use Rattle.kernel.specs.Number.{abs};
 ghost use lib.ListN.{length};
-ghost use Rattle.pivoting.specs.Pivot.{minScale, rowNorm, rowNorms, someScale};
-use crate::shape::entry;
-
-// A row whose norm is below this has no pivot.
-pub(crate) const MIN_SCALE: f64 = 1e-150;
-
-// x, which has no sign, or |y| where that is greater: both tests seldom hold, where the sign of y is any.
-fn raised(x: f64, y: f64) -> f64
-    requires { ⌜ abs x ≡ x ⌝ }
-    ensures { λ r. ⌜ r ≡ cond (lt x (abs y)) (abs y) x ⌝ }
-{
-    if y > x {
-        return y;
-    }
-    if -y > x {
-        return -y;
-    }
-    x
-}
+ghost use Rattle.kernel.specs.Constants.{minScale};
+ghost use Rattle.pivoting.specs.Pivot.{rowNorm, rowNorms, someScale};
+use dense::shape::row;
+use dense::vector::max_abs;
+use kernel::constants::MIN_SCALE;
 
 // The norm of row i of a, n by n.
 fn row_norm(a: &[f64], n: usize, i: usize) -> f64
     requires { ⌜ (i < n) × (length (now a) ≡ n * n) ⌝ }
     ensures { λ r. ⌜ r ≡ rowNorm (now (a .entry)) n i ⌝ }
 {
-    let mut g = 0.0;
-    for j in 0..n {
-        g = raised(g, entry(a, n, i, j));
-    }
-    g
+    max_abs(row(a, n, i), n)
 }
 
 // Writes the norms of the rows of a, n by n.

@@ -5,7 +5,7 @@ ghost use Prim.Native.Nat.{_*_, _<_, _≤_};
 ghost use lib.Dec.{eqb};
 ghost use lib.ListN.{length};
 ghost use Rattle.kernel.specs.Number.{sub, mul, div};
-ghost use Rattle.linalg.specs.Matrix.{nth, at, matrix};
+ghost use Rattle.dense.specs.Matrix.{nth, at, matrix};
 ghost use Rattle.pivoting.specs.Pivot.{pivot, taken, stage, pivoted};
 ghost use Rattle.pivoting.specs.Solve.{stepEntry, column, reduced};
 use crate::choice::choose;

@@ -5,19 +5,11 @@ ghost use Prim.Native.Nat.{_+_, _*_, _-_, _<_, _≤_};
 ghost use lib.Dec.{eqb, ltb};
 ghost use lib.ListN.{length};
 ghost use Rattle.kernel.specs.Number.{sub, mul, div};
-ghost use Rattle.linalg.specs.Matrix.{nth, at, tabulate, matrix};
+ghost use Rattle.dense.specs.Matrix.{nth, at, matrix};
+ghost use Rattle.kernel.specs.Lists.{tabulate};
 ghost use Rattle.pivoting.specs.Solve.{augmentedEntry, unitEntry};
-use crate::shape::entry;
-
-// Copies x to y.
-pub(crate) fn copy(x: &[f64], n: usize, y: &mut [f64])
-    requires { ⌜ (length (now x) ≡ n) × (length (now y) ≡ n) ⌝ }
-    ensures { λ _. ⌜ now (y .exit) ≡ tabulate n (λ j. nth (now (x .entry)) j) ⌝ }
-{
-    for j in 0..n {
-        y[j] = x[j];
-    }
-}
+use dense::shape::entry;
+use dense::vector::copy;
 
 // Takes s times x from y, entry by entry.
 fn subtract_scaled(s: f64, x: &[f64], n: usize, y: &mut [f64])
@@ -60,64 +52,5 @@ pub(crate) fn copy_row(m: &mut [f64], n: usize, w: usize, k: usize, p: usize)
 {
     for j in 0..w {
         m[p * w + j] = entry(m, w, k, j);
-    }
-}
-
-// Entry (i, j) of [a | b], for a n by n and b n by r.
-fn augmented_entry(a: &[f64], b: &[f64], n: usize, r: usize, i: usize, j: usize) -> f64
-    requires { ⌜ (i < n) × (j < n + r) × (length (now a) ≡ n * n) × (length (now b) ≡ n * r) ⌝ }
-    ensures { λ v. ⌜ v ≡ augmentedEntry (now (a .entry)) (now (b .entry)) n r i j ⌝ }
-{
-    if j < n {
-        return entry(a, n, i, j);
-    }
-    entry(b, r, i, j - n)
-}
-
-// Writes row i of [a | b], for a n by n and b n by r.
-pub(crate) fn augmented_row(
-    a: &[f64],
-    b: &[f64],
-    n: usize,
-    r: usize,
-    i: usize,
-    w: usize,
-    y: &mut [f64],
-)
-    requires { ⌜ (i < n) × (w ≡ n + r) × (length (now a) ≡ n * n) × (length (now b) ≡ n * r) × (length (now y) ≡ w) ⌝ }
-    ensures { λ _. ⌜ now (y .exit) ≡ tabulate w (augmentedEntry (now (a .entry)) (now (b .entry)) n r i) ⌝ }
-{
-    for j in 0..w {
-        y[j] = augmented_entry(a, b, n, r, i, j);
-    }
-}
-
-// Writes what stands in row i of m, n by w, right of its first n columns.
-pub(crate) fn right_row(m: &[f64], n: usize, r: usize, i: usize, w: usize, y: &mut [f64])
-    requires { ⌜ (i < n) × (w ≡ n + r) × (length (now m) ≡ n * w) × (length (now y) ≡ r) ⌝ }
-    ensures { λ _. ⌜ now (y .exit) ≡ tabulate r (λ j. at (now (m .entry)) w i (n + j)) ⌝ }
-{
-    for j in 0..r {
-        y[j] = entry(m, w, i, n + j);
-    }
-}
-
-// Entry (i, j) of the identity.
-fn unit(i: usize, j: usize) -> f64
-    ensures { λ v. ⌜ v ≡ unitEntry i j ⌝ }
-{
-    if i == j {
-        return 1.0;
-    }
-    0.0
-}
-
-// Writes row i of the n by n identity.
-pub(crate) fn unit_row(n: usize, i: usize, y: &mut [f64])
-    requires { ⌜ length (now y) ≡ n ⌝ }
-    ensures { λ _. ⌜ now (y .exit) ≡ tabulate n (unitEntry i) ⌝ }
-{
-    for j in 0..n {
-        y[j] = unit(i, j);
     }
 }

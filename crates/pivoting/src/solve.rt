@@ -2,21 +2,41 @@
 ghost use mathlib.Core.Path.{_≡_};
 ghost use Prim.Native.Nat.{_+_, _*_, _<_, _≤_};
 ghost use lib.ListN.{length};
-ghost use Rattle.linalg.specs.Answer.{Leaves, given};
-ghost use Rattle.linalg.specs.Matrix.{at, matrix};
+ghost use Rattle.kernel.specs.Lists.{tabulate};
+ghost use Rattle.dense.specs.Answer.{Leaves, given};
+ghost use Rattle.dense.specs.Matrix.{at, matrix};
 ghost use Rattle.linalg.specs.Sums.{difference, quadraticForm};
-ghost use Rattle.pivoting.specs.Solve.{augmented, identity, solved, following, distance};
+ghost use Rattle.pivoting.specs.Solve.{augmentedEntry, augmented, unitEntry, identity, solved, following, distance};
 use crate::norms::row_norms;
 use crate::norms::some_scale;
 use crate::reduce::reduce;
-use crate::rows::augmented_row;
-use crate::rows::right_row;
-use crate::rows::unit_row;
+use dense::Number;
+use dense::Written;
+use dense::shape::entry;
 use kernel::question::PIVOT_RATIO;
 use kernel::question::ROW_NORM;
-use linalg::Number;
-use linalg::Written;
 use linalg::generic::mahalanobis_distance_squared_with_inv;
+
+// Entry (i, j) of [a | b], for a n by n and b n by r.
+fn augmented_entry(a: &[f64], b: &[f64], n: usize, r: usize, i: usize, j: usize) -> f64
+    requires { ⌜ (i < n) × (j < n + r) × (length (now a) ≡ n * n) × (length (now b) ≡ n * r) ⌝ }
+    ensures { λ v. ⌜ v ≡ augmentedEntry (now (a .entry)) (now (b .entry)) n r i j ⌝ }
+{
+    if j < n {
+        return entry(a, n, i, j);
+    }
+    entry(b, r, i, j - n)
+}
+
+// Writes row i of [a | b], for a n by n and b n by r.
+fn augmented_row(a: &[f64], b: &[f64], n: usize, r: usize, i: usize, w: usize, y: &mut [f64])
+    requires { ⌜ (i < n) × (w ≡ n + r) × (length (now a) ≡ n * n) × (length (now b) ≡ n * r) × (length (now y) ≡ w) ⌝ }
+    ensures { λ _. ⌜ now (y .exit) ≡ tabulate w (augmentedEntry (now (a .entry)) (now (b .entry)) n r i) ⌝ }
+{
+    for j in 0..w {
+        y[j] = augmented_entry(a, b, n, r, i, j);
+    }
+}
 
 // Writes [a | b], for a n by n and b n by r.
 fn augment(a: &[f64], b: &[f64], n: usize, r: usize, w: usize, m: &mut [f64])
@@ -26,6 +46,16 @@ fn augment(a: &[f64], b: &[f64], n: usize, r: usize, w: usize, m: &mut [f64])
     for i in 0..n {
         let start = i * w;
         augmented_row(a, b, n, r, i, w, &mut m[start..start + w]);
+    }
+}
+
+// Writes what stands in row i of m, n by w, right of its first n columns.
+fn right_row(m: &[f64], n: usize, r: usize, i: usize, w: usize, y: &mut [f64])
+    requires { ⌜ (i < n) × (w ≡ n + r) × (length (now m) ≡ n * w) × (length (now y) ≡ r) ⌝ }
+    ensures { λ _. ⌜ now (y .exit) ≡ tabulate r (λ j. at (now (m .entry)) w i (n + j)) ⌝ }
+{
+    for j in 0..r {
+        y[j] = entry(m, w, i, n + j);
     }
 }
 
@@ -79,6 +109,26 @@ pub(crate) fn solve(a: &[f64], b: &[f64], n: usize, r: usize, out: &mut [f64]) -
     let w = n + r;
     let size = n * w;
     solve_in(a, b, n, r, w, &mut m[..size], &mut s[..n], &mut x[..w], out)
+}
+
+// Entry (i, j) of the identity.
+fn unit(i: usize, j: usize) -> f64
+    ensures { λ v. ⌜ v ≡ unitEntry i j ⌝ }
+{
+    if i == j {
+        return 1.0;
+    }
+    0.0
+}
+
+// Writes row i of the n by n identity.
+fn unit_row(n: usize, i: usize, y: &mut [f64])
+    requires { ⌜ length (now y) ≡ n ⌝ }
+    ensures { λ _. ⌜ now (y .exit) ≡ tabulate n (unitEntry i) ⌝ }
+{
+    for j in 0..n {
+        y[j] = unit(i, j);
+    }
 }
 
 // Writes the n by n identity.

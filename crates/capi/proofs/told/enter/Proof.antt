@@ -2,7 +2,7 @@
 use borrow.Author.Needs.{needs}
 use denote.Ref.{now}
 use mathlib.Core.Path.{sym, ap}
-use Rattle.linalg.specs.declared.Number.{Number}
+use Rattle.dense.specs.declared.Number.{Number}
 use Rattle.capi.specs.Told.{entered}
 use Rattle.capi.proofs.told.enter.Statement.{statement}
 use Rattle.capi.proofs.told.enter.Tie as tie

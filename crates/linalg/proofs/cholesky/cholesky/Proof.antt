@@ -7,8 +7,8 @@ use native.Mathlib.Nat.{le-refl}
 use borrow.Author.Tests.{not-false}
 use lib.ListN.{length}
 use lib.Seq.{length-take-le, length-front}
-use Rattle.linalg.proofs.Laws.{front}
-use Rattle.linalg.proofs.Tests.{met, unmet, never}
+use Rattle.dense.proofs.Laws.{front}
+use Rattle.dense.proofs.Tests.{met, unmet, never}
 use Rattle.linalg.proofs.Padding.{zeros-front}
 use Rattle.linalg.proofs.Factor.{length-factor}
 use Rattle.linalg.proofs.cholesky.cholesky.Statement.{statement}

@@ -4,8 +4,8 @@ use native.Mathlib.Omega.{arith}
 use lib.ListN.{length-set}
 use Rattle.kernel.specs.Sqrt.{sqrt}
 use Rattle.linalg.specs.Cholesky.{isPivot}
-use Rattle.linalg.proofs.Laws.{row-within}
-use Rattle.linalg.proofs.Tests.{met, unmet, never}
+use Rattle.dense.proofs.Laws.{row-within}
+use Rattle.dense.proofs.Tests.{met, unmet, never}
 use Rattle.linalg.proofs.Factor.{pivot-in, row-more}
 use Rattle.linalg.proofs.cholesky.factor_row.Statement.{statement}
 use Rattle.linalg.proofs.cholesky.factor_row.Tie as tie

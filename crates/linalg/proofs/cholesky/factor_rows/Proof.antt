@@ -8,9 +8,9 @@ use native.Mathlib.Nat.{le-antisymm}
 use borrow.Author.Tests.{not-false}
 use lib.Ieee.{Float}
 use lib.ListN.{length, length-replicate}
-use Rattle.linalg.specs.Fill.{Padded}
+use Rattle.dense.specs.Fill.{Padded}
 use Rattle.linalg.specs.Cholesky.{factor, definite}
-use Rattle.linalg.proofs.Tests.{met, unmet, never}
+use Rattle.dense.proofs.Tests.{met, unmet, never}
 use Rattle.linalg.proofs.Padding.{padded-none, padded-all}
 use Rattle.linalg.proofs.Factor.{length-factor, definite-suc, definite-never}
 use Rattle.linalg.proofs.cholesky.factor_rows.Statement.{statement}

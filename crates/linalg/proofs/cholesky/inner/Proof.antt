@@ -2,8 +2,8 @@
 use mathlib.Core.Path.{_∙_}
 use Prim.Native.Nat.{_*_}
 use native.Mathlib.Omega.{arith}
-use Rattle.linalg.specs.Matrix.{nought}
-use Rattle.linalg.proofs.Laws.{sum-ext, nth-part}
+use Rattle.kernel.specs.Constants.{nought}
+use Rattle.dense.proofs.Laws.{sum-ext, nth-part}
 use Rattle.linalg.proofs.cholesky.inner.Statement.{statement}
 use Rattle.linalg.proofs.cholesky.inner.Tie as tie
 

@@ -4,8 +4,9 @@ use mathlib.Core.Path.{_≡_, refl, sym}
 use borrow.Author.Tests.{not-true, not-false}
 use lib.Ieee as Ieee
 use lib.Ieee.{Float, nan, inf, fin, lt, ofBits}
-use Rattle.linalg.specs.Matrix.{nought}
-use Rattle.linalg.specs.Cholesky.{isPivot, finite}
+use Rattle.kernel.specs.Constants.{nought}
+use Rattle.linalg.specs.Cholesky.{isPivot}
+use Rattle.kernel.specs.Number.{finite}
 use Rattle.linalg.proofs.cholesky.is_pivot.Statement.{statement}
 use Rattle.linalg.proofs.cholesky.is_pivot.Tie as tie
 

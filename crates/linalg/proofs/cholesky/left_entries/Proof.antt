@@ -4,9 +4,9 @@ use Prim.Native.Nat.{ℕ, _+_, _*_, _-_, _≤_}
 use native.Mathlib.Omega.{arith}
 use native.Mathlib.Nat.{le-antisymm}
 use lib.ListN.{length, length-set}
-use Rattle.linalg.specs.Fill.{Padded}
+use Rattle.dense.specs.Fill.{Padded}
 use Rattle.linalg.specs.Cholesky.{withLeft, factor}
-use Rattle.linalg.proofs.Laws.{row-within}
+use Rattle.dense.proofs.Laws.{row-within}
 use Rattle.linalg.proofs.Factor.{left-more}
 use Rattle.linalg.proofs.cholesky.left_entries.Statement.{statement}
 use Rattle.linalg.proofs.cholesky.left_entries.Tie as tie

@@ -2,8 +2,8 @@
 use borrow.Author.Needs.{needs}
 use Prim.Native.Nat.{_*_}
 use Rattle.linalg.specs.Sums.{distanceWithInv}
-use Rattle.linalg.proofs.Tests.{met, unmet, area, side-high, three-long}
-use Rattle.linalg.proofs.Answers.{value}
+use Rattle.dense.proofs.Tests.{met, unmet, area, side-high, three-long}
+use Rattle.dense.proofs.Answers.{value}
 use Rattle.linalg.proofs.generic.mahalanobis_distance_squared_with_inv.Statement.{statement}
 use Rattle.linalg.proofs.generic.mahalanobis_distance_squared_with_inv.Tie as tie
 

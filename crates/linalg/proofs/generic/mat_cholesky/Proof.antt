@@ -3,8 +3,8 @@ use borrow.Author.Needs.{needs}
 use Prim.Native.Nat.{_*_}
 use borrow.Author.Tests.{not-true, not-false}
 use Rattle.linalg.specs.Cholesky.{matCholesky}
-use Rattle.linalg.proofs.Tests.{met, unmet, area, two-long, two-squares}
-use Rattle.linalg.proofs.Answers.{done, kept}
+use Rattle.dense.proofs.Tests.{met, unmet, area, two-long, two-squares}
+use Rattle.dense.proofs.Answers.{done, kept}
 use Rattle.linalg.proofs.generic.mat_cholesky.Statement.{statement}
 use Rattle.linalg.proofs.generic.mat_cholesky.Tie as tie
 

@@ -3,8 +3,8 @@ use native.Mathlib.Omega.{arith}
 use borrow.Author.Needs.{needs}
 use Prim.Native.Nat.{_*_}
 use Rattle.linalg.specs.Norms.{matFrobenius}
-use Rattle.linalg.proofs.Tests.{met, unmet, two-sides, area, long-length}
-use Rattle.linalg.proofs.Answers.{value}
+use Rattle.dense.proofs.Tests.{met, unmet, two-sides, area, long-length}
+use Rattle.dense.proofs.Answers.{value}
 use Rattle.linalg.proofs.generic.mat_frobenius.Statement.{statement}
 use Rattle.linalg.proofs.generic.mat_frobenius.Tie as tie
 

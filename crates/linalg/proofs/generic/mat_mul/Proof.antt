@@ -2,8 +2,8 @@
 use borrow.Author.Needs.{needs}
 use Prim.Native.Nat.{_*_}
 use Rattle.linalg.specs.Products.{matMul}
-use Rattle.linalg.proofs.Tests.{met, unmet, three-sides, side-high, area, three-long}
-use Rattle.linalg.proofs.Answers.{done}
+use Rattle.dense.proofs.Tests.{met, unmet, three-sides, side-high, area, three-long}
+use Rattle.dense.proofs.Answers.{done}
 use Rattle.linalg.proofs.generic.mat_mul.Statement.{statement}
 use Rattle.linalg.proofs.generic.mat_mul.Tie as tie
 

@@ -2,8 +2,8 @@
 use borrow.Author.Needs.{needs}
 use Prim.Native.Nat.{_*_}
 use Rattle.linalg.specs.Products.{matSymmetrize}
-use Rattle.linalg.proofs.Tests.{met, unmet, two-long, two-squares}
-use Rattle.linalg.proofs.Answers.{done}
+use Rattle.dense.proofs.Tests.{met, unmet, two-long, two-squares}
+use Rattle.dense.proofs.Answers.{done}
 use Rattle.linalg.proofs.generic.mat_symmetrize.Statement.{statement}
 use Rattle.linalg.proofs.generic.mat_symmetrize.Tie as tie
 

@@ -2,8 +2,8 @@
 use borrow.Author.Needs.{needs}
 use Prim.Native.Nat.{_*_}
 use Rattle.linalg.specs.Sums.{matTraceCube}
-use Rattle.linalg.proofs.Tests.{met, unmet, area, two-long, two-squares}
-use Rattle.linalg.proofs.Answers.{value}
+use Rattle.dense.proofs.Tests.{met, unmet, area, two-long, two-squares}
+use Rattle.dense.proofs.Answers.{value}
 use Rattle.linalg.proofs.generic.mat_trace_cube.Statement.{statement}
 use Rattle.linalg.proofs.generic.mat_trace_cube.Tie as tie
 

@@ -2,8 +2,8 @@
 use borrow.Author.Needs.{needs}
 use Prim.Native.Nat.{_*_}
 use Rattle.linalg.specs.Products.{matTranspose}
-use Rattle.linalg.proofs.Tests.{met, unmet, two-sides, area, two-long}
-use Rattle.linalg.proofs.Answers.{done}
+use Rattle.dense.proofs.Tests.{met, unmet, two-sides, area, two-long}
+use Rattle.dense.proofs.Answers.{done}
 use Rattle.linalg.proofs.generic.mat_transpose.Statement.{statement}
 use Rattle.linalg.proofs.generic.mat_transpose.Tie as tie
 

@@ -2,8 +2,8 @@
 use borrow.Author.Needs.{needs}
 use Prim.Native.Nat.{_*_}
 use Rattle.linalg.specs.Products.{matVecMul}
-use Rattle.linalg.proofs.Tests.{met, unmet, area, three-long}
-use Rattle.linalg.proofs.Answers.{done}
+use Rattle.dense.proofs.Tests.{met, unmet, area, three-long}
+use Rattle.dense.proofs.Answers.{done}
 use Rattle.linalg.proofs.generic.mat_vec_mul.Statement.{statement}
 use Rattle.linalg.proofs.generic.mat_vec_mul.Tie as tie
 

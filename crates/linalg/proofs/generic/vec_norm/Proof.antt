@@ -1,8 +1,8 @@
 -- `vec_norm` meets its contract: each question is put by its own function, and `norm` has the answer.
 use borrow.Author.Needs.{needs}
 use Rattle.linalg.specs.Norms.{vecNorm}
-use Rattle.linalg.proofs.Tests.{met, unmet, long-length}
-use Rattle.linalg.proofs.Answers.{value}
+use Rattle.dense.proofs.Tests.{met, unmet, long-length}
+use Rattle.dense.proofs.Answers.{value}
 use Rattle.linalg.proofs.generic.vec_norm.Statement.{statement}
 use Rattle.linalg.proofs.generic.vec_norm.Tie as tie
 

@@ -3,8 +3,8 @@ use Prim.Native.Nat.{_+_, _*_, _-_, _≤_}
 use native.Mathlib.Omega.{arith}
 use lib.ListN.{length}
 use Rattle.linalg.specs.Products.{ataEntry}
-use Rattle.linalg.specs.Fill.{FilledRows}
-use Rattle.linalg.proofs.Laws.{row-within, length-part, rows-none, rows-more, rows-all}
+use Rattle.dense.specs.Fill.{FilledRows}
+use Rattle.dense.proofs.Laws.{row-within, length-part, rows-none, rows-more, rows-all}
 use Rattle.linalg.proofs.product.ata.Statement.{statement}
 use Rattle.linalg.proofs.product.ata.Tie as tie
 

@@ -9,8 +9,11 @@ use lib.ListN.{length, take}
 use lib.Seq.{length-take-le, take-at}
 use lib.Ieee.{Float}
 use Rattle.kernel.specs.Number.{mul}
-use Rattle.linalg.specs.Matrix.{sum, sumFrom, at, tabulate, nought}
-use Rattle.linalg.proofs.Laws.{cell, row-within, tabulate-ext, length-tabulate, scaled, sums-more, front-zeros, front-size}
+use Rattle.dense.specs.Matrix.{total, sumFrom, at}
+use Rattle.kernel.specs.Lists.{tabulate}
+use Rattle.kernel.specs.Constants.{nought}
+use Rattle.dense.proofs.Laws.{cell, row-within, scaled, sums-more, front-zeros, front-size}
+use Rattle.kernel.proofs.Lists.{tabulate-ext, length-tabulate}
 use Rattle.linalg.proofs.Symmetry.{ata-either}
 use Rattle.linalg.proofs.product.ata_row.Statement.{statement}
 use Rattle.linalg.proofs.product.ata_row.Tie as tie
@@ -19,7 +22,7 @@ abbrev term : List Float → ℕ → ℕ → ℕ → ℕ → Float
 term a n i j k = mul (at a n k i) (at a n k j)
 
 abbrev sumsTo : List Float → ℕ → ℕ → ℕ → List Float
-sumsTo a n i k = tabulate n (λ j. sum k (term a n i j))
+sumsTo a n i k = tabulate n (λ j. total k (term a n i j))
 
 abbrev Inv-loop : tie.InvT-loop
 Inv-loop a m n i y sums₀ k₀ sums k = (k ≤ m) × (length sums ≡ 16) × (take n sums ≡ sumsTo a n i k)

@@ -9,8 +9,11 @@ use lib.ListN.{length, take}
 use lib.Seq.{length-take-le, take-at}
 use lib.Ieee.{Float}
 use Rattle.kernel.specs.Number.{mul}
-use Rattle.linalg.specs.Matrix.{sum, sumFrom, at, tabulate, nought}
-use Rattle.linalg.proofs.Laws.{row-within, length-tabulate, scaled, sums-more, front-zeros, front-size}
+use Rattle.dense.specs.Matrix.{total, sumFrom, at}
+use Rattle.kernel.specs.Lists.{tabulate}
+use Rattle.kernel.specs.Constants.{nought}
+use Rattle.dense.proofs.Laws.{row-within, scaled, sums-more, front-zeros, front-size}
+use Rattle.kernel.proofs.Lists.{length-tabulate}
 use Rattle.linalg.proofs.product.product_row.Statement.{statement}
 use Rattle.linalg.proofs.product.product_row.Tie as tie
 
@@ -18,7 +21,7 @@ abbrev term : List Float → List Float → ℕ → ℕ → ℕ → ℕ → ℕ 
 term a b k n i j l = mul (at a k i l) (at b n l j)
 
 abbrev sumsTo : List Float → List Float → ℕ → ℕ → ℕ → ℕ → List Float
-sumsTo a b k n i l = tabulate n (λ j. sum l (term a b k n i j))
+sumsTo a b k n i l = tabulate n (λ j. total l (term a b k n i j))
 
 abbrev Inv-loop : tie.InvT-loop
 Inv-loop a b k n i y sums₀ l₀ sums l = (l ≤ k) × (length sums ≡ 16) × (take n sums ≡ sumsTo a b k n i l)

@@ -3,8 +3,8 @@ use mathlib.Core.Path.{_∙_}
 use Prim.Native.Nat.{_-_, _≤_}
 use native.Mathlib.Omega.{arith}
 use Rattle.linalg.specs.Products.{vectorEntry}
-use Rattle.linalg.specs.Fill.{Filled}
-use Rattle.linalg.proofs.Laws.{row-within, row-sum, filled-none, filled-more, filled-all}
+use Rattle.dense.specs.Fill.{Filled}
+use Rattle.dense.proofs.Laws.{row-within, row-sum, filled-none, filled-more, filled-all}
 use Rattle.linalg.proofs.product.times_vector.Statement.{statement}
 use Rattle.linalg.proofs.product.times_vector.Tie as tie
 

@@ -2,8 +2,8 @@
 use Prim.Native.Nat.{_-_, _≤_}
 use native.Mathlib.Omega.{arith}
 use Rattle.linalg.specs.Products.{transposeEntry}
-use Rattle.linalg.specs.Fill.{Filled}
-use Rattle.linalg.proofs.Laws.{cell, filled-none, filled-more, filled-all}
+use Rattle.dense.specs.Fill.{Filled}
+use Rattle.dense.proofs.Laws.{cell, filled-none, filled-more, filled-all}
 use Rattle.linalg.proofs.product.transpose_row.Statement.{statement}
 use Rattle.linalg.proofs.product.transpose_row.Tie as tie
 

@@ -9,9 +9,10 @@ use lib.Ieee.{Float, nan}
 use lib.ListN.{length, set, length-set}
 use lib.Seq.{getD-set-same, getD-set-other}
 use Rattle.kernel.specs.Number.{add}
-use Rattle.linalg.specs.Matrix.{nth, at, rowOf, tabulate}
+use Rattle.dense.specs.Matrix.{nth, at, rowOf}
+use Rattle.kernel.specs.Lists.{tabulate}
 use Rattle.linalg.specs.Regularize.{dampedEntry}
-use Rattle.linalg.proofs.Laws.{row-within, nth-row, by-entries}
+use Rattle.dense.proofs.Laws.{row-within, nth-row, by-entries}
 use Rattle.linalg.proofs.regularize.damped_row.Statement.{statement}
 use Rattle.linalg.proofs.regularize.damped_row.Tie as tie
 

@@ -5,8 +5,8 @@ use Prim.Native.Nat.{ℕ, _-_, _≤_}
 use native.Mathlib.Omega.{arith}
 use lib.Ieee.{Float}
 use Rattle.kernel.specs.Number.{mul}
-use Rattle.linalg.specs.Matrix.{at, sumRowsFrom}
-use Rattle.linalg.proofs.Laws.{sum-rows-more, sum-rows-all}
+use Rattle.dense.specs.Matrix.{at, sumRowsFrom}
+use Rattle.dense.proofs.Laws.{sum-rows-more, sum-rows-all}
 use Rattle.linalg.proofs.sums.cube_row.Statement.{statement}
 use Rattle.linalg.proofs.sums.cube_row.Tie as tie
 

@@ -6,7 +6,8 @@ use lib.Ieee.{Float}
 use lib.ListN.{length}
 use lib.Seq.{length-take-le, length-front}
 use Rattle.linalg.specs.Sums.{quadraticForm}
-use Rattle.linalg.proofs.Laws.{length-tabulate, front}
+use Rattle.kernel.proofs.Lists.{length-tabulate}
+use Rattle.dense.proofs.Laws.{front}
 use Rattle.linalg.proofs.sums.distance.Statement.{statement}
 use Rattle.linalg.proofs.sums.distance.Tie as tie
 

@@ -3,8 +3,8 @@ use mathlib.Core.Path.{_≡_, refl}
 use Prim.Native.Nat.{_-_, _≤_}
 use native.Mathlib.Omega.{arith}
 use Rattle.kernel.specs.Number.{mul}
-use Rattle.linalg.specs.Matrix.{at, nth, sumFrom}
-use Rattle.linalg.proofs.Laws.{cell, sum-more, sum-all}
+use Rattle.dense.specs.Matrix.{at, nth, sumFrom}
+use Rattle.dense.proofs.Laws.{cell, sum-more, sum-all}
 use Rattle.linalg.proofs.sums.form_row.Statement.{statement}
 use Rattle.linalg.proofs.sums.form_row.Tie as tie
 

@@ -5,9 +5,10 @@ use Prim.Native.Nat.{ℕ, _-_, _≤_}
 use native.Mathlib.Omega.{arith}
 use lib.Ieee.{Float}
 use Rattle.kernel.specs.Number.{mul}
-use Rattle.linalg.specs.Matrix.{nought, nth, at, sumRowsFrom}
+use Rattle.kernel.specs.Constants.{nought}
+use Rattle.dense.specs.Matrix.{nth, at, sumRowsFrom}
 use Rattle.linalg.specs.Sums.{quadraticForm}
-use Rattle.linalg.proofs.Laws.{sum-rows-more, sum-rows-all}
+use Rattle.dense.proofs.Laws.{sum-rows-more, sum-rows-all}
 use Rattle.linalg.proofs.sums.quadratic_form.Statement.{statement}
 use Rattle.linalg.proofs.sums.quadratic_form.Tie as tie
 

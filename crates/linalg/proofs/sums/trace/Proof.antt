@@ -2,13 +2,14 @@
 use mathlib.Core.Path.{_≡_, refl}
 use Prim.Native.Nat.{_-_, _≤_}
 use native.Mathlib.Omega.{arith}
-use Rattle.linalg.specs.Matrix.{nought, at, sum, sumFrom}
-use Rattle.linalg.proofs.Laws.{cell, sum-more, sum-all}
+use Rattle.kernel.specs.Constants.{nought}
+use Rattle.dense.specs.Matrix.{at, total, sumFrom}
+use Rattle.dense.proofs.Laws.{cell, sum-more, sum-all}
 use Rattle.linalg.proofs.sums.trace.Statement.{statement}
 use Rattle.linalg.proofs.sums.trace.Tie as tie
 
 abbrev Inv-loop : tie.InvT-loop
-Inv-loop a n s₀ i₀ s i = (i ≤ n) × (s ≡ sum i (λ q. at a n q q))
+Inv-loop a n s₀ i₀ s i = (i ≤ n) × (s ≡ total i (λ q. at a n q q))
 
 abbrev μ-loop : tie.MeasureT-loop
 μ-loop a n s₀ i₀ s i = n - i

@@ -5,9 +5,10 @@ use Prim.Native.Nat.{ℕ, _-_, _≤_}
 use native.Mathlib.Omega.{arith}
 use lib.Ieee.{Float}
 use Rattle.kernel.specs.Number.{mul}
-use Rattle.linalg.specs.Matrix.{nought, at, sumPlanesFrom}
+use Rattle.kernel.specs.Constants.{nought}
+use Rattle.dense.specs.Matrix.{at, sumPlanesFrom}
 use Rattle.linalg.specs.Sums.{traceCube}
-use Rattle.linalg.proofs.Laws.{sum-planes-more, sum-planes-all}
+use Rattle.dense.proofs.Laws.{sum-planes-more, sum-planes-all}
 use Rattle.linalg.proofs.sums.trace_cube.Statement.{statement}
 use Rattle.linalg.proofs.sums.trace_cube.Tie as tie
 

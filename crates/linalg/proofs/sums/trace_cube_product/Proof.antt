@@ -7,8 +7,8 @@ use lib.Ieee.{Float}
 use lib.ListN.{length, length-replicate}
 use lib.Seq.{length-take-le, length-front}
 use Rattle.linalg.specs.Sums.{traceCube}
-use Rattle.linalg.proofs.Laws.{length-matrix, front}
-use Rattle.linalg.proofs.Tests.{side-of-area}
+use Rattle.dense.proofs.Laws.{length-matrix, front}
+use Rattle.dense.proofs.Tests.{side-of-area}
 use Rattle.linalg.proofs.sums.trace_cube_product.Statement.{statement}
 use Rattle.linalg.proofs.sums.trace_cube_product.Tie as tie
 

@@ -3,9 +3,9 @@ use mathlib.Core.Path.{refl}
 use Prim.Native.Nat.{_-_, _≤_}
 use native.Mathlib.Omega.{arith}
 use Rattle.kernel.specs.Number.{sub}
-use Rattle.linalg.specs.Matrix.{nth}
-use Rattle.linalg.specs.Fill.{Filled}
-use Rattle.linalg.proofs.Laws.{filled-none, filled-more, filled-all}
+use Rattle.dense.specs.Matrix.{nth}
+use Rattle.dense.specs.Fill.{Filled}
+use Rattle.dense.proofs.Laws.{filled-none, filled-more, filled-all}
 use Rattle.linalg.proofs.vector.subtract.Statement.{statement}
 use Rattle.linalg.proofs.vector.subtract.Tie as tie
 

@@ -1,7 +1,7 @@
 -- `choose` meets its contract: before turn i the best is that of the rows k to i - 1.
 use Prim.Native.Nat.{_-_, _≤_}
 use mathlib.Core.Path.{_≡_}
-use Rattle.linalg.proofs.Laws.{cell}
+use Rattle.dense.proofs.Laws.{cell}
 use Rattle.pivoting.specs.Pivot.{bestOf}
 use Rattle.pivoting.proofs.Pivots.{best-abs, best-more, best-none, best-all}
 use native.Mathlib.Omega.{arith}

@@ -2,7 +2,8 @@
 use lib.Ieee.{Float}
 use Rattle.kernel.specs.Number.{div}
 use Rattle.pivoting.specs.Pivot.{consider}
-use Rattle.pivoting.proofs.Signs.{abs-ratio, first, second, third}
+use Rattle.dense.proofs.Signs.{first, second, third}
+use Rattle.pivoting.proofs.Ratios.{abs-ratio}
 use Rattle.pivoting.proofs.choice.consider.Statement.{statement}
 use Rattle.pivoting.proofs.choice.consider.Tie as tie
 

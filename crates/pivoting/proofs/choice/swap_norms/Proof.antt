@@ -7,8 +7,8 @@ use borrow.Author.Tests.{eq-eqb, ne-eqb}
 use lib.Ieee.{Float, nan}
 use lib.ListN.{length, set, length-set}
 use lib.Seq.{getD-set-same, getD-set-other}
-use Rattle.linalg.specs.Matrix.{nth}
-use Rattle.linalg.proofs.Laws.{by-entries}
+use Rattle.dense.specs.Matrix.{nth}
+use Rattle.dense.proofs.Laws.{by-entries}
 use Rattle.pivoting.specs.Pivot.{swapped, swappedNorms}
 use borrow.Author.Needs.{needs}
 use native.Mathlib.Omega.{arith}

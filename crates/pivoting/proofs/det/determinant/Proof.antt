@@ -1,7 +1,7 @@
 -- `determinant` meets its contract: the local arrays have room for the work.
 use mathlib.Core.Path.{refl, sym}
 use lib.Seq.{length-take-le}
-use Rattle.pivoting.proofs.Matrices.{square-size}
+use Rattle.dense.proofs.Matrices.{square-size}
 use native.Mathlib.Omega.{arith}
 use Rattle.pivoting.proofs.det.determinant.Statement.{statement}
 use Rattle.pivoting.proofs.det.determinant.Tie as tie

@@ -1,12 +1,9 @@
 -- `determinant_in` meets its contract: question 5, and then the product of the pivots of the copy.
 use Prim.Native.Nat.{ℕ}
 use mathlib.Core.List.{List}
-use mathlib.Core.Path.{_≡_, refl, sym, ap, _∙_}
+use mathlib.Core.Path.{_≡_, ap, _∙_}
 use lib.Ieee.{Float}
-use lib.ListN.{length}
-use Rattle.linalg.specs.Matrix.{nth, tabulate}
-use Rattle.linalg.proofs.Laws.{by-entries}
-use Rattle.linalg.proofs.Tests.{met, unmet}
+use Rattle.dense.proofs.Tests.{met, unmet}
 use Rattle.pivoting.specs.Pivot.{someScale, rowNorms, stage}
 use Rattle.pivoting.specs.Det.{lowered, product, determinant}
 use borrow.Author.Needs.{needs}
@@ -14,8 +11,8 @@ use Rattle.pivoting.proofs.det.determinant_in.Statement.{statement}
 use Rattle.pivoting.proofs.det.determinant_in.Tie as tie
 
 -- what is reduced is a copy of a, with the norms of a
-started : (a m s : List Float) (n size : ℕ) → length a ≡ size → m ≡ tabulate size (λ j. nth a j) → s ≡ rowNorms a n → product n (lowered n (stage m s)) ≡ product n (lowered n (stage a (rowNorms a n)))
-started a m s n size e f g = rw (f ∙ sym (by-entries size (λ j. nth a j) a e (λ q h. refl)), g)
+started : (a m s : List Float) (n : ℕ) → m ≡ a → s ≡ rowNorms a n → product n (lowered n (stage m s)) ≡ product n (lowered n (stage a (rowNorms a n)))
+started a m s n f g = rw (f, g)
 
 row-norms-requires : tie.Need-row-norms-requires
 row-norms-requires c κs = search needs
@@ -50,8 +47,13 @@ same-length-4 c = search needs
 returns-2 : tie.Need-returns-2
 unfolding determinant
 returns-2 c =
-    let x = c .before .before .before .before .before .before .before .before .before .before .before .before .before .before .before .before .before .before .before .before .before .before .before .before .before .args in
-    rw (met (c .before .before .before .before .before .before .before .before .before .before .before .before .before .before .before .some-scale .ensures ∙ ap (someScale (x .n)) (c .before .before .before .before .before .before .before .before .before .before .before .before .before .before .before .before .before .before .before .row-norms .ensures)) (c .before .before .before .before .before .before .before .before .before .before .before .before .before .before .if1 .left)) (c .before .before .before .before .before .before .product .ensures ∙ started (x .a .now) _ _ (x .n) (x .size) (c .before .before .before .before .before .before .before .before .before .before .before .before .before .before .before .before .before .before .before .before .before .before .before .before .before .pre .1) (c .before .before .before .before .before .before .before .before .before .before .before .before .copy .ensures) (c .before .before .before .before .before .before .before .before .before .before .before .before .before .before .before .before .before .before .before .row-norms .ensures))
+    let reduced = c .before .before .before .before .before .before in
+    let copied = reduced .before .before .before .before .before .before in
+    let scaled = copied .before .before in
+    let normed = scaled .before .before .before .before .before in
+    let x = normed .before .before .before .before .before .before .args in
+    rw (met (scaled .before .some-scale .ensures ∙ ap (someScale (x .n)) (normed .row-norms .ensures)) (scaled .if1 .left))
+    (reduced .product .ensures ∙ started (x .a .now) _ _ (x .n) (copied .copy .ensures) (normed .row-norms .ensures))
 
 pub determinant-in-spec : {M : Type 1} → statement M
 determinant-in-spec = tie.close (tie.spec row-norms-requires some-scale-requires same-length returns copy-requires product-requires same-length-2 same-length-3 same-length-4 returns-2)

@@ -7,10 +7,10 @@ use borrow.Author.Tests.{lt-ltb, le-ltb}
 use lib.Dec.{ltb}
 use lib.Ieee.{Float}
 use Rattle.kernel.specs.Number.{sub, mul, div}
-use Rattle.linalg.specs.Matrix.{nth}
-use Rattle.linalg.specs.Fill.{Filled}
-use Rattle.linalg.proofs.Laws.{filled-next, filled-more, filled-all}
-use Rattle.pivoting.proofs.Matrices.{filled-from}
+use Rattle.dense.specs.Matrix.{nth}
+use Rattle.dense.specs.Fill.{Filled}
+use Rattle.dense.proofs.Laws.{filled-next, filled-more, filled-all}
+use Rattle.dense.proofs.Matrices.{filled-from}
 use native.Mathlib.Omega.{arith}
 use Rattle.pivoting.proofs.det.lower_entries.Statement.{statement}
 use Rattle.pivoting.proofs.det.lower_entries.Tie as tie

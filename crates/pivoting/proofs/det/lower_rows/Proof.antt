@@ -9,9 +9,10 @@ use lib.Dec.{eqb, ltb}
 use lib.Ieee.{Float}
 use lib.ListN.{length}
 use Rattle.kernel.specs.Number.{sub, mul, div}
-use Rattle.linalg.specs.Matrix.{nth}
-use Rattle.linalg.proofs.Laws.{row-within, length-part, tabulate-ext, rows-all}
-use Rattle.pivoting.proofs.Matrices.{Rewritten, rewritten-from, rewritten-next, rewritten-more}
+use Rattle.dense.specs.Matrix.{nth}
+use Rattle.dense.proofs.Laws.{row-within, length-part, rows-all}
+use Rattle.kernel.proofs.Lists.{tabulate-ext}
+use Rattle.dense.proofs.Matrices.{Rewritten, rewritten-from, rewritten-next, rewritten-more}
 use Rattle.pivoting.proofs.Determinants.{belowEntry}
 use native.Mathlib.Omega.{arith}
 use Rattle.pivoting.proofs.det.lower_rows.Statement.{statement}

@@ -5,7 +5,7 @@ use mathlib.Core.Bool.{true}
 use mathlib.Core.Path.{_≡_, refl, sym, ap, _∙_}
 use borrow.Author.Tests.{not-true, not-false}
 use lib.ListN.{length}
-use Rattle.linalg.proofs.Laws.{cell}
+use Rattle.dense.proofs.Laws.{cell}
 use Rattle.pivoting.specs.Pivot.{taken, stage, pivoted}
 use Rattle.pivoting.specs.Det.{lowered, swapSign, pivotProduct, product}
 use Rattle.pivoting.proofs.Pivots.{pivot-row}

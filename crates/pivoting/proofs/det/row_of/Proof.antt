@@ -1,8 +1,8 @@
 -- `row_of` meets its contract: before turn j the entries before j are written.
 use Prim.Native.Nat.{_-_, _≤_}
-use Rattle.linalg.specs.Matrix.{at}
-use Rattle.linalg.specs.Fill.{Filled}
-use Rattle.linalg.proofs.Laws.{cell, filled-none, filled-more, filled-all}
+use Rattle.dense.specs.Matrix.{at}
+use Rattle.dense.specs.Fill.{Filled}
+use Rattle.dense.proofs.Laws.{cell, filled-none, filled-more, filled-all}
 use native.Mathlib.Omega.{arith}
 use Rattle.pivoting.proofs.det.row_of.Statement.{statement}
 use Rattle.pivoting.proofs.det.row_of.Tie as tie

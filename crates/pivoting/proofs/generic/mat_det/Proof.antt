@@ -1,7 +1,7 @@
 -- `mat_det` meets its contract: each question is put by its own function, and `determinant` has the answer.
 use Prim.Native.Nat.{_*_}
-use Rattle.linalg.proofs.Tests.{met, unmet, area, side-high, long-length}
-use Rattle.linalg.proofs.Answers.{value}
+use Rattle.dense.proofs.Tests.{met, unmet, area, side-high, long-length}
+use Rattle.dense.proofs.Answers.{value}
 use Rattle.pivoting.specs.Det.{matDet}
 use borrow.Author.Needs.{needs}
 use Rattle.pivoting.proofs.generic.mat_det.Statement.{statement}
@@ -14,24 +14,24 @@ returns : tie.Need-returns
 unfolding matDet
 returns c = rw (unmet (c .before .is-side .ensures) (c .if1 .taken))
 
-is-square-requires : tie.Need-is-square-requires
-is-square-requires c κs =
+is-matrix-requires : tie.Need-is-matrix-requires
+is-matrix-requires c κs =
     let x = c .before .before .before .args in
     let s = met (c .before .is-side .ensures) (c .if1 .left) in
     area (x .n) (x .n) s s
 
 returns-2 : tie.Need-returns-2
 unfolding matDet
-returns-2 c = rw (met (c .before .before .before .is-side .ensures) (c .before .before .if1 .left), unmet (c .before .is-square .ensures) (c .if2 .taken))
+returns-2 c = rw (met (c .before .before .before .is-side .ensures) (c .before .before .if1 .left), unmet (c .before .is-matrix .ensures) (c .if2 .taken))
 
 determinant-requires : tie.Need-determinant-requires
 determinant-requires c κs =
     let x = c .before .before .before .before .before .args in
-    (side-high (x .n) (met (c .before .before .before .is-side .ensures) (c .before .before .if1 .left)), long-length (x .a .now) (x .n * x .n) (met (c .before .is-square .ensures) (c .if2 .left)))
+    (side-high (x .n) (met (c .before .before .before .is-side .ensures) (c .before .before .if1 .left)), long-length (x .a .now) (x .n * x .n) (met (c .before .is-matrix .ensures) (c .if2 .left)))
 
 returns-3 : tie.Need-returns-3
 unfolding matDet
-returns-3 c = rw (met (c .before .before .before .before .is-side .ensures) (c .before .before .before .if1 .left), met (c .before .before .is-square .ensures) (c .before .if2 .left)) (value (c .determinant .ensures))
+returns-3 c = rw (met (c .before .before .before .before .is-side .ensures) (c .before .before .before .if1 .left), met (c .before .before .is-matrix .ensures) (c .before .if2 .left)) (value (c .determinant .ensures))
 
 pub mat-det-spec : {M : Type 1} → statement M
-mat-det-spec = tie.close (tie.spec is-side-requires returns is-square-requires returns-2 determinant-requires returns-3)
+mat-det-spec = tie.close (tie.spec is-side-requires returns is-matrix-requires returns-2 determinant-requires returns-3)

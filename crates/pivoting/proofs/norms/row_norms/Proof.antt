@@ -1,7 +1,7 @@
 -- `row_norms` meets its contract: before turn i the norms of the rows before i are written.
 use Prim.Native.Nat.{_-_, _≤_}
-use Rattle.linalg.specs.Fill.{Filled}
-use Rattle.linalg.proofs.Laws.{filled-none, filled-more, filled-all}
+use Rattle.dense.specs.Fill.{Filled}
+use Rattle.dense.proofs.Laws.{filled-none, filled-more, filled-all}
 use Rattle.pivoting.specs.Pivot.{rowNorm}
 use native.Mathlib.Omega.{arith}
 use Rattle.pivoting.proofs.norms.row_norms.Statement.{statement}

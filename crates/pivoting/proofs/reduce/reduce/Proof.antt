@@ -5,7 +5,7 @@ use mathlib.Core.Bool.{true}
 use mathlib.Core.Path.{_≡_, refl, sym, ap, _∙_}
 use borrow.Author.Tests.{not-true, not-false}
 use lib.ListN.{length}
-use Rattle.linalg.proofs.Tests.{never}
+use Rattle.dense.proofs.Tests.{never}
 use Rattle.pivoting.specs.Pivot.{stage, pivoted}
 use Rattle.pivoting.specs.Solve.{reduced}
 use Rattle.pivoting.proofs.Stages.{reduced-more, pivoted-more, pivoted-never}

@@ -8,9 +8,10 @@ use lib.Dec.{eqb}
 use lib.Ieee.{Float}
 use lib.ListN.{length}
 use Rattle.kernel.specs.Number.{sub, mul}
-use Rattle.linalg.specs.Matrix.{nth, at}
-use Rattle.linalg.proofs.Laws.{row-within, length-part, tabulate-ext, rows-all}
-use Rattle.pivoting.proofs.Matrices.{Rewritten, rewritten-none, rewritten-next, rewritten-more}
+use Rattle.dense.specs.Matrix.{nth, at}
+use Rattle.dense.proofs.Laws.{row-within, length-part, rows-all}
+use Rattle.kernel.proofs.Lists.{tabulate-ext}
+use Rattle.dense.proofs.Matrices.{Rewritten, rewritten-none, rewritten-next, rewritten-more}
 use native.Mathlib.Omega.{arith}
 use Rattle.pivoting.proofs.reduce.reduce_rows.Statement.{statement}
 use Rattle.pivoting.proofs.reduce.reduce_rows.Tie as tie

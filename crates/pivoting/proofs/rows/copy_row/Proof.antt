@@ -9,9 +9,9 @@ use lib.Dec.{eqb}
 use lib.Ieee.{Float, nan}
 use lib.ListN.{length, set, length-set}
 use lib.Seq.{getD-set-same}
-use Rattle.linalg.specs.Matrix.{at, matrix}
-use Rattle.linalg.proofs.Laws.{cell, matrix-by-entries}
-use Rattle.pivoting.proofs.Matrices.{at-set-other}
+use Rattle.dense.specs.Matrix.{at, matrix}
+use Rattle.dense.proofs.Laws.{cell, matrix-by-entries}
+use Rattle.dense.proofs.Matrices.{at-set-other}
 use native.Mathlib.Omega.{arith}
 use Rattle.pivoting.proofs.rows.copy_row.Statement.{statement}
 use Rattle.pivoting.proofs.rows.copy_row.Tie as tie

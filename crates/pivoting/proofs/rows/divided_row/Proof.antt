@@ -2,9 +2,9 @@
 use Prim.Native.Nat.{_-_, _≤_}
 use Rattle.kernel.specs.Number.{div}
 use mathlib.Core.Path.{_≡_}
-use Rattle.linalg.specs.Matrix.{at}
-use Rattle.linalg.specs.Fill.{Filled}
-use Rattle.linalg.proofs.Laws.{cell, filled-none, filled-more, filled-all}
+use Rattle.dense.specs.Matrix.{at}
+use Rattle.dense.specs.Fill.{Filled}
+use Rattle.dense.proofs.Laws.{cell, filled-none, filled-more, filled-all}
 use native.Mathlib.Omega.{arith}
 use Rattle.pivoting.proofs.rows.divided_row.Statement.{statement}
 use Rattle.pivoting.proofs.rows.divided_row.Tie as tie

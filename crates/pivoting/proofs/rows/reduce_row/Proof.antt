@@ -2,6 +2,7 @@
 use mathlib.Core.Path.{_∙_}
 use borrow.Author.Tests.{eq-eqb, ne-eqb}
 use borrow.Author.Needs.{needs}
+use Rattle.dense.proofs.Laws.{own-entries}
 use Rattle.pivoting.proofs.rows.reduce_row.Statement.{statement}
 use Rattle.pivoting.proofs.rows.reduce_row.Tie as tie
 
@@ -12,7 +13,7 @@ same-length : tie.Need-same-length
 same-length c = search needs
 
 returns : tie.Need-returns
-returns c = c .before .before .copy .ensures ∙ simp (eq-eqb _ _ (c .before .before .before .before .if1 .taken))
+returns c = let taken = c .before .before .before .before in c .before .before .copy .ensures ∙ own-entries _ _ (taken .before .before .before .pre .1) ∙ simp (eq-eqb _ _ (taken .if1 .taken))
 
 mul-factor : tie.Need-mul-factor
 mul-factor c = search needs

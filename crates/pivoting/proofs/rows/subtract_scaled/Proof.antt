@@ -1,9 +1,9 @@
 -- `subtract_scaled` meets its contract: before turn j the entries before j have lost their part.
 use Prim.Native.Nat.{_-_, _≤_}
 use Rattle.kernel.specs.Number.{sub, mul}
-use Rattle.linalg.specs.Matrix.{nth}
-use Rattle.linalg.specs.Fill.{Filled}
-use Rattle.linalg.proofs.Laws.{filled-none, filled-next, filled-more, filled-all}
+use Rattle.dense.specs.Matrix.{nth}
+use Rattle.dense.specs.Fill.{Filled}
+use Rattle.dense.proofs.Laws.{filled-none, filled-next, filled-more, filled-all}
 use native.Mathlib.Omega.{arith}
 use Rattle.pivoting.proofs.rows.subtract_scaled.Statement.{statement}
 use Rattle.pivoting.proofs.rows.subtract_scaled.Tie as tie

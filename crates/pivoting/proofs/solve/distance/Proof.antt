@@ -5,13 +5,13 @@ use mathlib.Core.Path.{_≡_, sym, ap, _∙_}
 use lib.Ieee.{Float}
 use lib.ListN.{length, take, replicate}
 use lib.Seq.{length-take-le, length-front, take-at}
-use Rattle.kernel.specs.Answer.{Outcome, refused, answered}
-use Rattle.linalg.specs.declared.Written.{Written}
-use Rattle.linalg.specs.Answer.{Leaves, given}
-use Rattle.linalg.specs.Matrix.{nought}
+use Rattle.kernel.specs.Answer.{Outcome, refused, answered, through}
+use Rattle.dense.specs.declared.Written.{Written}
+use Rattle.dense.specs.Answer.{Leaves, given}
+use Rattle.kernel.specs.Constants.{nought}
 use Rattle.linalg.specs.Sums.{difference, quadraticForm}
-use Rattle.pivoting.specs.Solve.{identity, solved, following, through, distance}
-use Rattle.pivoting.proofs.Matrices.{square-size}
+use Rattle.pivoting.specs.Solve.{identity, solved, following, distance}
+use Rattle.dense.proofs.Matrices.{square-size}
 use native.Mathlib.Omega.{arith}
 use Rattle.pivoting.proofs.solve.distance.Statement.{statement}
 use Rattle.pivoting.proofs.solve.distance.Tie as tie

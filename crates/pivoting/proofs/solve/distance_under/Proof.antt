@@ -5,10 +5,10 @@ use mathlib.Core.Path.{_≡_, sym, ap, _∙_}
 use borrow.Author.Tests.{le-leb, eq-eqb}
 use lib.Ieee.{Float}
 use lib.ListN.{length}
-use Rattle.linalg.specs.declared.Written.{Written}
-use Rattle.linalg.specs.declared.Number.the-variants.{Value}
-use Rattle.linalg.specs.Answer.{given}
-use Rattle.linalg.specs.Matrix.{side, long}
+use Rattle.dense.specs.declared.Written.{Written}
+use Rattle.dense.specs.declared.Number.the-variants.{Value}
+use Rattle.dense.specs.Answer.{given}
+use Rattle.dense.specs.Matrix.{side, long}
 use Rattle.linalg.specs.Sums.{difference, quadraticForm, distanceWithInv}
 use Rattle.pivoting.specs.Solve.{following}
 use borrow.Author.Needs.{needs}

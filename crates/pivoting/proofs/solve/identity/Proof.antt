@@ -1,8 +1,8 @@
 -- `identity` meets its contract: before turn i the rows above row i are written.
 use Prim.Native.Nat.{_+_, _*_, _-_, _≤_}
 use lib.ListN.{length}
-use Rattle.linalg.specs.Fill.{FilledRows}
-use Rattle.linalg.proofs.Laws.{row-within, length-part, rows-none, rows-more, rows-all}
+use Rattle.dense.specs.Fill.{FilledRows}
+use Rattle.dense.proofs.Laws.{row-within, length-part, rows-none, rows-more, rows-all}
 use Rattle.pivoting.specs.Solve.{unitEntry}
 use native.Mathlib.Omega.{arith}
 use Rattle.pivoting.proofs.solve.identity.Statement.{statement}

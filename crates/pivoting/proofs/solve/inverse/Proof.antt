@@ -3,9 +3,9 @@ use Prim.Native.Nat.{_*_}
 use mathlib.Core.Path.{sym, ap, _∙_}
 use lib.ListN.{length}
 use lib.Seq.{length-take-le, length-front}
-use Rattle.linalg.proofs.Laws.{length-matrix, front}
+use Rattle.dense.proofs.Laws.{length-matrix, front}
 use Rattle.pivoting.specs.Solve.{unitEntry}
-use Rattle.pivoting.proofs.Matrices.{square-size}
+use Rattle.dense.proofs.Matrices.{square-size}
 use native.Mathlib.Omega.{arith}
 use Rattle.pivoting.proofs.solve.inverse.Statement.{statement}
 use Rattle.pivoting.proofs.solve.inverse.Tie as tie

@@ -1,7 +1,7 @@
 -- `solve` meets its contract: the local arrays have room for the work.
 use mathlib.Core.Path.{refl, sym}
 use lib.Seq.{length-take-le}
-use Rattle.pivoting.proofs.Matrices.{augmented-size}
+use Rattle.dense.proofs.Matrices.{augmented-size}
 use native.Mathlib.Omega.{arith}
 use Rattle.pivoting.proofs.solve.solve.Statement.{statement}
 use Rattle.pivoting.proofs.solve.solve.Tie as tie

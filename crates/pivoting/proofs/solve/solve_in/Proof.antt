@@ -4,9 +4,9 @@ use mathlib.Core.List.{List}
 use mathlib.Core.Path.{_≡_, ap, _∙_}
 use borrow.Author.Tests.{not-false}
 use lib.Ieee.{Float}
-use Rattle.linalg.specs.Matrix.{at, matrix}
-use Rattle.linalg.proofs.Tests.{met, unmet}
-use Rattle.linalg.proofs.Answers.{done}
+use Rattle.dense.specs.Matrix.{at, matrix}
+use Rattle.dense.proofs.Tests.{met, unmet}
+use Rattle.dense.proofs.Answers.{done}
 use Rattle.pivoting.specs.Pivot.{someScale, rowNorms, Stage, stage, pivoted}
 use Rattle.pivoting.specs.Solve.{start, augmented, reduced, solution, solved}
 use native.Mathlib.Omega.{arith}

@@ -1,0 +1,5 @@
+pub mod Tests
+pub mod Answers
+pub mod Laws
+pub mod Signs
+pub mod Matrices

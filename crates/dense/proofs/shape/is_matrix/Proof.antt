@@ -1,0 +1,16 @@
+-- `is_matrix` meets its contract: its test is that of `long`.
+use mathlib.Core.Path.{refl}
+use native.Mathlib.Omega.{arith}
+use Rattle.dense.specs.Matrix.{long}
+use Rattle.dense.proofs.shape.is_matrix.Statement.{statement}
+use Rattle.dense.proofs.shape.is_matrix.Tie as tie
+
+mul-result : tie.Need-mul-result
+mul-result c = omega arith
+
+returns : tie.Need-returns
+unfolding long
+returns c = refl
+
+pub is-matrix-spec : {M : Type 1} → statement M
+is-matrix-spec = tie.close (tie.spec mul-result returns)

@@ -1,0 +1,66 @@
+// Loops over one vector, which may be a row of a matrix.
+ghost use mathlib.Core.Path.{_≡_};
+ghost use mathlib.Core.Bool.{cond};
+ghost use lib.ListN.{length};
+ghost use lib.Ieee.{lt};
+ghost use Rattle.kernel.specs.Lists.{tabulate};
+ghost use Rattle.kernel.specs.Number.{add, mul, abs};
+ghost use Rattle.dense.specs.Matrix.{nth, total, maxAbs};
+
+// Adds s times x to y, entry by entry.
+pub fn add_scaled(s: f64, x: &[f64], n: usize, y: &mut [f64])
+    requires { ⌜ (length (now x) ≡ n) × (length (now y) ≡ n) ⌝ }
+    ensures { λ _. ⌜ now (y .exit) ≡ tabulate n (λ j. add (nth (now (y .entry)) j) (mul s (nth (now (x .entry)) j))) ⌝ }
+{
+    for j in 0..n {
+        y[j] = y[j] + s * x[j];
+    }
+}
+
+// Copies x to y.
+pub fn copy(x: &[f64], n: usize, y: &mut [f64])
+    requires { ⌜ (length (now x) ≡ n) × (length (now y) ≡ n) ⌝ }
+    ensures { λ _. ⌜ now (y .exit) ≡ now (x .entry) ⌝ }
+{
+    for j in 0..n {
+        y[j] = x[j];
+    }
+}
+
+// The sum of the products of the entries of x and y.
+pub fn dot(x: &[f64], y: &[f64], n: usize) -> f64
+    requires { ⌜ (length (now x) ≡ n) × (length (now y) ≡ n) ⌝ }
+    ensures { λ r. ⌜ r ≡ total n (λ j. mul (nth (now (x .entry)) j) (nth (now (y .entry)) j)) ⌝ }
+{
+    let mut s = 0.0;
+    for j in 0..n {
+        s = s + x[j] * y[j];
+    }
+    s
+}
+
+// x, which has no sign, or |y| where that is greater: both tests seldom hold, where the sign of y is any.
+fn raised(x: f64, y: f64) -> f64
+    requires { ⌜ abs x ≡ x ⌝ }
+    ensures { λ r. ⌜ r ≡ cond (lt x (abs y)) (abs y) x ⌝ }
+{
+    if y > x {
+        return y;
+    }
+    if -y > x {
+        return -y;
+    }
+    x
+}
+
+// The greatest absolute value among the entries of x.
+pub fn max_abs(x: &[f64], n: usize) -> f64
+    requires { ⌜ length (now x) ≡ n ⌝ }
+    ensures { λ r. ⌜ r ≡ maxAbs (now (x .entry)) n ⌝ }
+{
+    let mut g = 0.0;
+    for j in 0..n {
+        g = raised(g, x[j]);
+    }
+    g
+}
