@@ -5,12 +5,11 @@ ghost use Rattle.linalg.specs.Sums as Sums;
 ghost use Rattle.linalg.specs.Norms as Norms;
 ghost use Rattle.linalg.specs.Cholesky as Cholesky;
 ghost use Rattle.linalg.specs.Regularize as Regularize;
-ghost use Rattle.linalg.specs.Mat3 as Mat3;
+ghost use Rattle.mat3.specs.Mat3 as Mat3;
 ghost use Rattle.capi.specs.Told.{Tells};
 use crate::told::code;
 use crate::told::enter;
 use linalg::generic;
-use linalg::mat3;
 use linalg::regularize;
 
 // The m by n product of a, m by k, and b, k by n, into out.

@@ -1,8 +1,8 @@
 // A call's answer as C is told it: 0 for answered, or the number of the question that is not met.
 ghost use mathlib.Core.Path.{_≡_};
 ghost use Rattle.capi.specs.Told.{code, entered, enteredRead, enteredLength};
-use linalg::Number;
-use linalg::Written;
+use dense::Number;
+use dense::Written;
 use tracks::format::ReadList;
 use tracks::format::WrittenList;
 

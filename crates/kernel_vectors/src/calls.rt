@@ -1,8 +1,7 @@
 // The matrix calls by their numbers in a record.
-use linalg::Number;
-use linalg::Written;
+use dense::Number;
+use dense::Written;
 use linalg::generic;
-use linalg::mat3;
 use linalg::regularize;
 use pivoting::generic as solvers;
 

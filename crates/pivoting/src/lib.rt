@@ -7,6 +7,9 @@ mod reduce;
 mod rows;
 mod solve;
 
+pub use dense::Number;
+pub use dense::Written;
+
 // The best pivot row of a column so far, and its ratio.
 pub struct Pivot {
     pub ratio: f64,
