@@ -1,5 +1,5 @@
--- Which pivots are taken depends on the first n columns alone, and a column beyond them on itself and those: so column j of
--- the solution against b is the solution against column j of b, and column j of the inverse that against unit vector j.
+-- Which pivots are taken depends on the first n columns alone, and a column beyond them on itself and those (`same-pivot`, `same-reduced`: of
+-- two stages that are `Alike`). So column j of the solution against b is the solution against column j of b (`solved-column`).
 use Prim.Native.Nat.{ℕ, zero, suc, _+_, _*_, _-_, _<_, _≤_}
 use native.Mathlib.Omega.{arith}
 use native.Mathlib.Decide.{ℕ-discrete}
@@ -12,7 +12,7 @@ use Rattle.kernel.specs.Answer.{answered, ask, through}
 use Rattle.dense.specs.Matrix.{nth, at, matrix}
 use Rattle.dense.proofs.Laws.{length-matrix, nth-tabulate, by-entries, at-matrix}
 use Rattle.pivoting.specs.Pivot.{rowNorms, someScale, bestOf, swapped, swappedNorms, Stage, pivotAt, pivoted}
-use Rattle.pivoting.specs.Solve.{stepEntry, column, reduced, augmentedEntry, augmented, start, solution, solved, identity, columnOf}
+use Rattle.pivoting.specs.Solve.{stepEntry, column, reduced, augmentedEntry, augmented, start, solution, solved, columnOf}
 use Rattle.pivoting.proofs.Pivots.{pivot-row}
 
 -- Two stages of n rows, with w and v columns, have equal norms and equal first n columns, and column c of the one is column d of the other.
@@ -142,7 +142,3 @@ solved-column a b n r j h = rw pivots (go (someScale n (rowNorms a n)) (pivoted 
     go true true = ap answered (solution-column a b n r j h)
     go true false = refl
     go false p = refl
-
--- Column j of the inverse is the solution against unit vector j.
-pub inverse-column : (a : List Float) (n j : ℕ) → j < n → through (columnOf n n j) (solved a (identity n) n n) ≡ solved a (columnOf n n j (identity n)) n 1
-inverse-column a n j h = solved-column a (identity n) n n j h

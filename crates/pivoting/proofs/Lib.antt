@@ -2,4 +2,5 @@ pub mod Ratios
 pub mod Pivots
 pub mod Stages
 pub mod Columns
+pub mod Inverse
 pub mod Determinants

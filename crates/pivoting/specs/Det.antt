@@ -11,6 +11,14 @@ use Rattle.dense.specs.Matrix.{at, rowOf, matrix, side, long, maxAbs}
 use Rattle.kernel.specs.Lists.{tabulate}
 use Rattle.pivoting.specs.Pivot.{rowNorms, someScale, bestOf, swapped, swappedNorms, Stage, stage, pivotAt, pivoted}
 
+-- entry j of y less, right of column k, its own entry in column k over that of x, times x
+abbrev pub lessEntry : (ℕ → Float) → (ℕ → Float) → ℕ → ℕ → Float
+lessEntry x y k j = cond (ltb k j) (sub (y j) (mul (div (y k) (x k)) (x j))) (y j)
+
+-- entry j of row i, from row k on, when the rows below row k are lowered: x where i is k
+abbrev pub loweredEntry : (ℕ → Float) → (ℕ → Float) → ℕ → ℕ → ℕ → Float
+loweredEntry x y k i j = cond (eqb i k) (x j) (lessEntry x y k j)
+
 -- Entry (i, j) when the pivot of column k is in row p: rows k and p of m, of n columns, have changed places, and each row
 -- below row k loses, right of column k, its own entry in column k over the pivot, times row k.
 unfoldable pub lowerEntry : List Float → ℕ → ℕ → ℕ → ℕ → ℕ → Float

@@ -16,14 +16,19 @@ use Rattle.dense.specs.declared.Number.the-variants as number
 use Rattle.linalg.specs.Sums.{difference, quadraticForm}
 use Rattle.pivoting.specs.Pivot.{rowNorms, someScale, bestOf, swapped, swappedNorms, Stage, stage, pivotAt, pivoted}
 
+-- entry j of row p of m, of w columns, divided by its entry in column k
+abbrev pub dividedEntry : List Float → ℕ → ℕ → ℕ → ℕ → Float
+dividedEntry m w p k j = div (at m w p j) (at m w p k)
+
+-- entry j of row i when column k is cleared: x where i is k, and otherwise y less its own entry in column k times x
+abbrev pub clearedEntry : (ℕ → Float) → (ℕ → Float) → ℕ → ℕ → ℕ → Float
+clearedEntry x y k i j = cond (eqb i k) (x j) (sub (y j) (mul (y k) (x j)))
+
 -- Entry (i, j) when the pivot of column k is in row p: rows k and p of m, of w columns, have changed places, row k is
 -- divided by its entry in column k, and every other row loses its own entry in column k times that.
 unfoldable pub stepEntry : List Float → ℕ → ℕ → ℕ → ℕ → ℕ → Float
 unfolding swapped
-stepEntry m w k p i j =
-    cond (eqb i k)
-    (div (at m w p j) (at m w p k))
-    (sub (at m w (swapped k p i) j) (mul (at m w (swapped k p i) k) (div (at m w p j) (at m w p k))))
+stepEntry m w k p i j = clearedEntry (dividedEntry m w p k) (at m w (swapped k p i)) k i j
 
 -- column k of n rows and w columns is reduced
 unfoldable pub column : ℕ → ℕ → ℕ → Stage → Stage
@@ -71,6 +76,10 @@ unitEntry i j = cond (eqb i j) one nought
 -- the n by n identity
 abbrev pub identity : ℕ → List Float
 identity n = matrix n n unitEntry
+
+-- unit vector j of n entries: 1.0 at j, 0.0 elsewhere
+abbrev pub unitVector : ℕ → ℕ → List Float
+unitVector n j = tabulate n (λ i. unitEntry i j)
 
 -- `mat_solve`: the vector x with a x = b, for a n by n
 unfoldable pub matSolve : List Float → List Float → ℕ → List Float → Outcome (List Float)

@@ -2,13 +2,12 @@
 ghost use mathlib.Core.Path.{_≡_};
 ghost use mathlib.Core.Bool.{cond};
 ghost use Prim.Native.Nat.{_*_, _<_, _≤_};
-ghost use lib.Dec.{eqb, ltb};
+ghost use lib.Dec.{ltb};
 ghost use lib.ListN.{length};
-ghost use Rattle.kernel.specs.Number.{sub, mul, div};
 ghost use Rattle.dense.specs.Matrix.{nth, at, matrix};
 ghost use Rattle.kernel.specs.Lists.{tabulate};
-ghost use Rattle.pivoting.specs.Pivot.{rowNorms, someScale, stage, pivoted};
-ghost use Rattle.pivoting.specs.Det.{lowerEntry, flipped, lowered, swapSign, pivotProduct, determinant, product};
+ghost use Rattle.pivoting.specs.Pivot.{stage};
+ghost use Rattle.pivoting.specs.Det.{lessEntry, loweredEntry, lowerEntry, flipped, lowered, determinant, product};
 use crate::choice::choose;
 use crate::choice::is_taken;
 use crate::choice::swap_norms;
@@ -31,7 +30,7 @@ fn row_of(m: &[f64], n: usize, p: usize, y: &mut [f64])
 // Takes from y, right of column k, its entry in column k over that of x, times x.
 fn lower_entries(x: &[f64], n: usize, k: usize, y: &mut [f64])
     requires { ⌜ (k < n) × (length (now x) ≡ n) × (length (now y) ≡ n) ⌝ }
-    ensures { λ _. ⌜ now (y .exit) ≡ tabulate n (λ j. cond (ltb k j) (sub (nth (now (y .entry)) j) (mul (div (nth (now (y .entry)) k) (nth (now (x .entry)) k)) (nth (now (x .entry)) j))) (nth (now (y .entry)) j)) ⌝ }
+    ensures { λ _. ⌜ now (y .exit) ≡ tabulate n (lessEntry (nth (now (x .entry))) (nth (now (y .entry))) k) ⌝ }
 {
     let factor = y[k] / x[k];
     for j in k + 1..n {
@@ -42,7 +41,7 @@ fn lower_entries(x: &[f64], n: usize, k: usize, y: &mut [f64])
 // Row i, from row k on, of a step in column k, from y: the pivot row x where i is k, else y less its part of x.
 fn lower_row(x: &[f64], n: usize, k: usize, i: usize, y: &mut [f64])
     requires { ⌜ (k < n) × (length (now x) ≡ n) × (length (now y) ≡ n) ⌝ }
-    ensures { λ _. ⌜ now (y .exit) ≡ tabulate n (λ j. cond (eqb i k) (nth (now (x .entry)) j) (cond (ltb k j) (sub (nth (now (y .entry)) j) (mul (div (nth (now (y .entry)) k) (nth (now (x .entry)) k)) (nth (now (x .entry)) j))) (nth (now (y .entry)) j))) ⌝ }
+    ensures { λ _. ⌜ now (y .exit) ≡ tabulate n (loweredEntry (nth (now (x .entry))) (nth (now (y .entry))) k i) ⌝ }
 {
     if i == k {
         copy(x, n, y);
@@ -54,7 +53,7 @@ fn lower_row(x: &[f64], n: usize, k: usize, i: usize, y: &mut [f64])
 // Row k of m, n by n, becomes x, and every row below it loses its part of x.
 fn lower_rows(x: &[f64], m: &mut [f64], n: usize, k: usize)
     requires { ⌜ (k < n) × (length (now x) ≡ n) × (length (now m) ≡ n * n) ⌝ }
-    ensures { λ _. ⌜ now (m .exit) ≡ matrix n n (λ i j. cond (ltb i k) (at (now (m .entry)) n i j) (cond (eqb i k) (nth (now (x .entry)) j) (cond (ltb k j) (sub (at (now (m .entry)) n i j) (mul (div (at (now (m .entry)) n i k) (nth (now (x .entry)) k)) (nth (now (x .entry)) j))) (at (now (m .entry)) n i j)))) ⌝ }
+    ensures { λ _. ⌜ now (m .exit) ≡ matrix n n (λ i j. cond (ltb i k) (at (now (m .entry)) n i j) (loweredEntry (nth (now (x .entry))) (at (now (m .entry)) n i) k i j)) ⌝ }
 {
     for i in k..n {
         let start = i * n;

@@ -1,13 +1,11 @@
 // Gauss–Jordan elimination in place.
 ghost use mathlib.Core.Path.{_≡_};
-ghost use mathlib.Core.Bool.{true, cond};
+ghost use mathlib.Core.Bool.{true};
 ghost use Prim.Native.Nat.{_*_, _<_, _≤_};
-ghost use lib.Dec.{eqb};
 ghost use lib.ListN.{length};
-ghost use Rattle.kernel.specs.Number.{sub, mul, div};
 ghost use Rattle.dense.specs.Matrix.{nth, at, matrix};
 ghost use Rattle.pivoting.specs.Pivot.{pivot, taken, stage, pivoted};
-ghost use Rattle.pivoting.specs.Solve.{stepEntry, column, reduced};
+ghost use Rattle.pivoting.specs.Solve.{clearedEntry, stepEntry, column, reduced};
 use crate::choice::choose;
 use crate::choice::is_taken;
 use crate::choice::swap_norms;
@@ -18,7 +16,7 @@ use crate::rows::reduce_row;
 // Row k of m, n by w, becomes x, and every other row loses its entry in column k times x.
 fn reduce_rows(x: &[f64], m: &mut [f64], n: usize, w: usize, k: usize)
     requires { ⌜ (k < w) × (length (now x) ≡ w) × (length (now m) ≡ n * w) ⌝ }
-    ensures { λ _. ⌜ now (m .exit) ≡ matrix n w (λ i j. cond (eqb i k) (nth (now (x .entry)) j) (sub (at (now (m .entry)) w i j) (mul (at (now (m .entry)) w i k) (nth (now (x .entry)) j)))) ⌝ }
+    ensures { λ _. ⌜ now (m .exit) ≡ matrix n w (λ i. clearedEntry (nth (now (x .entry))) (at (now (m .entry)) w i) k i) ⌝ }
 {
     for i in 0..n {
         let start = i * w;

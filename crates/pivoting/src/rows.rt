@@ -1,13 +1,13 @@
 // Loops over one row of a matrix.
 ghost use mathlib.Core.Path.{_≡_};
 ghost use mathlib.Core.Bool.{cond};
-ghost use Prim.Native.Nat.{_+_, _*_, _-_, _<_, _≤_};
-ghost use lib.Dec.{eqb, ltb};
+ghost use Prim.Native.Nat.{_+_, _*_, _-_, _<_};
+ghost use lib.Dec.{eqb};
 ghost use lib.ListN.{length};
-ghost use Rattle.kernel.specs.Number.{sub, mul, div};
+ghost use Rattle.kernel.specs.Number.{sub, mul};
 ghost use Rattle.dense.specs.Matrix.{nth, at, matrix};
 ghost use Rattle.kernel.specs.Lists.{tabulate};
-ghost use Rattle.pivoting.specs.Solve.{augmentedEntry, unitEntry};
+ghost use Rattle.pivoting.specs.Solve.{dividedEntry, clearedEntry};
 use dense::shape::entry;
 use dense::vector::copy;
 
@@ -24,7 +24,7 @@ fn subtract_scaled(s: f64, x: &[f64], n: usize, y: &mut [f64])
 // Row i of a Gauss–Jordan step in column k, from y: the divided pivot row x where i is k, else y less its entry in column k times x.
 pub(crate) fn reduce_row(x: &[f64], w: usize, k: usize, i: usize, y: &mut [f64])
     requires { ⌜ (k < w) × (length (now x) ≡ w) × (length (now y) ≡ w) ⌝ }
-    ensures { λ _. ⌜ now (y .exit) ≡ tabulate w (λ j. cond (eqb i k) (nth (now (x .entry)) j) (sub (nth (now (y .entry)) j) (mul (nth (now (y .entry)) k) (nth (now (x .entry)) j)))) ⌝ }
+    ensures { λ _. ⌜ now (y .exit) ≡ tabulate w (clearedEntry (nth (now (x .entry))) (nth (now (y .entry))) k i) ⌝ }
 {
     if i == k {
         copy(x, w, y);
@@ -37,7 +37,7 @@ pub(crate) fn reduce_row(x: &[f64], w: usize, k: usize, i: usize, y: &mut [f64])
 // Writes row p of m, n by w, divided by its entry in column k.
 pub(crate) fn divided_row(m: &[f64], n: usize, w: usize, p: usize, k: usize, y: &mut [f64])
     requires { ⌜ (p < n) × (k < w) × (length (now m) ≡ n * w) × (length (now y) ≡ w) ⌝ }
-    ensures { λ _. ⌜ now (y .exit) ≡ tabulate w (λ j. div (at (now (m .entry)) w p j) (at (now (m .entry)) w p k)) ⌝ }
+    ensures { λ _. ⌜ now (y .exit) ≡ tabulate w (dividedEntry (now (m .entry)) w p k) ⌝ }
 {
     let d = entry(m, w, p, k);
     for j in 0..w {
