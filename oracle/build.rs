@@ -5,7 +5,7 @@ use std::{env, fs};
 fn main() {
     let root = PathBuf::from(env::var("CARGO_MANIFEST_DIR").unwrap()).join("..").canonicalize().unwrap();
     let out = PathBuf::from(env::var("OUT_DIR").unwrap());
-    fs::write(out.join("absent.rs"), absent(&root)).unwrap();
+    fs::write(out.join("unmatched.rs"), unmatched(&root)).unwrap();
 
     let archive = root.join("target/staticlib/libcapi.a");
     assert!(archive.is_file(), "no {}: run `rt staticlib capi` first", archive.display());
@@ -14,9 +14,8 @@ fn main() {
     println!("cargo:rustc-link-lib=static=capi");
 }
 
-// The calls that `src/ffi.rs` knows and the header does not declare get a body that stops, and are listed as ABSENT; the
-// calls that the header declares and `src/ffi.rs` does not know are listed as UNKNOWN.
-fn absent(root: &Path) -> String {
+// The calls that only one of `src/ffi.rs` and the header has: each fails the run.
+fn unmatched(root: &Path) -> String {
     let header = root.join("include/pelosumba.h");
     println!("cargo:rerun-if-changed={}", header.display());
     println!("cargo:rerun-if-changed=src/ffi.rs");
@@ -25,13 +24,9 @@ fn absent(root: &Path) -> String {
     let missing = |from: &[String], of: &[String]| -> Vec<String> {
         of.iter().filter(|name| !from.contains(name)).cloned().collect()
     };
-    let absent = missing(&declared, &known);
-    let bodies: String = absent
-        .iter()
-        .map(|name| format!("    #[no_mangle]\n    extern \"C\" fn {name}() {{\n        unreachable!()\n    }}\n"))
-        .collect();
     format!(
-        "pub const ABSENT: &[&str] = &{absent:?};\npub const UNKNOWN: &[&str] = &{:?};\nmod absent {{\n{bodies}}}\n",
+        "pub const UNDECLARED: &[&str] = &{:?};\npub const UNKNOWN: &[&str] = &{:?};\n",
+        missing(&declared, &known),
         missing(&known, &declared)
     )
 }

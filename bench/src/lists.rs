@@ -119,42 +119,38 @@ fn compare(left_out: u64) {
     let mut read = vec![0.0; MOST_VALUES];
     let mut theirs = read.clone();
     let (mut count, mut dimension, mut length) = (0, 0, 0);
-    if ffi::has("read_list") {
-        line(
-            &format!("read_list, 32 of 9, {left_out} % left out"),
-            TIMES,
-            || {
-                for _ in 0..TIMES {
-                    assert!(ffi::read_list(black_box(&list), black_box(&mut read), &mut count, &mut dimension) == 0);
-                }
-            },
-            || {
-                for _ in 0..TIMES {
-                    assert!(read_into(black_box(&list), black_box(&mut theirs)) == Ok((32, 9)));
-                }
-            },
-        );
-        assert!(read == values && theirs == values);
-    }
+    line(
+        &format!("read_list, 32 of 9, {left_out} % left out"),
+        TIMES,
+        || {
+            for _ in 0..TIMES {
+                assert!(ffi::read_list(black_box(&list), black_box(&mut read), &mut count, &mut dimension) == 0);
+            }
+        },
+        || {
+            for _ in 0..TIMES {
+                assert!(read_into(black_box(&list), black_box(&mut theirs)) == Ok((32, 9)));
+            }
+        },
+    );
+    assert!(read == values && theirs == values);
     let mut bytes = vec![0; LONGEST];
     let mut other = bytes.clone();
-    if ffi::has("write_list") {
-        line(
-            &format!("write_list, 32 of 9, {left_out} % left out"),
-            TIMES,
-            || {
-                for _ in 0..TIMES {
-                    assert!(ffi::write_list(32, 9, black_box(&values), black_box(&mut bytes), &mut length) == 0);
-                }
-            },
-            || {
-                for _ in 0..TIMES {
-                    assert!(write_into(32, 9, black_box(&values), black_box(&mut other)) == Ok(list.len()));
-                }
-            },
-        );
-        assert!(bytes[..length] == list && other[..length] == list);
-    }
+    line(
+        &format!("write_list, 32 of 9, {left_out} % left out"),
+        TIMES,
+        || {
+            for _ in 0..TIMES {
+                assert!(ffi::write_list(32, 9, black_box(&values), black_box(&mut bytes), &mut length) == 0);
+            }
+        },
+        || {
+            for _ in 0..TIMES {
+                assert!(write_into(32, 9, black_box(&values), black_box(&mut other)) == Ok(list.len()));
+            }
+        },
+    );
+    assert!(bytes[..length] == list && other[..length] == list);
 }
 
 pub fn run() {

@@ -2,7 +2,7 @@
 //!
 //! A wrapper answers what the call answers: 0, or the number of the question that was not met.
 
-include!(concat!(env!("OUT_DIR"), "/absent.rs"));
+include!(concat!(env!("OUT_DIR"), "/unmatched.rs"));
 
 extern "C" {
     fn pel_abs(x: f64) -> f64;
@@ -98,11 +98,6 @@ extern "C" {
         length: &mut usize,
     ) -> u32;
     fn pel_record(list: *const u8, list_len: usize, offset: usize, start: &mut usize, length: &mut usize);
-}
-
-/// Whether the header declares the call.
-pub fn has(name: &str) -> bool {
-    !ABSENT.iter().any(|absent| absent.strip_prefix("pel_") == Some(name))
 }
 
 pub fn abs(x: f64) -> f64 {

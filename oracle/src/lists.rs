@@ -139,9 +139,6 @@ impl Compared {
 
     /// Reads a list into `room` values.
     fn read_into(&mut self, list: &[u8], wanted: &Result<Read, u32>, room: usize) {
-        if !ffi::has("read_list") {
-            return;
-        }
         let (mut count, mut dimension) = (usize::MAX, usize::MAX);
         let number = ffi::read_list(list, &mut self.values[..room], &mut count, &mut dimension);
         if !matches!(wanted, Ok(read) if room >= read.values.len()) {
@@ -180,9 +177,6 @@ impl Compared {
         wanted: &Result<Vec<u8>, u32>,
         room: usize,
     ) {
-        if !ffi::has("write_list") {
-            return;
-        }
         let mut length = usize::MAX;
         let number = ffi::write_list(count, dimension, values, &mut self.bytes[..room], &mut length);
         if !matches!(wanted, Ok(list) if room >= list.len()) {
@@ -209,9 +203,6 @@ impl Compared {
 
     /// Asks for the record at an offset.
     fn record_at(&mut self, list: &[u8], wanted: &Result<Read, u32>, offset: usize) {
-        if !ffi::has("record") {
-            return;
-        }
         let (mut start, mut length) = (usize::MAX, usize::MAX);
         ffi::record(list, offset, &mut start, &mut length);
         let part = record(list, wanted, offset);
@@ -351,14 +342,6 @@ fn refused_writes(compared: &mut Compared, rng: &mut Rng) {
 
 /// Runs all of it, and answers the number of differences.
 pub fn run(long: bool) -> u64 {
-    for name in ["read_list", "write_list", "record"] {
-        if !ffi::has(name) {
-            println!("{name}: not declared");
-        }
-    }
-    if !ffi::has("read_list") {
-        return 0;
-    }
     let times = if long { 40 } else { 1 };
     let mut rng = Rng::new(7);
     let mut compared = Compared::new();

@@ -33,6 +33,10 @@ fn main() -> ExitCode {
         println!("{name}: declared in the header, and not compared");
         differences += 1;
     }
+    for name in ffi::UNDECLARED {
+        println!("{name}: compared, and missing from the header");
+        differences += 1;
+    }
     println!("oracle: {differences} differences");
     if differences == 0 {
         ExitCode::SUCCESS

@@ -391,14 +391,10 @@ fn refusals(call: &Call, tally: &mut Tally, rng: &mut Rng, sides: &[usize]) {
     }
 }
 
-/// Runs every call that the header declares, and answers the number of differences.
+/// Runs every call, and answers the number of differences.
 pub fn run(long: bool) -> u64 {
     let mut differences = 0;
     for call in CALLS {
-        if !ffi::has(call.name) {
-            println!("{}: not declared", call.name);
-            continue;
-        }
         let all = (call.sides)();
         // So many of each class at each of the call's sides.
         let count = if long { 2_000 } else { (6_000 / all.len()).max(12) };

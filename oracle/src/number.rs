@@ -84,10 +84,6 @@ pub fn run(count: u64) -> u64 {
     fixed.extend(powers_of_two());
     let mut differences = 0;
     let one = |name: &'static str, ours: fn(f64) -> f64, theirs: fn(f64) -> f64| {
-        if !ffi::has(name) {
-            println!("{name}: not declared");
-            return 0;
-        }
         let mut tally = Tally::new(name);
         let mut try_one = |x: f64| {
             let (got, wanted) = (ours(x), theirs(black_box(x)));
@@ -113,10 +109,6 @@ pub fn run(count: u64) -> u64 {
 
 /// `max`: every pair of special numbers, and random pairs, some of them neighbours or equal.
 fn maxima(count: u64) -> u64 {
-    if !ffi::has("max") {
-        println!("max: not declared");
-        return 0;
-    }
     let mut tally = Tally::new("max");
     let mut try_pair = |a: f64, b: f64| {
         let (got, wanted) = (ffi::max(a, b), black_box(a).max(black_box(b)));
