@@ -1,7 +1,6 @@
 //! Writes the frozen answers that the programs `*_vectors` replay: a program's input, and the lines that it must write.
 //! Every answer is the Rust's; the library is not asked.
 use crate::classes::CLASSES;
-use crate::ffi;
 use crate::lists;
 use crate::matrix::{draw, refused, Call, CALLS};
 use crate::number::{powers_of_two, sample, special};

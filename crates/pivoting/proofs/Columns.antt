@@ -40,7 +40,8 @@ module _ (n w v c d : ℕ) (nw : n ≤ w) (nv : n ≤ v) (cw : c < w) (dv : d < 
   same-pivot t u a k h = same-best t u a k (n - k) h (omega arith)
 
   -- one step, in a column that the two have in common
-  same-step : (t u : Stage) → Alike n w v c d t u → (k p : ℕ) → k < n → p < n → (x y : ℕ) → x < w → y < v → ((i : ℕ) → i < n → at (t .rows) w i x ≡ at (u .rows) v i y) → (i : ℕ) → i < n → at (matrix n w (stepEntry (t .rows) w k p)) w i x ≡ at (matrix n v (stepEntry (u .rows) v k p)) v i y
+  same-step : (t u : Stage) → Alike n w v c d t u → (k p : ℕ) → k < n → p < n → (x y : ℕ) → x < w → y < v → ((i : ℕ) → i < n → at (t .rows) w i x ≡ at (u .rows) v i y)
+      → (i : ℕ) → i < n → at (matrix n w (stepEntry (t .rows) w k p)) w i x ≡ at (matrix n v (stepEntry (u .rows) v k p)) v i y
   unfolding stepEntry
   same-step t u a k p h l x y xw yv e i b =
       at-matrix n w (stepEntry (t .rows) w k p) i x b xw

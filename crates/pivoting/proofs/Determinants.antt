@@ -9,23 +9,21 @@ use mathlib.Core.Path.{_≡_, ap, _∙_}
 use borrow.Author.Tests.{eq-eqb, ne-eqb, lt-ltb, le-ltb}
 use lib.Dec.{eqb, ltb}
 use lib.Ieee.{Float}
-use Rattle.kernel.specs.Number.{sub, mul, div}
+use Rattle.kernel.specs.Number.{mul}
 use Rattle.dense.specs.Matrix.{nth, at, matrix}
 use Rattle.kernel.specs.Lists.{tabulate}
 use Rattle.dense.proofs.Laws.{nth-tabulate, at-matrix, matrix-ext}
 use Rattle.pivoting.specs.declared.Pivot.{Pivot}
 use Rattle.pivoting.specs.Pivot.{pivot, swapped, swappedNorms, Stage, stage}
-use Rattle.pivoting.specs.Det.{lowerEntry, lower, lowered, flipped, swapSign, pivotProduct}
+use Rattle.pivoting.specs.Det.{loweredEntry, lowerEntry, lower, lowered, flipped, swapSign, pivotProduct}
 
 -- entry (i, j) when row k of m, of n columns, becomes x, and every row below it loses its part of x
 abbrev pub belowEntry : List Float → List Float → ℕ → ℕ → ℕ → ℕ → Float
-belowEntry x m n k i j =
-    cond (ltb i k)
-    (at m n i j)
-    (cond (eqb i k) (nth x j) (cond (ltb k j) (sub (at m n i j) (mul (div (at m n i k) (nth x k)) (nth x j))) (at m n i j)))
+belowEntry x m n k i j = cond (ltb i k) (at m n i j) (loweredEntry (nth x) (at m n i) k i j)
 
 -- the pivot row x, and m₁, in which row k stands in place p, make the step
-pub lower-stepped : (m x m₁ : List Float) (n k p : ℕ) → k < n → x ≡ tabulate n (at m n p) → m₁ ≡ matrix n n (λ i j. at m n (cond (eqb i p) k i) j) → matrix n n (belowEntry x m₁ n k) ≡ matrix n n (lowerEntry m n k p)
+pub lower-stepped : (m x m₁ : List Float) (n k p : ℕ) → k < n → x ≡ tabulate n (at m n p) → m₁ ≡ matrix n n (λ i j. at m n (cond (eqb i p) k i) j)
+    → matrix n n (belowEntry x m₁ n k) ≡ matrix n n (lowerEntry m n k p)
 unfolding lowerEntry swapped
 lower-stepped m x m₁ n k p h e f = matrix-ext n n _ _ (λ i j a b. go i j a b (decLt i k) (ℕ-discrete i k))
   where
@@ -52,6 +50,7 @@ module _ (n : ℕ) (f : ℕ → Stage) (k : ℕ) {m s : List Float} {b : Pivot} 
   unfolding pivotProduct
   product-more p q = rw (add-one, p, q, best, ← here)
 
-pub lowered-more : (n : ℕ) (t : Stage) (k : ℕ) (m s m₁ s₁ : List Float) (b : Pivot) → stage m s ≡ lowered n t k → b ≡ pivot m s n n k → m₁ ≡ matrix n n (lowerEntry m n k (b .row)) → s₁ ≡ swappedNorms n k (b .row) s → stage m₁ s₁ ≡ lowered n t (k + 1)
+pub lowered-more : (n : ℕ) (t : Stage) (k : ℕ) (m s m₁ s₁ : List Float) (b : Pivot) → stage m s ≡ lowered n t k → b ≡ pivot m s n n k
+    → m₁ ≡ matrix n n (lowerEntry m n k (b .row)) → s₁ ≡ swappedNorms n k (b .row) s → stage m₁ s₁ ≡ lowered n t (k + 1)
 unfolding lowered lower
 lowered-more n t k m s m₁ s₁ b here best p q = rw (add-one, p, q, best, ← here)

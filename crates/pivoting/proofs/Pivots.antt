@@ -68,11 +68,15 @@ consider-abs : (b : Pivot) (s x : Float) (i : ℕ) → abs (b .ratio) ≡ b .rat
 unfolding consider
 consider-abs b s x i p = outer (lt s minScale) refl
   where
-    inner : (t : Bool) → lt s minScale ≡ false → abs (cond t (record { ratio = div (abs x) s; row = i }) b .ratio) ≡ cond t (record { ratio = div (abs x) s; row = i }) b .ratio
+    this : Pivot
+    this = record { ratio = div (abs x) s; row = i }
+
+    inner : (t : Bool) → lt s minScale ≡ false → abs (cond t this b .ratio) ≡ cond t this b .ratio
     inner true e = ap abs (sym (abs-ratio x s e)) ∙ abs-abs (div x s) ∙ abs-ratio x s e
     inner false e = p
 
-    outer : (t : Bool) → lt s minScale ≡ t → abs (cond t b (cond (lt (b .ratio) (div (abs x) s)) (record { ratio = div (abs x) s; row = i }) b) .ratio) ≡ cond t b (cond (lt (b .ratio) (div (abs x) s)) (record { ratio = div (abs x) s; row = i }) b) .ratio
+    outer : (t : Bool) → lt s minScale ≡ t
+        → abs (cond t b (cond (lt (b .ratio) (div (abs x) s)) this b) .ratio) ≡ cond t b (cond (lt (b .ratio) (div (abs x) s)) this b) .ratio
     outer true e = p
     outer false e = inner (lt (b .ratio) (div (abs x) s)) e
 

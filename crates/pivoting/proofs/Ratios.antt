@@ -34,6 +34,13 @@ abs-round s a b =
     let u = b * 2 ^ k in
     abs-units s (nearest (n / u) (compare (n % u * 2) u)) k
 
+-- a / b with a sign: a NaN or an infinity where b is 0
+abs-quotient : (s y z : Bool) (a b : ℕ) → cond y (cond z nan (inf false)) (round binary64 false a b) ≡ abs (cond y (cond z nan (inf s)) (round binary64 s a b))
+unfolding abs
+abs-quotient s true true a b = refl
+abs-quotient s true false a b = refl
+abs-quotient s false z a b = sym (abs-round s a b)
+
 -- |x| / s is |x / s|, for an s without a sign
 abs-div : (x s : Float) → div (abs x) (abs s) ≡ abs (div x (abs s))
 unfolding abs Ieee.div
@@ -43,18 +50,8 @@ abs-div (inf u) (inf t) = refl
 abs-div (inf u) (fin t n d) = refl
 abs-div (fin u m e) nan = refl
 abs-div (fin u m e) (inf t) = refl
-abs-div (fin true m e) (fin t n d) = go (eqb n 0) (eqb m 0)
-  where
-    go : (y z : Bool) → cond y (cond z nan (inf false)) (round binary64 false (m * up e * down d) (n * up d * down e)) ≡ abs (cond y (cond z nan (inf true)) (round binary64 true (m * up e * down d) (n * up d * down e)))
-    go true true = refl
-    go true false = refl
-    go false z = sym (abs-round true (m * up e * down d) (n * up d * down e))
-abs-div (fin false m e) (fin t n d) = go (eqb n 0) (eqb m 0)
-  where
-    go : (y z : Bool) → cond y (cond z nan (inf false)) (round binary64 false (m * up e * down d) (n * up d * down e)) ≡ abs (cond y (cond z nan (inf false)) (round binary64 false (m * up e * down d) (n * up d * down e)))
-    go true true = refl
-    go true false = refl
-    go false z = sym (abs-round false (m * up e * down d) (n * up d * down e))
+abs-div (fin true m e) (fin t n d) = abs-quotient true (eqb n 0) (eqb m 0) (m * up e * down d) (n * up d * down e)
+abs-div (fin false m e) (fin t n d) = abs-quotient false (eqb n 0) (eqb m 0) (m * up e * down d) (n * up d * down e)
 
 -- a negative number is below a positive one
 negative-below : (m n : ℕ) (k d : ℤ) → 0 < n → lt (fin true m k) (fin false n d) ≡ true

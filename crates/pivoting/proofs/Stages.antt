@@ -19,7 +19,8 @@ use Rattle.pivoting.specs.Pivot.{pivot, taken, swapped, swappedNorms, St
 use Rattle.pivoting.specs.Solve.{stepEntry, column, reduced}
 
 -- the divided pivot row x, and m₁, in which row k stands in place p, make the step
-pub stepped : (m x m₁ : List Float) (n w k p : ℕ) → k < w → x ≡ tabulate w (λ j. div (at m w p j) (at m w p k)) → m₁ ≡ matrix n w (λ i j. at m w (cond (eqb i p) k i) j) → matrix n w (λ i j. cond (eqb i k) (nth x j) (sub (at m₁ w i j) (mul (at m₁ w i k) (nth x j)))) ≡ matrix n w (stepEntry m w k p)
+pub stepped : (m x m₁ : List Float) (n w k p : ℕ) → k < w → x ≡ tabulate w (λ j. div (at m w p j) (at m w p k)) → m₁ ≡ matrix n w (λ i j. at m w (cond (eqb i p) k i) j)
+    → matrix n w (λ i j. cond (eqb i k) (nth x j) (sub (at m₁ w i j) (mul (at m₁ w i k) (nth x j)))) ≡ matrix n w (stepEntry m w k p)
 unfolding stepEntry swapped
 stepped m x m₁ n w k p h e f = matrix-ext n w _ _ (λ i j a b. go i j a b (ℕ-discrete i k))
   where
@@ -34,7 +35,8 @@ stepped m x m₁ n w k p h e f = matrix-ext n w _ _ (λ i j a b. go i j a b (ℕ
     go i j a b (no s) = rw (ne-eqb i k s, divided j b, other i j a b, other i k a h)
 
 -- the step with the pivot's row, and the norms that change places, make the column
-pub columned : (m s m₁ s₁ : List Float) (n w k : ℕ) (b : Pivot) → b ≡ pivot m s n w k → m₁ ≡ matrix n w (stepEntry m w k (b .row)) → s₁ ≡ swappedNorms n k (b .row) s → stage m₁ s₁ ≡ column n w k (stage m s)
+pub columned : (m s m₁ s₁ : List Float) (n w k : ℕ) (b : Pivot) → b ≡ pivot m s n w k → m₁ ≡ matrix n w (stepEntry m w k (b .row)) → s₁ ≡ swappedNorms n k (b .row) s
+    → stage m₁ s₁ ≡ column n w k (stage m s)
 unfolding column
 columned m s m₁ s₁ n w k b e f g = rw (f, g, e)
 

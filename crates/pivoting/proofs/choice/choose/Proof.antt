@@ -17,29 +17,25 @@ abbrev μ-loop : tie.MeasureT-loop
 loop-holds : tie.Need-loop-holds Inv-loop μ-loop
 loop-holds c = (omega arith, omega arith, best-none _ _ _ _)
 
-mul-consider : tie.Need-mul-consider Inv-loop μ-loop
-mul-consider c = omega arith
-
-shared-slice-read-consider : tie.Need-shared-slice-read-consider Inv-loop μ-loop
-shared-slice-read-consider c = omega arith
-
 entry-requires : tie.Need-entry-requires Inv-loop μ-loop
-entry-requires c κs = omega (arith, cell (c .before .before .before .before .before .args .n) (c .before .before .before .before .before .args .w) {i = c .before .before .loop .i} {j = c .before .before .before .before .before .args .k} (omega arith) (omega arith))
+entry-requires c κs =
+    let at-loop = c .before .before in
+    let start = at-loop .before .before .before in
+    omega (arith, cell (start .args .n) (start .args .w) {i = at-loop .loop .i} {j = start .args .k} (omega arith) (omega arith))
 
 consider-requires : tie.Need-consider-requires Inv-loop μ-loop
 consider-requires c κs = best-abs _ _ _ _ _ (c .before .before .before .loop .inv .2)
 
-add-i : tie.Need-add-i Inv-loop μ-loop
-add-i c = omega arith
-
-loop-less : tie.Need-loop-less Inv-loop μ-loop
-loop-less c = omega arith
-
 loop-again : tie.Need-loop-again Inv-loop μ-loop
-loop-again c = (omega arith, omega arith, best-more _ _ _ _ _ (c .before .before .before .before .loop .inv .0) (c .before .before .before .before .loop .inv .2) (c .before .entry .ensures) (c .consider .ensures))
+loop-again c =
+    let at-loop = c .before .before .before .before in
+    (omega arith, omega arith, best-more _ _ _ _ _ (at-loop .loop .inv .0) (at-loop .loop .inv .2) (c .before .entry .ensures) (c .consider .ensures))
 
 returns : tie.Need-returns Inv-loop μ-loop
 returns c = best-all _ _ _ _ (c .before .loop .inv .1) (c .loop-test .left) (c .before .loop .inv .2)
 
 pub choose-spec : {M : Type 1} → statement M
-choose-spec = tie.close (tie.spec Inv-loop μ-loop loop-holds mul-consider shared-slice-read-consider entry-requires consider-requires add-i loop-less loop-again returns)
+choose-spec =
+    tie.close
+    (tie.spec Inv-loop μ-loop loop-holds (λ c. omega arith) (λ c. omega arith) entry-requires consider-requires (λ c. omega arith) (λ c. omega arith) loop-again
+    returns)

@@ -14,23 +14,34 @@ returns c = rw (c .if1 .taken)
 returns-2 : tie.Need-returns-2
 unfolding consider
 returns-2 c =
-    let b = c .before .before .before .args .best in
-    let y = div (c .before .before .before .args .x) (c .before .before .before .args .s) in
-    rw (c .before .before .if1 .left, ← (abs-ratio (c .before .before .before .args .x) (c .before .before .before .args .s) (c .before .before .if1 .left))) (first (λ (q : Float). record { ratio = q; row = c .before .before .before .args .i }) b (b .ratio) y (c .before .before .before .pre) (c .if2 .taken))
+    let else1 = c .before .before in
+    let start = else1 .before in
+    let b = start .args .best in
+    let y = div (start .args .x) (start .args .s) in
+    rw (else1 .if1 .left, ← (abs-ratio (start .args .x) (start .args .s) (else1 .if1 .left)))
+    (first (λ (q : Float). record { ratio = q; row = start .args .i }) b (b .ratio) y (start .pre) (c .if2 .taken))
 
 returns-3 : tie.Need-returns-3
 unfolding consider
 returns-3 c =
-    let b = c .before .before .before .before .before .args .best in
-    let y = div (c .before .before .before .before .before .args .x) (c .before .before .before .before .before .args .s) in
-    rw (c .before .before .before .before .if1 .left, ← (abs-ratio (c .before .before .before .before .before .args .x) (c .before .before .before .before .before .args .s) (c .before .before .before .before .if1 .left))) (second (λ (q : Float). record { ratio = q; row = c .before .before .before .before .before .args .i }) b (b .ratio) y (c .before .before .before .before .before .pre) (c .before .before .if2 .left) (c .if3 .taken))
+    let else2 = c .before .before in
+    let else1 = else2 .before .before in
+    let start = else1 .before in
+    let b = start .args .best in
+    let y = div (start .args .x) (start .args .s) in
+    rw (else1 .if1 .left, ← (abs-ratio (start .args .x) (start .args .s) (else1 .if1 .left)))
+    (second (λ (q : Float). record { ratio = q; row = start .args .i }) b (b .ratio) y (start .pre) (else2 .if2 .left) (c .if3 .taken))
 
 returns-4 : tie.Need-returns-4
 unfolding consider
 returns-4 c =
-    let b = c .before .before .before .before .before .args .best in
-    let y = div (c .before .before .before .before .before .args .x) (c .before .before .before .before .before .args .s) in
-    rw (c .before .before .before .before .if1 .left, ← (abs-ratio (c .before .before .before .before .before .args .x) (c .before .before .before .before .before .args .s) (c .before .before .before .before .if1 .left))) (third (λ (q : Float). record { ratio = q; row = c .before .before .before .before .before .args .i }) b (b .ratio) y (c .before .before .before .before .before .pre) (c .before .before .if2 .left) (c .if3 .left))
+    let else2 = c .before .before in
+    let else1 = else2 .before .before in
+    let start = else1 .before in
+    let b = start .args .best in
+    let y = div (start .args .x) (start .args .s) in
+    rw (else1 .if1 .left, ← (abs-ratio (start .args .x) (start .args .s) (else1 .if1 .left)))
+    (third (λ (q : Float). record { ratio = q; row = start .args .i }) b (b .ratio) y (start .pre) (else2 .if2 .left) (c .if3 .left))
 
 pub consider-spec : {M : Type 1} → statement M
 consider-spec = tie.close (tie.spec returns returns-2 returns-3 returns-4)

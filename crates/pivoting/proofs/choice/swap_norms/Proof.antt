@@ -31,35 +31,11 @@ stores s n k p h l e = by-entries n _ _ (simp length-set e) (λ i q. go i q (ℕ
     go i q (no u) (yes v) = rw (ne-eqb i k u, eq-eqb i p v, v, getD-set-same once p (nth s k) nan (omega (arith, size)))
     go i q (no u) (no v) = getD-set-other once p i (nth s k) nan v ∙ getD-set-other s k i (nth s p) nan u ∙ rw (ne-eqb i k u, ne-eqb i p v)
 
-mul-x : tie.Need-mul-x
-mul-x c = search needs
-
-slice-read-x : tie.Need-slice-read-x
-slice-read-x c = search needs
-
-mul-s : tie.Need-mul-s
-mul-s c = search needs
-
-slice-read-s : tie.Need-slice-read-s
-slice-read-s c = search needs
-
-mul-s-2 : tie.Need-mul-s-2
-mul-s-2 c = search needs
-
-slice-write-s : tie.Need-slice-write-s
-slice-write-s c = search needs
-
-mul-s-3 : tie.Need-mul-s-3
-mul-s-3 c = search needs
-
-slice-write-s-2 : tie.Need-slice-write-s-2
-slice-write-s-2 c = search needs
-
-same-length : tie.Need-same-length
-same-length c = search needs
-
 returns : tie.Need-returns
 returns c = stores (c .before .before .args .s .now) _ _ _ (c .before .before .pre .0) (c .before .before .pre .1) (c .before .before .pre .2)
 
 pub swap-norms-spec : {M : Type 1} → statement M
-swap-norms-spec = tie.close (tie.spec mul-x slice-read-x mul-s slice-read-s mul-s-2 slice-write-s mul-s-3 slice-write-s-2 same-length returns)
+swap-norms-spec =
+    tie.close
+    (tie.spec (λ c. search needs) (λ c. search needs) (λ c. search needs) (λ c. search needs) (λ c. search needs) (λ c. search needs) (λ c. search needs)
+    (λ c. search needs) (λ c. search needs) returns)

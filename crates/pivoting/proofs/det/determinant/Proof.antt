@@ -15,23 +15,31 @@ array-borrow-prefix-m c = omega (arith, square-size (c .before .args .n) (c .bef
 slice-aggregate-determinant-in : tie.Need-slice-aggregate-determinant-in
 slice-aggregate-determinant-in c = sym (length-take-le _ _ (omega (arith, square-size (c .before .before .args .n) (c .before .before .pre .0))))
 
-array-borrow-prefix-s : tie.Need-array-borrow-prefix-s
-array-borrow-prefix-s c = omega arith
-
 slice-aggregate-determinant-in-2 : tie.Need-slice-aggregate-determinant-in-2
-slice-aggregate-determinant-in-2 c = sym (length-take-le _ _ (omega (arith, square-size (c .before .before .before .args .n) (c .before .before .before .pre .0))))
-
-array-borrow-prefix-x : tie.Need-array-borrow-prefix-x
-array-borrow-prefix-x c = omega arith
+slice-aggregate-determinant-in-2 c =
+    let start = c .before .before .before in
+    sym (length-take-le _ _ (omega (arith, square-size (start .args .n) (start .pre .0))))
 
 slice-aggregate-determinant-in-3 : tie.Need-slice-aggregate-determinant-in-3
-slice-aggregate-determinant-in-3 c = sym (length-take-le _ _ (omega (arith, square-size (c .before .before .before .before .args .n) (c .before .before .before .before .pre .0))))
+slice-aggregate-determinant-in-3 c =
+    let start = c .before .before .before .before in
+    sym (length-take-le _ _ (omega (arith, square-size (start .args .n) (start .pre .0))))
 
 determinant-in-requires : tie.Need-determinant-in-requires
-determinant-in-requires c κs = (refl, c .before .before .before .before .pre .1, length-take-le _ _ (omega (arith, square-size (c .before .before .before .before .args .n) (c .before .before .before .before .pre .0))), length-take-le _ _ (omega (arith, square-size (c .before .before .before .before .args .n) (c .before .before .before .before .pre .0))), length-take-le _ _ (omega (arith, square-size (c .before .before .before .before .args .n) (c .before .before .before .before .pre .0))))
+determinant-in-requires c κs =
+    let start = c .before .before .before .before in (
+      refl,
+      start .pre .1,
+      length-take-le _ _ (omega (arith, square-size (start .args .n) (start .pre .0))),
+      length-take-le _ _ (omega (arith, square-size (start .args .n) (start .pre .0))),
+      length-take-le _ _ (omega (arith, square-size (start .args .n) (start .pre .0))),
+    )
 
 returns : tie.Need-returns
 returns c = c .before .before .before .determinant-in .ensures
 
 pub determinant-spec : {M : Type 1} → statement M
-determinant-spec = tie.close (tie.spec mul-size array-borrow-prefix-m slice-aggregate-determinant-in array-borrow-prefix-s slice-aggregate-determinant-in-2 array-borrow-prefix-x slice-aggregate-determinant-in-3 determinant-in-requires returns)
+determinant-spec =
+    tie.close
+    (tie.spec mul-size array-borrow-prefix-m slice-aggregate-determinant-in (λ c. omega arith) slice-aggregate-determinant-in-2 (λ c. omega arith)
+    slice-aggregate-determinant-in-3 determinant-in-requires returns)

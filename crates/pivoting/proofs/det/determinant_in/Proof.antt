@@ -14,40 +14,19 @@ use Rattle.pivoting.proofs.det.determinant_in.Tie as tie
 started : (a m s : List Float) (n : ℕ) → m ≡ a → s ≡ rowNorms a n → product n (lowered n (stage m s)) ≡ product n (lowered n (stage a (rowNorms a n)))
 started a m s n f g = rw (f, g)
 
-row-norms-requires : tie.Need-row-norms-requires
-row-norms-requires c κs = search needs
-
-some-scale-requires : tie.Need-some-scale-requires
-some-scale-requires c κs = search needs
-
-same-length : tie.Need-same-length
-same-length c = search needs
-
 returns : tie.Need-returns
 unfolding determinant
 returns c =
-    let x = c .before .before .before .before .before .before .before .before .before .before .before .args in
-    rw (unmet (c .before .some-scale .ensures ∙ ap (someScale (x .n)) (c .before .before .before .before .before .row-norms .ensures)) (c .if1 .taken))
-
-copy-requires : tie.Need-copy-requires
-copy-requires c κs = search needs
-
-product-requires : tie.Need-product-requires
-product-requires c κs = search needs
-
-same-length-2 : tie.Need-same-length-2
-same-length-2 c = search needs
-
-same-length-3 : tie.Need-same-length-3
-same-length-3 c = search needs
-
-same-length-4 : tie.Need-same-length-4
-same-length-4 c = search needs
+    let after-row-norms = c .before .before .before .before .before in
+    let start = after-row-norms .before .before .before .before .before .before in
+    let x = start .args in
+    rw (unmet (c .before .some-scale .ensures ∙ ap (someScale (x .n)) (after-row-norms .row-norms .ensures)) (c .if1 .taken))
 
 returns-2 : tie.Need-returns-2
 unfolding determinant
 returns-2 c =
-    let reduced = c .before .before .before .before .before .before in
+    let after-product = c .before .before .before .before .before .before in
+    let reduced = after-product in
     let copied = reduced .before .before .before .before .before .before in
     let scaled = copied .before .before in
     let normed = scaled .before .before .before .before .before in
@@ -56,4 +35,7 @@ returns-2 c =
     (reduced .product .ensures ∙ started (x .a .now) _ _ (x .n) (copied .copy .ensures) (normed .row-norms .ensures))
 
 pub determinant-in-spec : {M : Type 1} → statement M
-determinant-in-spec = tie.close (tie.spec row-norms-requires some-scale-requires same-length returns copy-requires product-requires same-length-2 same-length-3 same-length-4 returns-2)
+determinant-in-spec =
+    tie.close
+    (tie.spec (λ c κs. search needs) (λ c κs. search needs) (λ c. search needs) returns (λ c κs. search needs) (λ c κs. search needs) (λ c. search needs)
+    (λ c. search needs) (λ c. search needs) returns-2)

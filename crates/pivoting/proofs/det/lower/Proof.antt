@@ -5,25 +5,14 @@ use borrow.Author.Needs.{needs}
 use Rattle.pivoting.proofs.det.lower.Statement.{statement}
 use Rattle.pivoting.proofs.det.lower.Tie as tie
 
-row-of-requires : tie.Need-row-of-requires
-row-of-requires c κs = search needs
-
-copy-row-requires : tie.Need-copy-row-requires
-copy-row-requires c κs = search needs
-
-lower-rows-requires : tie.Need-lower-rows-requires
-lower-rows-requires c κs = search needs
-
-same-length : tie.Need-same-length
-same-length c = search needs
-
-same-length-2 : tie.Need-same-length-2
-same-length-2 c = search needs
-
 returns : tie.Need-returns
 returns c =
-    let x = c .before .before .before .before .before .before .before .before .before .before .before .before .before .before .before .before .args in
-    c .before .before .lower-rows .ensures ∙ lower-stepped (x .m .now) _ _ _ _ _ (c .before .before .before .before .before .before .before .before .before .before .before .before .before .before .before .before .pre .0) (c .before .before .before .before .before .before .before .before .before .before .before .row-of .ensures) (c .before .before .before .before .before .before .before .copy-row .ensures)
+    let after-lower-rows = c .before .before in
+    let after-copy-row = after-lower-rows .before .before .before .before .before in
+    let after-row-of = after-copy-row .before .before .before .before in
+    let start = after-row-of .before .before .before .before .before in
+    let x = start .args in
+    after-lower-rows .lower-rows .ensures ∙ lower-stepped (x .m .now) _ _ _ _ _ (start .pre .0) (after-row-of .row-of .ensures) (after-copy-row .copy-row .ensures)
 
 pub lower-spec : {M : Type 1} → statement M
-lower-spec = tie.close (tie.spec row-of-requires copy-row-requires lower-rows-requires same-length same-length-2 returns)
+lower-spec = tie.close (tie.spec (λ c κs. search needs) (λ c κs. search needs) (λ c κs. search needs) (λ c. search needs) (λ c. search needs) returns)

@@ -1,25 +1,24 @@
 -- `lower_rows` meets its contract: before turn i the rows above row i are as they shall be, and the others stay.
 use Prim.Native.Nat.{ℕ, _+_, _*_, _-_, _<_, _≤_}
-use mathlib.Core.Bool.{cond}
 use mathlib.Core.List.{List}
 use mathlib.Core.Path.{_≡_, _∙_}
 use borrow.Author.Tests.{lt-ltb, le-ltb}
 use borrow.Rule.Slice.PartMut.{midOf}
-use lib.Dec.{eqb, ltb}
 use lib.Ieee.{Float}
 use lib.ListN.{length}
-use Rattle.kernel.specs.Number.{sub, mul, div}
 use Rattle.dense.specs.Matrix.{nth}
 use Rattle.dense.proofs.Laws.{row-within, length-part, rows-all}
 use Rattle.kernel.proofs.Lists.{tabulate-ext}
 use Rattle.dense.proofs.Matrices.{Rewritten, rewritten-from, rewritten-next, rewritten-more}
+use Rattle.pivoting.specs.Det.{loweredEntry}
 use Rattle.pivoting.proofs.Determinants.{belowEntry}
 use native.Mathlib.Omega.{arith}
 use Rattle.pivoting.proofs.det.lower_rows.Statement.{statement}
 use Rattle.pivoting.proofs.det.lower_rows.Tie as tie
 
 -- what is made of the row that is lent is what is made of the old matrix's row
-same : (x old m : List Float) (n k i j : ℕ) → j < n → k < n → k ≤ i → Rewritten (belowEntry x old n k) n old i m → cond (eqb i k) (nth x j) (cond (ltb k j) (sub (nth (midOf (i * n) (i * n + n - i * n) m) j) (mul (div (nth (midOf (i * n) (i * n + n - i * n) m) k) (nth x k)) (nth x j))) (nth (midOf (i * n) (i * n + n - i * n) m) j)) ≡ belowEntry x old n k i j
+same : (x old m : List Float) (n k i j : ℕ) → j < n → k < n → k ≤ i → Rewritten (belowEntry x old n k) n old i m
+    → loweredEntry (nth x) (nth (midOf (i * n) (i * n + n - i * n) m)) k i j ≡ belowEntry x old n k i j
 same x old m n k i j h l b r = rw (le-ltb i k b, rewritten-next (belowEntry x old n k) n i j {l = m} h r, rewritten-next (belowEntry x old n k) n i k {l = m} l r)
 
 abbrev Inv-loop : tie.InvT-loop
@@ -34,7 +33,8 @@ within c = omega (arith, row-within (c .before .before .before .before .args .n)
 
 loop-holds : tie.Need-loop-holds Inv-loop μ-loop
 loop-holds c =
-    let x = c .before .before .args in
+    let start = c .before .before in
+    let x = start .args in
     (omega arith, omega arith, rewritten-from _ (x .n) (x .k) (x .m .now) (omega (arith, row-within (x .n) (x .n) {i = x .k} (omega arith))) (λ a j h l. rw (lt-ltb a (x .k) h)))
 
 mul-start : tie.Need-mul-start Inv-loop μ-loop
@@ -46,29 +46,29 @@ add-lower-row c = omega (arith, within c)
 mul-lower-row : tie.Need-mul-lower-row Inv-loop μ-loop
 mul-lower-row c = omega (arith, within c)
 
-sub-lower-row : tie.Need-sub-lower-row Inv-loop μ-loop
-sub-lower-row c = omega arith
-
-part-lower-row-start : tie.Need-part-lower-row-start Inv-loop μ-loop
-part-lower-row-start c = omega arith
-
 part-lower-row-end : tie.Need-part-lower-row-end Inv-loop μ-loop
 part-lower-row-end c = omega (arith, within c)
 
 lower-row-requires : tie.Need-lower-row-requires Inv-loop μ-loop
-lower-row-requires c κs = (omega arith, omega arith, length-part (c .before .before .loop .m) (c .before .before .before .before .before .args .n) (c .before .before .loop .i) (within (c .before)))
-
-add-i : tie.Need-add-i Inv-loop μ-loop
-add-i c = omega arith
-
-loop-less : tie.Need-loop-less Inv-loop μ-loop
-loop-less c = omega arith
+lower-row-requires c κs =
+    let at-loop = c .before .before in
+    let start = at-loop .before .before .before in
+    (omega arith, omega arith, length-part (at-loop .loop .m) (start .args .n) (at-loop .loop .i) (within (c .before)))
 
 loop-again : tie.Need-loop-again Inv-loop μ-loop
 loop-again c =
-    let turn = c .before .before .before .before .before .loop in
-    let x = c .before .before .before .before .before .before .before .before .args in
-    (omega arith, omega arith, rewritten-more _ (x .n) (turn .i) (within (c .before .before .before .before)) (c .before .before .lower-row .ensures ∙ tabulate-ext (x .n) _ _ (λ j h. same (x .x .now) (x .m .now) (turn .m) (x .n) (x .k) (turn .i) j h (c .before .before .before .before .before .before .before .before .pre .0) (turn .inv .0) (turn .inv .2))) (turn .inv .2))
+    let after-lower-row = c .before .before in
+    let in-loop = after-lower-row .before .before in
+    let at-loop = in-loop .before in
+    let start = at-loop .before .before .before in
+    let turn = at-loop .loop in
+    let x = start .args in (
+      omega arith,
+      omega arith,
+      rewritten-more _ (x .n) (turn .i) (within (in-loop))
+          (after-lower-row .lower-row .ensures ∙ tabulate-ext (x .n) _ _ (λ j h. same (x .x .now) (x .m .now) (turn .m) (x .n) (x .k) (turn .i) j h (start .pre .0) (turn .inv .0) (turn .inv .2)))
+          (turn .inv .2),
+    )
 
 same-length : tie.Need-same-length Inv-loop μ-loop
 same-length c = c .before .loop .inv .2 .rows .size
@@ -77,4 +77,7 @@ returns : tie.Need-returns Inv-loop μ-loop
 returns c = rows-all _ _ _ (c .before .before .before .before .pre .2) (c .before .loop .inv .1) (c .loop-test .left) (c .before .loop .inv .2 .rows)
 
 pub lower-rows-spec : {M : Type 1} → statement M
-lower-rows-spec = tie.close (tie.spec Inv-loop μ-loop loop-holds mul-start add-lower-row mul-lower-row sub-lower-row part-lower-row-start part-lower-row-end lower-row-requires add-i loop-less loop-again same-length returns)
+lower-rows-spec =
+    tie.close
+    (tie.spec Inv-loop μ-loop loop-holds mul-start add-lower-row mul-lower-row (λ c. omega arith) (λ c. omega arith) part-lower-row-end lower-row-requires
+    (λ c. omega arith) (λ c. omega arith) loop-again same-length returns)

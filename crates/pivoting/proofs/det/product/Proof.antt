@@ -28,62 +28,89 @@ loop-holds : tie.Need-loop-holds Inv-loop μ-loop
 unfolding pivoted lowered swapSign pivotProduct
 loop-holds c = (omega arith, refl, refl, refl, refl, refl, refl, refl)
 
-choose-requires : tie.Need-choose-requires Inv-loop μ-loop
-choose-requires c κs = omega arith
-
-is-taken-requires : tie.Need-is-taken-requires Inv-loop μ-loop
-is-taken-requires c κs = search needs
-
 same-length : tie.Need-same-length Inv-loop μ-loop
-same-length c = c .before .before .before .before .before .before .loop .inv .1
+same-length c =
+    let at-loop = c .before .before .before .before .before .before in
+    at-loop .loop .inv .1
 
 same-length-2 : tie.Need-same-length-2 Inv-loop μ-loop
-same-length-2 c = c .before .before .before .before .before .before .loop .inv .2
+same-length-2 c =
+    let at-loop = c .before .before .before .before .before .before in
+    at-loop .loop .inv .2
 
 same-length-3 : tie.Need-same-length-3 Inv-loop μ-loop
-same-length-3 c = c .before .before .before .before .before .before .loop .inv .3
+same-length-3 c =
+    let at-loop = c .before .before .before .before .before .before in
+    at-loop .loop .inv .3
 
 returns : tie.Need-returns Inv-loop μ-loop
 unfolding product
 returns c =
-    let turn = c .before .before .before .before .before .before .loop in
-    let x = c .before .before .before .before .before .before .before .before .before .before .args in
-    rw (pivoted-never _ _ (lowered (x .n) (stage (x .m .now) (x .s .now))) (turn .k) (c .before .before .before .before .before .loop-test .taken) (turn .inv .4) (turn .inv .5) (c .before .is-taken .ensures ∙ ap taken (c .before .before .choose .ensures)) (not-true _ (c .if1 .taken)))
-
-flipped-requires : tie.Need-flipped-requires Inv-loop μ-loop
-flipped-requires c κs = search needs
+    let after-choose = c .before .before in
+    let in-loop = after-choose .before .before .before in
+    let at-loop = in-loop .before in
+    let start = at-loop .before .before .before .before in
+    let turn = at-loop .loop in
+    let x = start .args in
+    rw
+    (pivoted-never _ _ (lowered (x .n) (stage (x .m .now) (x .s .now))) (turn .k) (in-loop .loop-test .taken) (turn .inv .4) (turn .inv .5)
+    (c .before .is-taken .ensures ∙ ap taken (after-choose .choose .ensures)) (not-true _ (c .if1 .taken)))
 
 entry-requires : tie.Need-entry-requires Inv-loop μ-loop
 entry-requires c κs =
-    let turn = c .before .before .before .before .before .before .before .before .loop in
-    let x = c .before .before .before .before .before .before .before .before .before .before .before .before .args in
-    let h = pivot-row (turn .m) (turn .s) (x .n) (x .n) (turn .k) (c .before .before .before .before .before .before .before .loop-test .taken) (c .before .before .before .before .choose .ensures) in
-    omega (arith, cell (x .n) (x .n) {i = c .before .before .before .before .choose .result .row} {j = turn .k} h (c .before .before .before .before .before .before .before .loop-test .taken))
+    let after-choose = c .before .before .before .before in
+    let in-loop = after-choose .before .before .before in
+    let at-loop = in-loop .before in
+    let start = at-loop .before .before .before .before in
+    let turn = at-loop .loop in
+    let x = start .args in
+    let h = pivot-row (turn .m) (turn .s) (x .n) (x .n) (turn .k) (in-loop .loop-test .taken) (after-choose .choose .ensures) in
+    omega (arith, cell (x .n) (x .n) {i = after-choose .choose .result .row} {j = turn .k} h (in-loop .loop-test .taken))
 
 swap-norms-requires : tie.Need-swap-norms-requires Inv-loop μ-loop
 swap-norms-requires c κs =
-    let turn = c .before .before .before .before .before .before .before .before .before .before .loop in
-    let x = c .before .before .before .before .before .before .before .before .before .before .before .before .before .before .args in
-    (c .before .before .before .before .before .before .before .before .before .loop-test .taken, pivot-row (turn .m) (turn .s) (x .n) (x .n) (turn .k) (c .before .before .before .before .before .before .before .before .before .loop-test .taken) (c .before .before .before .before .before .before .choose .ensures), omega arith)
+    let after-choose = c .before .before .before .before .before .before in
+    let in-loop = after-choose .before .before .before in
+    let at-loop = in-loop .before in
+    let start = at-loop .before .before .before .before in
+    let turn = at-loop .loop in
+    let x = start .args in
+    (in-loop .loop-test .taken, pivot-row (turn .m) (turn .s) (x .n) (x .n) (turn .k) (in-loop .loop-test .taken) (after-choose .choose .ensures), omega arith)
 
 lower-requires : tie.Need-lower-requires Inv-loop μ-loop
 lower-requires c κs =
-    let turn = c .before .before .before .before .before .before .before .before .before .before .before .before .before .before .before .loop in
-    let x = c .before .before .before .before .before .before .before .before .before .before .before .before .before .before .before .before .before .before .before .args in
-    (c .before .before .before .before .before .before .before .before .before .before .before .before .before .before .loop-test .taken, pivot-row (turn .m) (turn .s) (x .n) (x .n) (turn .k) (c .before .before .before .before .before .before .before .before .before .before .before .before .before .before .loop-test .taken) (c .before .before .before .before .before .before .before .before .before .before .before .choose .ensures), omega arith, omega arith)
-
-add-k : tie.Need-add-k Inv-loop μ-loop
-add-k c = omega arith
-
-loop-less : tie.Need-loop-less Inv-loop μ-loop
-loop-less c = omega arith
+    let after-choose = c .before .before .before .before .before .before .before .before .before .before .before in
+    let in-loop = after-choose .before .before .before in
+    let at-loop = in-loop .before in
+    let start = at-loop .before .before .before .before in
+    let turn = at-loop .loop in
+    let x = start .args in
+    (in-loop .loop-test .taken, pivot-row (turn .m) (turn .s) (x .n) (x .n) (turn .k) (in-loop .loop-test .taken) (after-choose .choose .ensures), omega arith, omega arith)
 
 loop-again : tie.Need-loop-again Inv-loop μ-loop
 loop-again c =
-    let turn = c .before .before .before .before .before .before .before .before .before .before .before .before .before .before .before .before .before .before .before .before .loop in
-    let x = c .before .before .before .before .before .before .before .before .before .before .before .before .before .before .before .before .before .before .before .before .before .before .before .before .args in
-    let f = lowered (x .n) (stage (x .m .now) (x .s .now)) in
-    (omega arith, c .before .before .before .before .lower .kept .0 ∙ turn .inv .1, c .before .before .before .before .before .before .before .before .before .swap-norms .kept .0 ∙ turn .inv .2, c .before .before .before .before .lower .kept .1 .0 ∙ turn .inv .3, sym (pivoted-more _ _ f (turn .k) (turn .inv .4) (turn .inv .5) (c .before .before .before .before .before .before .before .before .before .before .before .before .before .before .before .is-taken .ensures ∙ ap taken (c .before .before .before .before .before .before .before .before .before .before .before .before .before .before .before .before .choose .ensures))) ∙ not-false _ (c .before .before .before .before .before .before .before .before .before .before .before .before .before .before .if1 .left), lowered-more _ _ (turn .k) _ _ _ _ _ (turn .inv .5) (c .before .before .before .before .before .before .before .before .before .before .before .before .before .before .before .before .choose .ensures) (c .before .before .before .before .lower .ensures) (c .before .before .before .before .before .before .before .before .before .swap-norms .ensures), sign-more _ f (turn .k) (turn .inv .5) (c .before .before .before .before .before .before .before .before .before .before .before .before .before .before .before .before .choose .ensures) (turn .inv .6) (c .before .before .before .before .before .before .before .before .before .before .before .before .before .flipped .ensures), product-more _ f (turn .k) (turn .inv .5) (c .before .before .before .before .before .before .before .before .before .before .before .before .before .before .before .before .choose .ensures) (turn .inv .7) (c .before .before .before .before .before .before .before .before .before .before .before .entry .ensures))
+    let after-lower = c .before .before .before .before in
+    let after-swap-norms = after-lower .before .before .before .before .before in
+    let after-entry = after-swap-norms .before .before in
+    let after-flipped = after-entry .before .before in
+    let else1 = after-flipped .before in
+    let after-is-taken = else1 .before in
+    let after-choose = after-is-taken .before in
+    let in-loop = after-choose .before .before .before in
+    let at-loop = in-loop .before in
+    let start = at-loop .before .before .before .before in
+    let turn = at-loop .loop in
+    let x = start .args in
+    let f = lowered (x .n) (stage (x .m .now) (x .s .now)) in (
+      omega (arith, in-loop .loop-test .taken),
+      after-lower .lower .kept .0 ∙ turn .inv .1,
+      after-swap-norms .swap-norms .kept .0 ∙ turn .inv .2,
+      after-lower .lower .kept .1 .0 ∙ turn .inv .3,
+      sym (pivoted-more _ _ f (turn .k) (turn .inv .4) (turn .inv .5) (after-is-taken .is-taken .ensures ∙ ap taken (after-choose .choose .ensures))) ∙ not-false _ (else1 .if1 .left),
+      lowered-more _ _ (turn .k) _ _ _ _ _ (turn .inv .5) (after-choose .choose .ensures) (after-lower .lower .ensures) (after-swap-norms .swap-norms .ensures),
+      sign-more _ f (turn .k) (turn .inv .5) (after-choose .choose .ensures) (turn .inv .6) (after-flipped .flipped .ensures),
+      product-more _ f (turn .k) (turn .inv .5) (after-choose .choose .ensures) (turn .inv .7) (after-entry .entry .ensures),
+    )
 
 same-length-4 : tie.Need-same-length-4 Inv-loop μ-loop
 same-length-4 c = c .before .loop .inv .1
@@ -104,4 +131,7 @@ returns-2 c =
     rw (sym (ap (pivoted (x .n) (x .n) f) e) ∙ turn .inv .4, turn .inv .6 ∙ ap (swapSign (x .n) f) e, turn .inv .7 ∙ ap (pivotProduct (x .n) f) e)
 
 pub product-spec : {M : Type 1} → statement M
-product-spec = tie.close (tie.spec Inv-loop μ-loop loop-holds choose-requires is-taken-requires same-length same-length-2 same-length-3 returns flipped-requires entry-requires swap-norms-requires lower-requires add-k loop-less loop-again same-length-4 same-length-5 same-length-6 returns-2)
+product-spec =
+    tie.close
+    (tie.spec Inv-loop μ-loop loop-holds (λ c κs. omega arith) (λ c κs. search needs) same-length same-length-2 same-length-3 returns (λ c κs. search needs)
+    entry-requires swap-norms-requires lower-requires (λ c. omega arith) (λ c. omega arith) loop-again same-length-4 same-length-5 same-length-6 returns-2)

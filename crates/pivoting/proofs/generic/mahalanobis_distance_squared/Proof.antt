@@ -18,7 +18,9 @@ is-distance-requires c κs =
 
 returns-2 : tie.Need-returns-2
 unfolding mahalanobis
-returns-2 c = let sided = c .before .before in rw (met (sided .before .is-side .ensures) (sided .if1 .left), unmet (c .before .is-distance .ensures) (c .if2 .taken))
+returns-2 c =
+    let else1 = c .before .before in
+    let sided = else1 in rw (met (sided .before .is-side .ensures) (sided .if1 .left), unmet (c .before .is-distance .ensures) (c .if2 .taken))
 
 distance-requires : tie.Need-distance-requires
 distance-requires c κs =

@@ -7,9 +7,6 @@ use borrow.Author.Needs.{needs}
 use Rattle.pivoting.proofs.generic.mat_det.Statement.{statement}
 use Rattle.pivoting.proofs.generic.mat_det.Tie as tie
 
-is-side-requires : tie.Need-is-side-requires
-is-side-requires c κs = search needs
-
 returns : tie.Need-returns
 unfolding matDet
 returns c = rw (unmet (c .before .is-side .ensures) (c .if1 .taken))
@@ -26,12 +23,19 @@ returns-2 c = rw (met (c .before .before .before .is-side .ensures) (c .before .
 
 determinant-requires : tie.Need-determinant-requires
 determinant-requires c κs =
-    let x = c .before .before .before .before .before .args in
-    (side-high (x .n) (met (c .before .before .before .is-side .ensures) (c .before .before .if1 .left)), long-length (x .a .now) (x .n * x .n) (met (c .before .is-matrix .ensures) (c .if2 .left)))
+    let else1 = c .before .before in
+    let after-is-side = else1 .before in
+    let start = after-is-side .before .before in
+    let x = start .args in
+    (side-high (x .n) (met (after-is-side .is-side .ensures) (else1 .if1 .left)), long-length (x .a .now) (x .n * x .n) (met (c .before .is-matrix .ensures) (c .if2 .left)))
 
 returns-3 : tie.Need-returns-3
 unfolding matDet
-returns-3 c = rw (met (c .before .before .before .before .is-side .ensures) (c .before .before .before .if1 .left), met (c .before .before .is-matrix .ensures) (c .before .if2 .left)) (value (c .determinant .ensures))
+returns-3 c =
+    let after-is-matrix = c .before .before in
+    let else1 = after-is-matrix .before in
+    let after-is-side = else1 .before in
+    rw (met (after-is-side .is-side .ensures) (else1 .if1 .left), met (after-is-matrix .is-matrix .ensures) (c .before .if2 .left)) (value (c .determinant .ensures))
 
 pub mat-det-spec : {M : Type 1} → statement M
-mat-det-spec = tie.close (tie.spec is-side-requires returns is-matrix-requires returns-2 determinant-requires returns-3)
+mat-det-spec = tie.close (tie.spec (λ c κs. search needs) returns is-matrix-requires returns-2 determinant-requires returns-3)

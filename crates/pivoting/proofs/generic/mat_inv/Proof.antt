@@ -15,7 +15,9 @@ are-matrices-requires c κs = two-squares (c .before .before .before .before .be
 
 returns-2 : tie.Need-returns-2
 unfolding matInv
-returns-2 c = let sided = c .before .before .before in rw (met (sided .before .is-side .ensures) (sided .if1 .left), unmet (c .before .are-matrices .ensures) (c .if2 .taken))
+returns-2 c =
+    let else1 = c .before .before .before in
+    let sided = else1 in rw (met (sided .before .is-side .ensures) (sided .if1 .left), unmet (c .before .are-matrices .ensures) (c .if2 .taken))
 
 inverse-requires : tie.Need-inverse-requires
 inverse-requires c κs =
@@ -28,11 +30,14 @@ inverse-requires c κs =
 returns-3 : tie.Need-returns-3
 unfolding matInv
 returns-3 c =
-    let shaped = c .before .before .before .before in
+    let after-inverse = c .before .before in
+    let else2 = after-inverse .before .before in
+    let shaped = else2 in
     let sided = shaped .before .before .before in
-    rw (met (sided .before .is-side .ensures) (sided .if1 .left), met (shaped .before .are-matrices .ensures) (shaped .if2 .left)) (c .before .before .inverse .ensures)
+    rw (met (sided .before .is-side .ensures) (sided .if1 .left), met (shaped .before .are-matrices .ensures) (shaped .if2 .left)) (after-inverse .inverse .ensures)
 
 pub mat-inv-spec : {M : Type 1} → statement M
 mat-inv-spec =
     tie.close
-    (tie.spec (λ c κs. search needs) returns are-matrices-requires (λ c. search needs) returns-2 inverse-requires (λ c. c .before .before .inverse .kept .1 .1 .0) returns-3)
+    (tie.spec (λ c κs. search needs) returns are-matrices-requires (λ c. search needs) returns-2 inverse-requires
+    (λ c. c .before .before .inverse .kept .1 .1 .0) returns-3)

@@ -13,13 +13,17 @@ returns c = rw (unmet (c .before .is-side .ensures) (c .if1 .taken))
 
 is-system-requires : tie.Need-is-system-requires
 is-system-requires c κs =
-    let n = c .before .before .before .before .before .before .args .n in
-    let s = met (c .before .before .is-side .ensures) (c .before .if1 .left) in
+    let after-is-side = c .before .before in
+    let start = after-is-side .before .before .before .before in
+    let n = start .args .n in
+    let s = met (after-is-side .is-side .ensures) (c .before .if1 .left) in
     area n n s s
 
 returns-2 : tie.Need-returns-2
 unfolding matSolve
-returns-2 c = let sided = c .before .before .before in rw (met (sided .before .is-side .ensures) (sided .if1 .left), unmet (c .before .is-system .ensures) (c .if2 .taken))
+returns-2 c =
+    let else1 = c .before .before .before in
+    let sided = else1 in rw (met (sided .before .is-side .ensures) (sided .if1 .left), unmet (c .before .is-system .ensures) (c .if2 .taken))
 
 solve-requires : tie.Need-solve-requires
 solve-requires c κs =
@@ -32,11 +36,14 @@ solve-requires c κs =
 returns-3 : tie.Need-returns-3
 unfolding matSolve
 returns-3 c =
-    let shaped = c .before .before .before .before in
+    let after-solve = c .before .before in
+    let else2 = after-solve .before .before in
+    let shaped = else2 in
     let sided = shaped .before .before .before in
-    rw (met (sided .before .is-side .ensures) (sided .if1 .left), met (shaped .before .is-system .ensures) (shaped .if2 .left)) (c .before .before .solve .ensures)
+    rw (met (sided .before .is-side .ensures) (sided .if1 .left), met (shaped .before .is-system .ensures) (shaped .if2 .left)) (after-solve .solve .ensures)
 
 pub mat-solve-spec : {M : Type 1} → statement M
 mat-solve-spec =
     tie.close
-    (tie.spec (λ c κs. search needs) returns is-system-requires (λ c. search needs) returns-2 solve-requires (λ c. c .before .before .solve .kept .1 .1 .1 .1 .0) returns-3)
+    (tie.spec (λ c κs. search needs) returns is-system-requires (λ c. search needs) returns-2 solve-requires
+    (λ c. c .before .before .solve .kept .1 .1 .1 .1 .0) returns-3)

@@ -3,11 +3,8 @@ use borrow.Author.Needs.{needs}
 use Rattle.pivoting.proofs.norms.or_scale.Statement.{statement}
 use Rattle.pivoting.proofs.norms.or_scale.Tie as tie
 
-returns : tie.Need-returns
-returns c = search needs
-
 returns-2 : tie.Need-returns-2
 returns-2 c = rw (c .if1 .left)
 
 pub or-scale-spec : {M : Type 1} → statement M
-or-scale-spec = tie.close (tie.spec returns returns-2)
+or-scale-spec = tie.close (tie.spec (λ c. search needs) returns-2)

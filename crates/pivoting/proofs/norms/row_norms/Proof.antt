@@ -16,21 +16,6 @@ abbrev μ-loop : tie.MeasureT-loop
 loop-holds : tie.Need-loop-holds Inv-loop μ-loop
 loop-holds c = (omega arith, filled-none _ _)
 
-row-norm-requires : tie.Need-row-norm-requires Inv-loop μ-loop
-row-norm-requires c κs = omega arith
-
-mul-s : tie.Need-mul-s Inv-loop μ-loop
-mul-s c = omega arith
-
-slice-write-s : tie.Need-slice-write-s Inv-loop μ-loop
-slice-write-s c = omega arith
-
-add-i : tie.Need-add-i Inv-loop μ-loop
-add-i c = omega arith
-
-loop-less : tie.Need-loop-less Inv-loop μ-loop
-loop-less c = omega arith
-
 loop-again : tie.Need-loop-again Inv-loop μ-loop
 loop-again c = (omega arith, filled-more _ (c .before .before .loop .i) (omega arith) (c .row-norm .ensures) (c .before .before .loop .inv .1))
 
@@ -41,4 +26,7 @@ returns : tie.Need-returns Inv-loop μ-loop
 returns c = filled-all _ (c .before .before .before .before .pre .1) (c .loop-test .left) (c .before .loop .inv .1)
 
 pub row-norms-spec : {M : Type 1} → statement M
-row-norms-spec = tie.close (tie.spec Inv-loop μ-loop loop-holds row-norm-requires mul-s slice-write-s add-i loop-less loop-again same-length returns)
+row-norms-spec =
+    tie.close
+    (tie.spec Inv-loop μ-loop loop-holds (λ c κs. omega arith) (λ c. omega arith) (λ c. omega arith) (λ c. omega arith) (λ c. omega arith) loop-again
+    same-length returns)

@@ -18,21 +18,6 @@ loop-holds : tie.Need-loop-holds Inv-loop μ-loop
 unfolding someScale
 loop-holds c = (omega arith, refl)
 
-mul-or-scale : tie.Need-mul-or-scale Inv-loop μ-loop
-mul-or-scale c = omega arith
-
-shared-slice-read-or-scale : tie.Need-shared-slice-read-or-scale Inv-loop μ-loop
-shared-slice-read-or-scale c = omega arith
-
-or-scale-requires : tie.Need-or-scale-requires Inv-loop μ-loop
-or-scale-requires c κs = search needs
-
-add-i : tie.Need-add-i Inv-loop μ-loop
-add-i c = omega arith
-
-loop-less : tie.Need-loop-less Inv-loop μ-loop
-loop-less c = omega arith
-
 loop-again : tie.Need-loop-again Inv-loop μ-loop
 loop-again c = (omega arith, some-scale-more _ _ (c .before .before .before .loop .inv .1) (c .or-scale .ensures))
 
@@ -40,4 +25,6 @@ returns : tie.Need-returns Inv-loop μ-loop
 returns c = some-scale-all _ (c .before .loop .inv .0) (c .loop-test .left) (c .before .loop .inv .1)
 
 pub some-scale-spec : {M : Type 1} → statement M
-some-scale-spec = tie.close (tie.spec Inv-loop μ-loop loop-holds mul-or-scale shared-slice-read-or-scale or-scale-requires add-i loop-less loop-again returns)
+some-scale-spec =
+    tie.close
+    (tie.spec Inv-loop μ-loop loop-holds (λ c. omega arith) (λ c. omega arith) (λ c κs. search needs) (λ c. omega arith) (λ c. omega arith) loop-again returns)

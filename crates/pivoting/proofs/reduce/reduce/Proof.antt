@@ -14,7 +14,8 @@ use Rattle.pivoting.proofs.reduce.reduce.Statement.{statement}
 use Rattle.pivoting.proofs.reduce.reduce.Tie as tie
 
 abbrev Inv-loop : tie.InvT-loop
-Inv-loop m₀ s₀ x₀ n w k₀ m s x k = (k ≤ n) × (length m ≡ length m₀) × (length s ≡ length s₀) × (length x ≡ length x₀) × (pivoted n w (reduced n w (stage m₀ s₀)) k ≡ true) × (stage m s ≡ reduced n w (stage m₀ s₀) k)
+Inv-loop m₀ s₀ x₀ n w k₀ m s x k =
+    (k ≤ n) × (length m ≡ length m₀) × (length s ≡ length s₀) × (length x ≡ length x₀) × (pivoted n w (reduced n w (stage m₀ s₀)) k ≡ true) × (stage m s ≡ reduced n w (stage m₀ s₀) k)
 
 abbrev μ-loop : tie.MeasureT-loop
 μ-loop m₀ s₀ x₀ n w k₀ m s x k = n - k
@@ -23,34 +24,45 @@ loop-holds : tie.Need-loop-holds Inv-loop μ-loop
 unfolding pivoted reduced
 loop-holds c = (omega arith, refl, refl, refl, refl, refl)
 
-reduce-column-requires : tie.Need-reduce-column-requires Inv-loop μ-loop
-reduce-column-requires c κs = omega arith
-
 same-length : tie.Need-same-length Inv-loop μ-loop
-same-length c = c .before .before .before .before .before .before .before .reduce-column .kept .0 ∙ c .before .before .before .before .before .before .before .before .before .before .before .before .loop .inv .1
+same-length c =
+    let after-reduce-column = c .before .before .before .before .before .before .before in
+    let at-loop = after-reduce-column .before .before .before .before .before in
+    after-reduce-column .reduce-column .kept .0 ∙ at-loop .loop .inv .1
 
 same-length-2 : tie.Need-same-length-2 Inv-loop μ-loop
-same-length-2 c = c .before .before .before .before .before .before .before .reduce-column .kept .1 .0 ∙ c .before .before .before .before .before .before .before .before .before .before .before .before .loop .inv .2
+same-length-2 c =
+    let after-reduce-column = c .before .before .before .before .before .before .before in
+    let at-loop = after-reduce-column .before .before .before .before .before in
+    after-reduce-column .reduce-column .kept .1 .0 ∙ at-loop .loop .inv .2
 
 same-length-3 : tie.Need-same-length-3 Inv-loop μ-loop
-same-length-3 c = c .before .before .before .before .before .before .before .reduce-column .kept .1 .1 .0 ∙ c .before .before .before .before .before .before .before .before .before .before .before .before .loop .inv .3
+same-length-3 c =
+    let after-reduce-column = c .before .before .before .before .before .before .before in
+    let at-loop = after-reduce-column .before .before .before .before .before in
+    after-reduce-column .reduce-column .kept .1 .1 .0 ∙ at-loop .loop .inv .3
 
 returns : tie.Need-returns Inv-loop μ-loop
 returns c =
-    let turn = c .before .before .before .before .before .before .before .before .before .before .before .before .loop in
-    (sym (pivoted-never _ _ _ (turn .k) (c .before .before .before .before .before .before .before .before .before .before .before .loop-test .taken) (turn .inv .4) (turn .inv .5) (c .before .before .before .before .before .before .before .reduce-column .ensures .0) (not-true _ (c .if1 .taken))), never)
-
-add-k : tie.Need-add-k Inv-loop μ-loop
-add-k c = omega arith
-
-loop-less : tie.Need-loop-less Inv-loop μ-loop
-loop-less c = omega arith
+    let after-reduce-column = c .before .before .before .before .before .before .before in
+    let in-loop = after-reduce-column .before .before .before .before in
+    let at-loop = in-loop .before in
+    let turn = at-loop .loop in
+    (sym (pivoted-never _ _ _ (turn .k) (in-loop .loop-test .taken) (turn .inv .4) (turn .inv .5) (after-reduce-column .reduce-column .ensures .0) (not-true _ (c .if1 .taken))), never)
 
 loop-again : tie.Need-loop-again Inv-loop μ-loop
 loop-again c =
-    let turn = c .before .before .before .before .before .before .before .before .before .before .before .before .loop in
-    let ok : c .before .before .before .before .before .before .before .reduce-column .result ≡ true = not-false _ (c .if1 .left) in
-    (omega arith, c .before .before .before .before .before .before .before .reduce-column .kept .0 ∙ turn .inv .1, c .before .before .before .before .before .before .before .reduce-column .kept .1 .0 ∙ turn .inv .2, c .before .before .before .before .before .before .before .reduce-column .kept .1 .1 .0 ∙ turn .inv .3, sym (pivoted-more _ _ _ (turn .k) (turn .inv .4) (turn .inv .5) (c .before .before .before .before .before .before .before .reduce-column .ensures .0)) ∙ ok, reduced-more _ _ _ _ _ _ (turn .inv .5) (c .before .before .before .before .before .before .before .reduce-column .ensures .1 ok))
+    let after-reduce-column = c .before .before .before .before .before .before .before in
+    let at-loop = after-reduce-column .before .before .before .before .before in
+    let turn = at-loop .loop in
+    let ok : after-reduce-column .reduce-column .result ≡ true = not-false _ (c .if1 .left) in (
+      omega arith,
+      after-reduce-column .reduce-column .kept .0 ∙ turn .inv .1,
+      after-reduce-column .reduce-column .kept .1 .0 ∙ turn .inv .2,
+      after-reduce-column .reduce-column .kept .1 .1 .0 ∙ turn .inv .3,
+      sym (pivoted-more _ _ _ (turn .k) (turn .inv .4) (turn .inv .5) (after-reduce-column .reduce-column .ensures .0)) ∙ ok,
+      reduced-more _ _ _ _ _ _ (turn .inv .5) (after-reduce-column .reduce-column .ensures .1 ok),
+    )
 
 same-length-4 : tie.Need-same-length-4 Inv-loop μ-loop
 same-length-4 c = c .before .loop .inv .1
@@ -70,4 +82,7 @@ returns-2 c =
     (sym (turn .inv .4) ∙ ap (pivoted (x .n) (x .w) f) e, λ q. turn .inv .5 ∙ ap f e)
 
 pub reduce-spec : {M : Type 1} → statement M
-reduce-spec = tie.close (tie.spec Inv-loop μ-loop loop-holds reduce-column-requires same-length same-length-2 same-length-3 returns add-k loop-less loop-again same-length-4 same-length-5 same-length-6 returns-2)
+reduce-spec =
+    tie.close
+    (tie.spec Inv-loop μ-loop loop-holds (λ c κs. omega arith) same-length same-length-2 same-length-3 returns (λ c. omega arith) (λ c. omega arith) loop-again
+    same-length-4 same-length-5 same-length-6 returns-2)

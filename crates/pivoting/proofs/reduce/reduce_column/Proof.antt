@@ -8,42 +8,36 @@ use borrow.Author.Needs.{needs}
 use Rattle.pivoting.proofs.reduce.reduce_column.Statement.{statement}
 use Rattle.pivoting.proofs.reduce.reduce_column.Tie as tie
 
-choose-requires : tie.Need-choose-requires
-choose-requires c κs = search needs
-
-is-taken-requires : tie.Need-is-taken-requires
-is-taken-requires c κs = search needs
-
-same-length : tie.Need-same-length
-same-length c = search needs
-
-same-length-2 : tie.Need-same-length-2
-same-length-2 c = search needs
-
 returns : tie.Need-returns
 returns c = (sym (unmet (c .before .is-taken .ensures ∙ ap taken (c .before .before .choose .ensures)) (c .if1 .taken)), never)
 
 swap-norms-requires : tie.Need-swap-norms-requires
 swap-norms-requires c κs =
-    let x = c .before .before .before .before .before .before .before .before .before .args in
-    (c .before .before .before .before .before .before .before .before .before .pre .0, pivot-row (x .m .now) (x .s .now) (x .n) (x .w) (x .k) (c .before .before .before .before .before .before .before .before .before .pre .0) (c .before .before .before .choose .ensures), c .before .before .before .before .before .before .before .before .before .pre .3)
+    let after-choose = c .before .before .before in
+    let start = after-choose .before .before .before .before .before .before in
+    let x = start .args in
+    (start .pre .0, pivot-row (x .m .now) (x .s .now) (x .n) (x .w) (x .k) (start .pre .0) (after-choose .choose .ensures), start .pre .3)
 
 step-requires : tie.Need-step-requires
 step-requires c κs =
-    let x = c .before .before .before .before .before .before .before .before .before .before .before .before .before .before .args in
-    (c .before .before .before .before .before .before .before .before .before .before .before .before .before .before .pre .0, c .before .before .before .before .before .before .before .before .before .before .before .before .before .before .pre .1, pivot-row (x .m .now) (x .s .now) (x .n) (x .w) (x .k) (c .before .before .before .before .before .before .before .before .before .before .before .before .before .before .pre .0) (c .before .before .before .before .before .before .before .before .choose .ensures), c .before .before .before .before .before .before .before .before .before .before .before .before .before .before .pre .2, c .before .before .before .before .before .before .before .before .before .before .before .before .before .before .pre .4)
-
-same-length-3 : tie.Need-same-length-3
-same-length-3 c = search needs
-
-same-length-4 : tie.Need-same-length-4
-same-length-4 c = search needs
-
-same-length-5 : tie.Need-same-length-5
-same-length-5 c = search needs
+    let after-choose = c .before .before .before .before .before .before .before .before in
+    let start = after-choose .before .before .before .before .before .before in
+    let x = start .args in
+    (start .pre .0, start .pre .1, pivot-row (x .m .now) (x .s .now) (x .n) (x .w) (x .k) (start .pre .0) (after-choose .choose .ensures), start .pre .2, start .pre .4)
 
 returns-2 : tie.Need-returns-2
-returns-2 c = (sym (met (c .before .before .before .before .before .before .before .before .before .before .before .before .is-taken .ensures ∙ ap taken (c .before .before .before .before .before .before .before .before .before .before .before .before .before .choose .ensures)) (c .before .before .before .before .before .before .before .before .before .before .before .if1 .left)), λ e. columned _ _ _ _ _ _ _ _ (c .before .before .before .before .before .before .before .before .before .before .before .before .before .choose .ensures) (c .before .before .before .before .step .ensures) (c .before .before .before .before .before .before .before .before .before .swap-norms .ensures))
+returns-2 c =
+    let after-step = c .before .before .before .before in
+    let after-swap-norms = after-step .before .before .before .before .before in
+    let else1 = after-swap-norms .before .before in
+    let after-is-taken = else1 .before in
+    let after-choose = after-is-taken .before in (
+      sym (met (after-is-taken .is-taken .ensures ∙ ap taken (after-choose .choose .ensures)) (else1 .if1 .left)),
+      λ e. columned _ _ _ _ _ _ _ _ (after-choose .choose .ensures) (after-step .step .ensures) (after-swap-norms .swap-norms .ensures),
+    )
 
 pub reduce-column-spec : {M : Type 1} → statement M
-reduce-column-spec = tie.close (tie.spec choose-requires is-taken-requires same-length same-length-2 returns swap-norms-requires step-requires same-length-3 same-length-4 same-length-5 returns-2)
+reduce-column-spec =
+    tie.close
+    (tie.spec (λ c κs. search needs) (λ c κs. search needs) (λ c. search needs) (λ c. search needs) returns swap-norms-requires step-requires
+    (λ c. search needs) (λ c. search needs) (λ c. search needs) returns-2)

@@ -21,7 +21,8 @@ abbrev reducedEntry : List Float → List Float → ℕ → ℕ → ℕ → ℕ 
 reducedEntry x m w k i j = cond (eqb i k) (nth x j) (sub (at m w i j) (mul (at m w i k) (nth x j)))
 
 -- what is made of the row that is lent is what is made of the old matrix's row
-same : (x old m : List Float) (w k i j : ℕ) → j < w → k < w → Rewritten (reducedEntry x old w k) w old i m → cond (eqb i k) (nth x j) (sub (nth (midOf (i * w) (i * w + w - i * w) m) j) (mul (nth (midOf (i * w) (i * w + w - i * w) m) k) (nth x j))) ≡ reducedEntry x old w k i j
+same : (x old m : List Float) (w k i j : ℕ) → j < w → k < w → Rewritten (reducedEntry x old w k) w old i m
+    → cond (eqb i k) (nth x j) (sub (nth (midOf (i * w) (i * w + w - i * w) m) j) (mul (nth (midOf (i * w) (i * w + w - i * w) m) k) (nth x j))) ≡ reducedEntry x old w k i j
 same x old m w k i j h l r = rw (rewritten-next (reducedEntry x old w k) w i j {l = m} h r, rewritten-next (reducedEntry x old w k) w i k {l = m} l r)
 
 abbrev Inv-loop : tie.InvT-loop
@@ -46,28 +47,28 @@ add-reduce-row c = omega (arith, within c)
 mul-reduce-row : tie.Need-mul-reduce-row Inv-loop μ-loop
 mul-reduce-row c = omega (arith, within c)
 
-sub-reduce-row : tie.Need-sub-reduce-row Inv-loop μ-loop
-sub-reduce-row c = omega arith
-
-part-reduce-row-start : tie.Need-part-reduce-row-start Inv-loop μ-loop
-part-reduce-row-start c = omega arith
-
 part-reduce-row-end : tie.Need-part-reduce-row-end Inv-loop μ-loop
 part-reduce-row-end c = omega (arith, within c)
 
 reduce-row-requires : tie.Need-reduce-row-requires Inv-loop μ-loop
-reduce-row-requires c κs = (omega arith, omega arith, length-part (c .before .before .loop .m) (c .before .before .before .before .before .args .w) (c .before .before .loop .i) (within (c .before)))
-
-add-i : tie.Need-add-i Inv-loop μ-loop
-add-i c = omega arith
-
-loop-less : tie.Need-loop-less Inv-loop μ-loop
-loop-less c = omega arith
+reduce-row-requires c κs =
+    let at-loop = c .before .before in
+    let start = at-loop .before .before .before in
+    (omega arith, omega arith, length-part (at-loop .loop .m) (start .args .w) (at-loop .loop .i) (within (c .before)))
 
 loop-again : tie.Need-loop-again Inv-loop μ-loop
 loop-again c =
-    let turn = c .before .before .before .before .before .loop in
-    (omega arith, rewritten-more _ (c .before .before .before .before .before .before .before .before .args .w) (turn .i) (within (c .before .before .before .before)) (c .before .before .reduce-row .ensures ∙ tabulate-ext (c .before .before .before .before .before .before .before .before .args .w) _ _ (λ j h. same (c .before .before .before .before .before .before .before .before .args .x .now) (c .before .before .before .before .before .before .before .before .args .m .now) (turn .m) (c .before .before .before .before .before .before .before .before .args .w) (c .before .before .before .before .before .before .before .before .args .k) (turn .i) j h (c .before .before .before .before .before .before .before .before .pre .0) (turn .inv .1))) (turn .inv .1))
+    let after-reduce-row = c .before .before in
+    let in-loop = after-reduce-row .before .before in
+    let at-loop = in-loop .before in
+    let start = at-loop .before .before .before in
+    let turn = at-loop .loop in (
+      omega arith,
+      rewritten-more _ (start .args .w) (turn .i) (within (in-loop))
+          (after-reduce-row .reduce-row .ensures
+          ∙ tabulate-ext (start .args .w) _ _ (λ j h. same (start .args .x .now) (start .args .m .now) (turn .m) (start .args .w) (start .args .k) (turn .i) j h (start .pre .0) (turn .inv .1)))
+          (turn .inv .1),
+    )
 
 same-length : tie.Need-same-length Inv-loop μ-loop
 same-length c = c .before .loop .inv .1 .rows .size
@@ -76,4 +77,7 @@ returns : tie.Need-returns Inv-loop μ-loop
 returns c = rows-all _ _ _ (c .before .before .before .before .pre .2) (c .before .loop .inv .0) (c .loop-test .left) (c .before .loop .inv .1 .rows)
 
 pub reduce-rows-spec : {M : Type 1} → statement M
-reduce-rows-spec = tie.close (tie.spec Inv-loop μ-loop loop-holds mul-start add-reduce-row mul-reduce-row sub-reduce-row part-reduce-row-start part-reduce-row-end reduce-row-requires add-i loop-less loop-again same-length returns)
+reduce-rows-spec =
+    tie.close
+    (tie.spec Inv-loop μ-loop loop-holds mul-start add-reduce-row mul-reduce-row (λ c. omega arith) (λ c. omega arith) part-reduce-row-end reduce-row-requires
+    (λ c. omega arith) (λ c. omega arith) loop-again same-length returns)

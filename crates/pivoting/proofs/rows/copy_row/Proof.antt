@@ -52,28 +52,44 @@ loop-holds : tie.Need-loop-holds Inv-loop μ-loop
 loop-holds c = (omega arith, copied-none _ _ _ _)
 
 entry-requires : tie.Need-entry-requires Inv-loop μ-loop
-entry-requires c κs = omega (arith, c .before .before .loop .inv .1 .size, cell (c .before .before .before .before .args .n) (c .before .before .before .before .args .w) {i = c .before .before .before .before .args .k} {j = c .before .before .loop .j} (omega arith) (omega arith))
+entry-requires c κs =
+    let at-loop = c .before .before in
+    let start = at-loop .before .before in
+    omega (arith, at-loop .loop .inv .1 .size, cell (start .args .n) (start .args .w) {i = start .args .k} {j = at-loop .loop .j} (omega arith) (omega arith))
 
 mul-m : tie.Need-mul-m Inv-loop μ-loop
-mul-m c = omega (arith, c .before .before .before .loop .inv .1 .size, cell (c .before .before .before .before .before .args .n) (c .before .before .before .before .before .args .w) {i = c .before .before .before .before .before .args .p} {j = c .before .before .before .loop .j} (omega arith) (omega arith))
+mul-m c =
+    let at-loop = c .before .before .before in
+    let start = at-loop .before .before in
+    omega (arith, at-loop .loop .inv .1 .size, cell (start .args .n) (start .args .w) {i = start .args .p} {j = at-loop .loop .j} (omega arith) (omega arith))
 
 add-m : tie.Need-add-m Inv-loop μ-loop
-add-m c = omega (arith, c .before .before .before .loop .inv .1 .size, cell (c .before .before .before .before .before .args .n) (c .before .before .before .before .before .args .w) {i = c .before .before .before .before .before .args .p} {j = c .before .before .before .loop .j} (omega arith) (omega arith))
+add-m c =
+    let at-loop = c .before .before .before in
+    let start = at-loop .before .before in
+    omega (arith, at-loop .loop .inv .1 .size, cell (start .args .n) (start .args .w) {i = start .args .p} {j = at-loop .loop .j} (omega arith) (omega arith))
 
 mul-m-2 : tie.Need-mul-m-2 Inv-loop μ-loop
-mul-m-2 c = omega (arith, c .before .before .before .loop .inv .1 .size, cell (c .before .before .before .before .before .args .n) (c .before .before .before .before .before .args .w) {i = c .before .before .before .before .before .args .p} {j = c .before .before .before .loop .j} (omega arith) (omega arith))
+mul-m-2 c =
+    let at-loop = c .before .before .before in
+    let start = at-loop .before .before in
+    omega (arith, at-loop .loop .inv .1 .size, cell (start .args .n) (start .args .w) {i = start .args .p} {j = at-loop .loop .j} (omega arith) (omega arith))
 
 slice-write-m : tie.Need-slice-write-m Inv-loop μ-loop
-slice-write-m c = omega (arith, c .before .before .before .loop .inv .1 .size, cell (c .before .before .before .before .before .args .n) (c .before .before .before .before .before .args .w) {i = c .before .before .before .before .before .args .p} {j = c .before .before .before .loop .j} (omega arith) (omega arith))
-
-add-j : tie.Need-add-j Inv-loop μ-loop
-add-j c = omega arith
-
-loop-less : tie.Need-loop-less Inv-loop μ-loop
-loop-less c = omega arith
+slice-write-m c =
+    let at-loop = c .before .before .before in
+    let start = at-loop .before .before in
+    omega (arith, at-loop .loop .inv .1 .size, cell (start .args .n) (start .args .w) {i = start .args .p} {j = at-loop .loop .j} (omega arith) (omega arith))
 
 loop-again : tie.Need-loop-again Inv-loop μ-loop
-loop-again c = (omega arith, copied-more _ _ _ (c .before .before .before .loop .j) (omega arith) (omega (arith, c .before .before .before .loop .inv .1 .size, cell (c .before .before .before .before .before .args .n) (c .before .before .before .before .before .args .w) {i = c .before .before .before .before .before .args .p} {j = c .before .before .before .loop .j} (omega arith) (omega arith))) (c .entry .ensures) (c .before .before .before .loop .inv .1))
+loop-again c =
+    let at-loop = c .before .before .before in
+    let start = at-loop .before .before in (
+      omega arith,
+      copied-more _ _ _ (at-loop .loop .j) (omega arith)
+          (omega (arith, at-loop .loop .inv .1 .size, cell (start .args .n) (start .args .w) {i = start .args .p} {j = at-loop .loop .j} (omega arith) (omega arith)))
+          (c .entry .ensures) (at-loop .loop .inv .1),
+    )
 
 same-length : tie.Need-same-length Inv-loop μ-loop
 same-length c = c .before .loop .inv .1 .size
@@ -82,4 +98,6 @@ returns : tie.Need-returns Inv-loop μ-loop
 returns c = copied-all _ _ _ _ (c .loop-test .left) (c .before .before .before .pre .2) (c .before .loop .inv .1)
 
 pub copy-row-spec : {M : Type 1} → statement M
-copy-row-spec = tie.close (tie.spec Inv-loop μ-loop loop-holds entry-requires mul-m add-m mul-m-2 slice-write-m add-j loop-less loop-again same-length returns)
+copy-row-spec =
+    tie.close
+    (tie.spec Inv-loop μ-loop loop-holds entry-requires mul-m add-m mul-m-2 slice-write-m (λ c. omega arith) (λ c. omega arith) loop-again same-length returns)

@@ -16,25 +16,17 @@ abbrev μ-loop : tie.MeasureT-loop
 μ-loop m n w p k y₀ d j₀ y j = w - j
 
 entry-requires : tie.Need-entry-requires Inv-loop μ-loop
-entry-requires c κs = omega (arith, cell (c .before .before .args .n) (c .before .before .args .w) {i = c .before .before .args .p} {j = c .before .before .args .k} (omega arith) (omega arith))
+entry-requires c κs =
+    let start = c .before .before in
+    omega (arith, cell (start .args .n) (start .args .w) {i = start .args .p} {j = start .args .k} (omega arith) (omega arith))
 
 loop-holds : tie.Need-loop-holds Inv-loop μ-loop
 loop-holds c = (omega arith, c .entry .ensures, filled-none _ _)
 
 entry-requires-2 : tie.Need-entry-requires-2 Inv-loop μ-loop
-entry-requires-2 c κs = omega (arith, cell (c .before .before .before .before .before .args .n) (c .before .before .before .before .before .args .w) {i = c .before .before .before .before .before .args .p} {j = c .before .loop .j} (omega arith) (omega arith))
-
-mul-y : tie.Need-mul-y Inv-loop μ-loop
-mul-y c = omega arith
-
-slice-write-y : tie.Need-slice-write-y Inv-loop μ-loop
-slice-write-y c = omega arith
-
-add-j : tie.Need-add-j Inv-loop μ-loop
-add-j c = omega arith
-
-loop-less : tie.Need-loop-less Inv-loop μ-loop
-loop-less c = omega arith
+entry-requires-2 c κs =
+    let start = c .before .before .before .before .before in
+    omega (arith, cell (start .args .n) (start .args .w) {i = start .args .p} {j = c .before .loop .j} (omega arith) (omega arith))
 
 loop-again : tie.Need-loop-again Inv-loop μ-loop
 loop-again c =
@@ -48,4 +40,7 @@ returns : tie.Need-returns Inv-loop μ-loop
 returns c = filled-all _ (c .before .before .before .before .before .pre .3) (c .loop-test .left) (c .before .loop .inv .2)
 
 pub divided-row-spec : {M : Type 1} → statement M
-divided-row-spec = tie.close (tie.spec Inv-loop μ-loop entry-requires loop-holds entry-requires-2 mul-y slice-write-y add-j loop-less loop-again same-length returns)
+divided-row-spec =
+    tie.close
+    (tie.spec Inv-loop μ-loop entry-requires loop-holds entry-requires-2 (λ c. omega arith) (λ c. omega arith) (λ c. omega arith) (λ c. omega arith) loop-again
+    same-length returns)

@@ -7,29 +7,16 @@ use Rattle.dense.proofs.Laws.{own-entries}
 use Rattle.pivoting.proofs.rows.reduce_row.Statement.{statement}
 use Rattle.pivoting.proofs.rows.reduce_row.Tie as tie
 
-copy-requires : tie.Need-copy-requires
-copy-requires c κs = search needs
-
-same-length : tie.Need-same-length
-same-length c = search needs
-
 returns : tie.Need-returns
-returns c = let taken = c .before .before .before .before in c .before .before .copy .ensures ∙ own-entries _ _ (taken .before .before .before .pre .1) ∙ tabulate-ext _ _ _ (λ j k. rw (eq-eqb _ _ (taken .if1 .taken)))
-
-mul-factor : tie.Need-mul-factor
-mul-factor c = search needs
-
-slice-read-factor : tie.Need-slice-read-factor
-slice-read-factor c = search needs
-
-subtract-scaled-requires : tie.Need-subtract-scaled-requires
-subtract-scaled-requires c κs = search needs
-
-same-length-2 : tie.Need-same-length-2
-same-length-2 c = search needs
+returns c =
+    let after-copy = c .before .before in
+    let then1 = after-copy .before .before in
+    let taken = then1 in after-copy .copy .ensures ∙ own-entries _ _ (taken .before .before .before .pre .1) ∙ tabulate-ext _ _ _ (λ j k. rw (eq-eqb _ _ (taken .if1 .taken)))
 
 returns-2 : tie.Need-returns-2
 returns-2 c = c .before .before .subtract-scaled .ensures ∙ tabulate-ext _ _ _ (λ j k. rw (ne-eqb _ _ (c .before .before .before .before .before .if1 .left)))
 
 pub reduce-row-spec : {M : Type 1} → statement M
-reduce-row-spec = tie.close (tie.spec copy-requires same-length returns mul-factor slice-read-factor subtract-scaled-requires same-length-2 returns-2)
+reduce-row-spec =
+    tie.close
+    (tie.spec (λ c κs. search needs) (λ c. search needs) returns (λ c. search needs) (λ c. search needs) (λ c κs. search needs) (λ c. search needs) returns-2)

@@ -30,33 +30,34 @@ add-augmented-row c = omega (arith, within c)
 mul-augmented-row : tie.Need-mul-augmented-row Inv-loop μ-loop
 mul-augmented-row c = omega (arith, within c)
 
-sub-augmented-row : tie.Need-sub-augmented-row Inv-loop μ-loop
-sub-augmented-row c = omega arith
-
-part-augmented-row-start : tie.Need-part-augmented-row-start Inv-loop μ-loop
-part-augmented-row-start c = omega arith
-
 part-augmented-row-end : tie.Need-part-augmented-row-end Inv-loop μ-loop
 part-augmented-row-end c = omega (arith, within c)
 
 augmented-row-requires : tie.Need-augmented-row-requires Inv-loop μ-loop
-augmented-row-requires c κs = (omega arith, omega arith, omega arith, omega arith, length-part (c .before .before .loop .m) (c .before .before .before .before .before .before .args .w) (c .before .before .loop .i) (within (c .before)))
-
-add-i : tie.Need-add-i Inv-loop μ-loop
-add-i c = omega arith
-
-loop-less : tie.Need-loop-less Inv-loop μ-loop
-loop-less c = omega arith
+augmented-row-requires c κs =
+    let at-loop = c .before .before in
+    let start = at-loop .before .before .before .before in
+    (omega arith, omega arith, omega arith, omega arith, length-part (at-loop .loop .m) (start .args .w) (at-loop .loop .i) (within (c .before)))
 
 loop-again : tie.Need-loop-again Inv-loop μ-loop
-loop-again c = (omega arith, rows-more _ (c .before .before .before .before .before .before .before .before .before .args .w) (c .before .before .before .before .before .loop .i) (within (c .before .before .before .before)) (c .before .before .augmented-row .ensures) (c .before .before .before .before .before .loop .inv .1))
+loop-again c =
+    let after-augmented-row = c .before .before in
+    let in-loop = after-augmented-row .before .before in
+    let at-loop = in-loop .before in
+    let start = at-loop .before .before .before .before in
+    (omega arith, rows-more _ (start .args .w) (at-loop .loop .i) (within (in-loop)) (after-augmented-row .augmented-row .ensures) (at-loop .loop .inv .1))
 
 same-length : tie.Need-same-length Inv-loop μ-loop
 same-length c = c .before .loop .inv .1 .size
 
 returns : tie.Need-returns Inv-loop μ-loop
 unfolding augmented
-returns c = rw (← (c .before .before .before .before .before .pre .0)) (rows-all _ _ _ (c .before .before .before .before .before .pre .3) (c .before .loop .inv .0) (c .loop-test .left) (c .before .loop .inv .1))
+returns c =
+    let start = c .before .before .before .before .before in
+    rw (← (start .pre .0)) (rows-all _ _ _ (start .pre .3) (c .before .loop .inv .0) (c .loop-test .left) (c .before .loop .inv .1))
 
 pub augment-spec : {M : Type 1} → statement M
-augment-spec = tie.close (tie.spec Inv-loop μ-loop loop-holds mul-start add-augmented-row mul-augmented-row sub-augmented-row part-augmented-row-start part-augmented-row-end augmented-row-requires add-i loop-less loop-again same-length returns)
+augment-spec =
+    tie.close
+    (tie.spec Inv-loop μ-loop loop-holds mul-start add-augmented-row mul-augmented-row (λ c. omega arith) (λ c. omega arith) part-augmented-row-end
+    augmented-row-requires (λ c. omega arith) (λ c. omega arith) loop-again same-length returns)

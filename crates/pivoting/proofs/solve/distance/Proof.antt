@@ -28,27 +28,61 @@ array-borrow-prefix-inv : tie.Need-array-borrow-prefix-inv
 array-borrow-prefix-inv c = omega (arith, square-size (c .before .before .before .args .n) (c .before .before .before .pre .1))
 
 slice-aggregate-inverse : tie.Need-slice-aggregate-inverse
-slice-aggregate-inverse c = sym (length-take-le _ _ (omega (arith, square-size (c .before .before .before .before .args .n) (c .before .before .before .before .pre .1))))
+slice-aggregate-inverse c =
+    let start = c .before .before .before .before in
+    sym (length-take-le _ _ (omega (arith, square-size (start .args .n) (start .pre .1))))
 
 inverse-requires : tie.Need-inverse-requires
-inverse-requires c κs = (c .before .before .before .before .pre .1, c .before .before .before .before .pre .4, length-take-le _ _ (omega (arith, square-size (c .before .before .before .before .args .n) (c .before .before .before .before .pre .1))))
+inverse-requires c κs =
+    let start = c .before .before .before .before in
+    (start .pre .1, start .pre .4, length-take-le _ _ (omega (arith, square-size (start .args .n) (start .pre .1))))
 
 array-share-prefix-inv : tie.Need-array-share-prefix-inv
-array-share-prefix-inv c = omega (arith, square-size (c .before .before .before .before .before .before .args .n) (c .before .before .before .before .before .before .pre .1), length-front _ (c .before .inverse .last .1 .1 .0) (c .before .before .before .before .before .before .args .n * c .before .before .before .before .before .before .args .n) (c .before .inverse .kept .1 .1 .0))
+array-share-prefix-inv c =
+    let start = c .before .before .before .before .before .before in
+    omega (arith, square-size (start .args .n) (start .pre .1), length-front _ (c .before .inverse .last .1 .1 .0) (start .args .n * start .args .n) (c .before .inverse .kept .1 .1 .0))
 
 slice-aggregate-distance-under : tie.Need-slice-aggregate-distance-under
-slice-aggregate-distance-under c = sym (ap length (take-at (c .before .before .inverse .last .1 .1 .0) _ (c .before .before .before .before .before .before .before .args .n * c .before .before .before .before .before .before .before .args .n) ((c .before .before .inverse .kept .1 .1 .0) ∙ length-take-le _ _ (omega (arith, square-size (c .before .before .before .before .before .before .before .args .n) (c .before .before .before .before .before .before .before .pre .1))))) ∙ (c .before .before .inverse .kept .1 .1 .0) ∙ length-take-le _ _ (omega (arith, square-size (c .before .before .before .before .before .before .before .args .n) (c .before .before .before .before .before .before .before .pre .1))))
+slice-aggregate-distance-under c =
+    let after-inverse = c .before .before in
+    let start = after-inverse .before .before .before .before .before in
+    sym
+    (ap length
+    (take-at (after-inverse .inverse .last .1 .1 .0) _ (start .args .n * start .args .n)
+    ((after-inverse .inverse .kept .1 .1 .0) ∙ length-take-le _ _ (omega (arith, square-size (start .args .n) (start .pre .1)))))
+    ∙ (after-inverse .inverse .kept .1 .1 .0)
+    ∙ length-take-le _ _ (omega (arith, square-size (start .args .n) (start .pre .1))))
 
 distance-under-requires : tie.Need-distance-under-requires
-distance-under-requires c κs = (c .before .before .before .before .before .before .before .pre .0, c .before .before .before .before .before .before .before .pre .1, c .before .before .before .before .before .before .before .pre .2, c .before .before .before .before .before .before .before .pre .3, ap length (take-at (c .before .before .inverse .last .1 .1 .0) _ (c .before .before .before .before .before .before .before .args .n * c .before .before .before .before .before .before .before .args .n) ((c .before .before .inverse .kept .1 .1 .0) ∙ length-take-le _ _ (omega (arith, square-size (c .before .before .before .before .before .before .before .args .n) (c .before .before .before .before .before .before .before .pre .1))))) ∙ (c .before .before .inverse .kept .1 .1 .0) ∙ length-take-le _ _ (omega (arith, square-size (c .before .before .before .before .before .before .before .args .n) (c .before .before .before .before .before .before .before .pre .1))))
+distance-under-requires c κs =
+    let after-inverse = c .before .before in
+    let start = after-inverse .before .before .before .before .before in (
+      start .pre .0,
+      start .pre .1,
+      start .pre .2,
+      start .pre .3,
+      ap length
+          (take-at (after-inverse .inverse .last .1 .1 .0) _ (start .args .n * start .args .n)
+          ((after-inverse .inverse .kept .1 .1 .0) ∙ length-take-le _ _ (omega (arith, square-size (start .args .n) (start .pre .1)))))
+          ∙ (after-inverse .inverse .kept .1 .1 .0)
+          ∙ length-take-le _ _ (omega (arith, square-size (start .args .n) (start .pre .1))),
+    )
 
 returns : tie.Need-returns
 unfolding distance
 returns c =
-    let x = c .before .before .before .before .before .before .before .before .args in
+    let after-inverse = c .before .before .before in
+    let start = after-inverse .before .before .before .before .before in
+    let x = start .args in
     c .distance-under .ensures
-    ∙ ap (λ (z : List Float). following (c .before .before .before .inverse .result) (quadraticForm (difference (x .x .now) (x .mu .now) (x .n)) z (x .n))) (take-at (c .before .before .before .inverse .last .1 .1 .0) _ (c .before .before .before .before .before .before .before .before .args .n * c .before .before .before .before .before .before .before .before .args .n) ((c .before .before .before .inverse .kept .1 .1 .0) ∙ length-take-le _ _ (omega (arith, square-size (c .before .before .before .before .before .before .before .before .args .n) (c .before .before .before .before .before .before .before .before .pre .1)))))
-    ∙ followed (λ z. quadraticForm (difference (x .x .now) (x .mu .now) (x .n)) z (x .n)) (solved (x .cov .now) (identity (x .n)) (x .n) (x .n)) (take (x .n * x .n) (replicate 256 nought)) _ _ (c .before .before .before .inverse .ensures)
+    ∙ ap (λ (z : List Float). following (after-inverse .inverse .result) (quadraticForm (difference (x .x .now) (x .mu .now) (x .n)) z (x .n)))
+    (take-at (after-inverse .inverse .last .1 .1 .0) _ (start .args .n * start .args .n)
+    ((after-inverse .inverse .kept .1 .1 .0) ∙ length-take-le _ _ (omega (arith, square-size (start .args .n) (start .pre .1)))))
+    ∙ followed (λ z. quadraticForm (difference (x .x .now) (x .mu .now) (x .n)) z (x .n)) (solved (x .cov .now) (identity (x .n)) (x .n) (x .n))
+    (take (x .n * x .n) (replicate 256 nought)) _ _ (after-inverse .inverse .ensures)
 
 pub distance-spec : {M : Type 1} → statement M
-distance-spec = tie.close (tie.spec mul-size array-borrow-prefix-inv slice-aggregate-inverse inverse-requires array-share-prefix-inv slice-aggregate-distance-under distance-under-requires returns)
+distance-spec =
+    tie.close
+    (tie.spec mul-size array-borrow-prefix-inv slice-aggregate-inverse inverse-requires array-share-prefix-inv slice-aggregate-distance-under
+    distance-under-requires returns)

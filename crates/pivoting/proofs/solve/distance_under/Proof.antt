@@ -15,31 +15,25 @@ use borrow.Author.Needs.{needs}
 use Rattle.pivoting.proofs.solve.distance_under.Statement.{statement}
 use Rattle.pivoting.proofs.solve.distance_under.Tie as tie
 
-answered-by : (x mu inv : List Float) (n : ℕ) → 1 ≤ n → n ≤ 16 → length x ≡ n → length mu ≡ n → length inv ≡ n * n → given (distanceWithInv x mu inv n) ≡ Value (quadraticForm (difference x mu n) inv n)
+answered-by : (x mu inv : List Float) (n : ℕ) → 1 ≤ n → n ≤ 16 → length x ≡ n → length mu ≡ n → length inv ≡ n * n
+    → given (distanceWithInv x mu inv n) ≡ Value (quadraticForm (difference x mu n) inv n)
 unfolding distanceWithInv side long
 answered-by x mu inv n h k p q r = rw (le-leb 1 n h, le-leb n 16 k, eq-eqb (length x) n p, eq-eqb (length mu) n q, eq-eqb (length inv) (n * n) r)
 
-enum-known-answer : tie.Need-enum-known-answer
-enum-known-answer c = search needs
-
-enum-told : tie.Need-enum-told
-enum-told c = search needs
-
-mahalanobis-distance-squared-with-inv-requires : tie.Need-mahalanobis-distance-squared-with-inv-requires
-mahalanobis-distance-squared-with-inv-requires c κs = search needs
-
 returns : tie.Need-returns
 returns c =
-    let x = c .before .before .before .before .before .before .args in
+    let start = c .before .before .before .before .before .before in
+    let x = start .args in
     sym (ap (λ (a : Written). following a (quadraticForm (difference (x .x .now) (x .mu .now) (x .n)) (x .inv .now) (x .n))) (c .before .answer .given .1))
 
 returns-2 : tie.Need-returns-2
 returns-2 c =
-    let x = c .before .before .before .before .before .before .args in
-    let p = c .before .before .before .before .before .before .pre in
+    let start = c .before .before .before .before .before .before in
+    let x = start .args in
+    let p = start .pre in
     c .mahalanobis-distance-squared-with-inv .ensures
     ∙ answered-by (x .x .now) (x .mu .now) (x .inv .now) (x .n) (p .0) (p .1) (p .2) (p .3) (p .4)
     ∙ sym (ap (λ (a : Written). following a (quadraticForm (difference (x .x .now) (x .mu .now) (x .n)) (x .inv .now) (x .n))) (c .before .enum-told .given .1))
 
 pub distance-under-spec : {M : Type 1} → statement M
-distance-under-spec = tie.close (tie.spec enum-known-answer enum-told mahalanobis-distance-squared-with-inv-requires returns returns-2)
+distance-under-spec = tie.close (tie.spec (λ c. search needs) (λ c. search needs) (λ c κs. search needs) returns returns-2)

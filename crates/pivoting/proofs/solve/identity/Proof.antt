@@ -30,26 +30,19 @@ add-unit-row c = omega (arith, within c)
 mul-unit-row : tie.Need-mul-unit-row Inv-loop μ-loop
 mul-unit-row c = omega (arith, within c)
 
-sub-unit-row : tie.Need-sub-unit-row Inv-loop μ-loop
-sub-unit-row c = omega arith
-
-part-unit-row-start : tie.Need-part-unit-row-start Inv-loop μ-loop
-part-unit-row-start c = omega arith
-
 part-unit-row-end : tie.Need-part-unit-row-end Inv-loop μ-loop
 part-unit-row-end c = omega (arith, within c)
 
 unit-row-requires : tie.Need-unit-row-requires Inv-loop μ-loop
 unit-row-requires c κs = length-part (c .before .before .loop .e) (c .before .before .before .before .args .n) (c .before .before .loop .i) (within (c .before))
 
-add-i : tie.Need-add-i Inv-loop μ-loop
-add-i c = omega arith
-
-loop-less : tie.Need-loop-less Inv-loop μ-loop
-loop-less c = omega arith
-
 loop-again : tie.Need-loop-again Inv-loop μ-loop
-loop-again c = (omega arith, rows-more _ (c .before .before .before .before .before .before .before .args .n) (c .before .before .before .before .before .loop .i) (within (c .before .before .before .before)) (c .before .before .unit-row .ensures) (c .before .before .before .before .before .loop .inv .1))
+loop-again c =
+    let after-unit-row = c .before .before in
+    let in-loop = after-unit-row .before .before in
+    let at-loop = in-loop .before in
+    let start = at-loop .before .before in
+    (omega arith, rows-more _ (start .args .n) (at-loop .loop .i) (within (in-loop)) (after-unit-row .unit-row .ensures) (at-loop .loop .inv .1))
 
 same-length : tie.Need-same-length Inv-loop μ-loop
 same-length c = c .before .loop .inv .1 .size
@@ -58,4 +51,7 @@ returns : tie.Need-returns Inv-loop μ-loop
 returns c = rows-all _ _ _ (c .before .before .before .pre) (c .before .loop .inv .0) (c .loop-test .left) (c .before .loop .inv .1)
 
 pub identity-spec : {M : Type 1} → statement M
-identity-spec = tie.close (tie.spec Inv-loop μ-loop loop-holds mul-start add-unit-row mul-unit-row sub-unit-row part-unit-row-start part-unit-row-end unit-row-requires add-i loop-less loop-again same-length returns)
+identity-spec =
+    tie.close
+    (tie.spec Inv-loop μ-loop loop-holds mul-start add-unit-row mul-unit-row (λ c. omega arith) (λ c. omega arith) part-unit-row-end unit-row-requires
+    (λ c. omega arith) (λ c. omega arith) loop-again same-length returns)

@@ -23,19 +23,39 @@ identity-requires : tie.Need-identity-requires
 identity-requires c κs = length-take-le _ _ (omega (arith, square-size (c .before .before .before .args .n) (c .before .before .before .pre .0)))
 
 array-share-prefix-e : tie.Need-array-share-prefix-e
-array-share-prefix-e c = omega (arith, square-size (c .before .before .before .before .before .args .n) (c .before .before .before .before .before .pre .0), length-front _ (c .before .identity .last .1 .0) (c .before .before .before .before .before .args .n * c .before .before .before .before .before .args .n) (c .before .identity .kept .1 .0))
+array-share-prefix-e c =
+    let start = c .before .before .before .before .before in
+    omega (arith, square-size (start .args .n) (start .pre .0), length-front _ (c .before .identity .last .1 .0) (start .args .n * start .args .n) (c .before .identity .kept .1 .0))
 
 slice-aggregate-solve : tie.Need-slice-aggregate-solve
-slice-aggregate-solve c = sym (ap length (front _ (length-matrix (c .before .before .before .before .before .before .args .n) (c .before .before .before .before .before .before .args .n) unitEntry) (c .before .before .identity .ensures)) ∙ length-matrix (c .before .before .before .before .before .before .args .n) (c .before .before .before .before .before .before .args .n) unitEntry)
+slice-aggregate-solve c =
+    let after-identity = c .before .before in
+    let start = after-identity .before .before .before .before in
+    sym (ap length (front _ (length-matrix (start .args .n) (start .args .n) unitEntry) (after-identity .identity .ensures)) ∙ length-matrix (start .args .n) (start .args .n) unitEntry)
 
 solve-requires : tie.Need-solve-requires
-solve-requires c κs = (c .before .before .before .before .before .before .before .pre .0, c .before .before .before .before .before .before .before .pre .0, c .before .before .before .before .before .before .before .pre .1, ap length (front _ (length-matrix (c .before .before .before .before .before .before .before .args .n) (c .before .before .before .before .before .before .before .args .n) unitEntry) (c .before .before .before .identity .ensures)) ∙ length-matrix (c .before .before .before .before .before .before .before .args .n) (c .before .before .before .before .before .before .before .args .n) unitEntry, c .before .before .before .before .before .before .before .pre .2)
+solve-requires c κs =
+    let after-identity = c .before .before .before in
+    let start = after-identity .before .before .before .before in (
+      start .pre .0,
+      start .pre .0,
+      start .pre .1,
+      ap length (front _ (length-matrix (start .args .n) (start .args .n) unitEntry) (after-identity .identity .ensures)) ∙ length-matrix (start .args .n) (start .args .n) unitEntry,
+      start .pre .2,
+    )
 
 same-length : tie.Need-same-length
 same-length c = c .before .before .solve .kept .1 .1 .1 .1 .0
 
 returns : tie.Need-returns
-returns c = rw (front _ (length-matrix (c .before .before .before .before .before .before .before .before .before .before .args .n) (c .before .before .before .before .before .before .before .before .before .before .args .n) unitEntry) (c .before .before .before .before .before .before .identity .ensures)) at (c .before .before .solve .ensures)
+returns c =
+    let after-solve = c .before .before in
+    let after-identity = after-solve .before .before .before .before in
+    let start = after-identity .before .before .before .before in
+    rw (front _ (length-matrix (start .args .n) (start .args .n) unitEntry) (after-identity .identity .ensures)) at (after-solve .solve .ensures)
 
 pub inverse-spec : {M : Type 1} → statement M
-inverse-spec = tie.close (tie.spec mul-size array-borrow-prefix-e slice-aggregate-identity identity-requires array-share-prefix-e slice-aggregate-solve solve-requires same-length returns)
+inverse-spec =
+    tie.close
+    (tie.spec mul-size array-borrow-prefix-e slice-aggregate-identity identity-requires array-share-prefix-e slice-aggregate-solve solve-requires same-length
+    returns)

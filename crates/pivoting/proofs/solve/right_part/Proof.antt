@@ -30,26 +30,22 @@ add-right-row c = omega (arith, within c)
 mul-right-row : tie.Need-mul-right-row Inv-loop μ-loop
 mul-right-row c = omega (arith, within c)
 
-sub-right-row : tie.Need-sub-right-row Inv-loop μ-loop
-sub-right-row c = omega arith
-
-part-right-row-start : tie.Need-part-right-row-start Inv-loop μ-loop
-part-right-row-start c = omega arith
-
 part-right-row-end : tie.Need-part-right-row-end Inv-loop μ-loop
 part-right-row-end c = omega (arith, within c)
 
 right-row-requires : tie.Need-right-row-requires Inv-loop μ-loop
-right-row-requires c κs = (omega arith, omega arith, omega arith, length-part (c .before .before .loop .out) (c .before .before .before .before .before .args .r) (c .before .before .loop .i) (within (c .before)))
-
-add-i : tie.Need-add-i Inv-loop μ-loop
-add-i c = omega arith
-
-loop-less : tie.Need-loop-less Inv-loop μ-loop
-loop-less c = omega arith
+right-row-requires c κs =
+    let at-loop = c .before .before in
+    let start = at-loop .before .before .before in
+    (omega arith, omega arith, omega arith, length-part (at-loop .loop .out) (start .args .r) (at-loop .loop .i) (within (c .before)))
 
 loop-again : tie.Need-loop-again Inv-loop μ-loop
-loop-again c = (omega arith, rows-more _ (c .before .before .before .before .before .before .before .before .args .r) (c .before .before .before .before .before .loop .i) (within (c .before .before .before .before)) (c .before .before .right-row .ensures) (c .before .before .before .before .before .loop .inv .1))
+loop-again c =
+    let after-right-row = c .before .before in
+    let in-loop = after-right-row .before .before in
+    let at-loop = in-loop .before in
+    let start = at-loop .before .before .before in
+    (omega arith, rows-more _ (start .args .r) (at-loop .loop .i) (within (in-loop)) (after-right-row .right-row .ensures) (at-loop .loop .inv .1))
 
 same-length : tie.Need-same-length Inv-loop μ-loop
 same-length c = c .before .loop .inv .1 .size
@@ -58,4 +54,7 @@ returns : tie.Need-returns Inv-loop μ-loop
 returns c = rows-all _ _ _ (c .before .before .before .before .pre .2) (c .before .loop .inv .0) (c .loop-test .left) (c .before .loop .inv .1)
 
 pub right-part-spec : {M : Type 1} → statement M
-right-part-spec = tie.close (tie.spec Inv-loop μ-loop loop-holds mul-start add-right-row mul-right-row sub-right-row part-right-row-start part-right-row-end right-row-requires add-i loop-less loop-again same-length returns)
+right-part-spec =
+    tie.close
+    (tie.spec Inv-loop μ-loop loop-holds mul-start add-right-row mul-right-row (λ c. omega arith) (λ c. omega arith) part-right-row-end right-row-requires
+    (λ c. omega arith) (λ c. omega arith) loop-again same-length returns)

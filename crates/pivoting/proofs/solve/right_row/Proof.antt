@@ -16,23 +16,10 @@ abbrev μ-loop : tie.MeasureT-loop
 loop-holds : tie.Need-loop-holds Inv-loop μ-loop
 loop-holds c = (omega arith, filled-none _ _)
 
-add-entry : tie.Need-add-entry Inv-loop μ-loop
-add-entry c = omega arith
-
 entry-requires : tie.Need-entry-requires Inv-loop μ-loop
-entry-requires c κs = omega (arith, cell (c .before .before .before .before .args .n) (c .before .before .before .before .args .w) {i = c .before .before .before .before .args .i} {j = c .before .before .before .before .args .n + c .before .loop .j} (omega arith) (omega arith))
-
-mul-y : tie.Need-mul-y Inv-loop μ-loop
-mul-y c = omega arith
-
-slice-write-y : tie.Need-slice-write-y Inv-loop μ-loop
-slice-write-y c = omega arith
-
-add-j : tie.Need-add-j Inv-loop μ-loop
-add-j c = omega arith
-
-loop-less : tie.Need-loop-less Inv-loop μ-loop
-loop-less c = omega arith
+entry-requires c κs =
+    let start = c .before .before .before .before in
+    omega (arith, cell (start .args .n) (start .args .w) {i = start .args .i} {j = start .args .n + c .before .loop .j} (omega arith) (omega arith))
 
 loop-again : tie.Need-loop-again Inv-loop μ-loop
 loop-again c = (omega arith, filled-more _ (c .before .before .loop .j) (omega arith) (c .entry .ensures) (c .before .before .loop .inv .1))
@@ -44,4 +31,7 @@ returns : tie.Need-returns Inv-loop μ-loop
 returns c = filled-all _ (c .before .before .before .before .pre .3) (c .loop-test .left) (c .before .loop .inv .1)
 
 pub right-row-spec : {M : Type 1} → statement M
-right-row-spec = tie.close (tie.spec Inv-loop μ-loop loop-holds add-entry entry-requires mul-y slice-write-y add-j loop-less loop-again same-length returns)
+right-row-spec =
+    tie.close
+    (tie.spec Inv-loop μ-loop loop-holds (λ c. omega arith) entry-requires (λ c. omega arith) (λ c. omega arith) (λ c. omega arith) (λ c. omega arith)
+    loop-again same-length returns)

@@ -17,21 +17,6 @@ abbrev μ-loop : tie.MeasureT-loop
 loop-holds : tie.Need-loop-holds Inv-loop μ-loop
 loop-holds c = (omega arith, filled-none _ _)
 
-unit-requires : tie.Need-unit-requires Inv-loop μ-loop
-unit-requires c κs = search needs
-
-mul-y : tie.Need-mul-y Inv-loop μ-loop
-mul-y c = omega arith
-
-slice-write-y : tie.Need-slice-write-y Inv-loop μ-loop
-slice-write-y c = omega arith
-
-add-j : tie.Need-add-j Inv-loop μ-loop
-add-j c = omega arith
-
-loop-less : tie.Need-loop-less Inv-loop μ-loop
-loop-less c = omega arith
-
 loop-again : tie.Need-loop-again Inv-loop μ-loop
 loop-again c = (omega arith, filled-more _ (c .before .before .loop .j) (omega arith) (c .unit .ensures) (c .before .before .loop .inv .1))
 
@@ -42,4 +27,7 @@ returns : tie.Need-returns Inv-loop μ-loop
 returns c = filled-all _ (c .before .before .before .pre) (c .loop-test .left) (c .before .loop .inv .1)
 
 pub unit-row-spec : {M : Type 1} → statement M
-unit-row-spec = tie.close (tie.spec Inv-loop μ-loop loop-holds unit-requires mul-y slice-write-y add-j loop-less loop-again same-length returns)
+unit-row-spec =
+    tie.close
+    (tie.spec Inv-loop μ-loop loop-holds (λ c κs. search needs) (λ c. omega arith) (λ c. omega arith) (λ c. omega arith) (λ c. omega arith) loop-again
+    same-length returns)
