@@ -36,7 +36,8 @@ unfolding toldRead
 read-told l (refused k) n d = refl
 read-told l (answered tracks) n d = refl
 
-pub reads-tells : (l : List ℕ) (outcome : Outcome (List (List ℕ))) (n d : ℕ) (answer : ReadList) (told : ℕ × (ℕ × ℕ)) → told ≡ enteredRead answer n d → answer ≡ readAnswer l outcome → told ≡ toldRead l outcome n d
+pub reads-tells : (l : List ℕ) (outcome : Outcome (List (List ℕ))) (n d : ℕ) (answer : ReadList) (told : ℕ × (ℕ × ℕ)) → told ≡ enteredRead answer n d
+    → answer ≡ readAnswer l outcome → told ≡ toldRead l outcome n d
 reads-tells l outcome n d answer told h a = h ∙ ap (λ (x : ReadList). enteredRead x n d) a ∙ read-told l outcome n d
 
 -- a list that is written

@@ -83,7 +83,10 @@ unfolding matrix
 at-matrix zero n f i j h k = absurd (omega arith)
 at-matrix (suc m) n f i j h k =
     ⊎-elim
-    (λ (e : i ≡ m). ap (λ (x : ℕ). nth (matrix m n f ++ tabulate n (f m)) x) (place e) ∙ getD-append-add (matrix m n f) (tabulate n (f m)) j nan ∙ nth-tabulate n (f m) j k ∙ ap (λ (x : ℕ). f x j) (sym e))
+    (λ (e : i ≡ m). ap (λ (x : ℕ). nth (matrix m n f ++ tabulate n (f m)) x) (place e)
+    ∙ getD-append-add (matrix m n f) (tabulate n (f m)) j nan
+    ∙ nth-tabulate n (f m) j k
+    ∙ ap (λ (x : ℕ). f x j) (sym e))
     (λ (l : i < m). List·getD-append (matrix m n f) (tabulate n (f m)) nan (i * n + j) (omega (arith, cell m n {i = i} {j = j} l k, length-matrix m n f)) ∙ at-matrix m n f i j l k)
     (eq-or-lt-of-le (le-of-suc-le-suc h))
   where
@@ -138,7 +141,8 @@ pub row-sum : (a y : List Float) (n i : ℕ) {x : List Float} → x ≡ rowOf a 
 row-sum a y n i {x} e = sum-ext nought n _ _ (λ j h. rw (e, nth-row a n i j h))
 
 -- every entry of a row of running sums gets its next term
-pub sums-more : (x : Float) (n l : ℕ) (f : ℕ → ℕ → Float) (t : ℕ → Float) (y : List Float) → y ≡ tabulate n (λ j. sumFrom x l (f j)) → ((j : ℕ) → j < n → t j ≡ f j l) → tabulate n (λ j. add (nth y j) (t j)) ≡ tabulate n (λ j. sumFrom x (l + 1) (f j))
+pub sums-more : (x : Float) (n l : ℕ) (f : ℕ → ℕ → Float) (t : ℕ → Float) (y : List Float) → y ≡ tabulate n (λ j. sumFrom x l (f j)) → ((j : ℕ) → j < n → t j ≡ f j l)
+    → tabulate n (λ j. add (nth y j) (t j)) ≡ tabulate n (λ j. sumFrom x (l + 1) (f j))
 sums-more x n l f t y e h = tabulate-ext n _ _ (λ j k. sum-more x (f j) l (ap (λ (v : List Float). nth v j) e ∙ nth-tabulate n _ j k) (h j k))
 
 -- ---- a slice that is filled in order
@@ -170,7 +174,8 @@ unfolding matrix
 rows-none f n l = record { size = refl; done = ap (λ (k : ℕ). take k l) (zero-mul n) }
 
 -- row i was lent and came back as y
-pub rows-more : (f : ℕ → ℕ → Float) (n i : ℕ) {old l y : List Float} → i * n + n ≤ length l → y ≡ tabulate n (f i) → FilledRows f n old i l → FilledRows f n old (i + 1) (putMid (i * n) (i * n + n - i * n) l y)
+pub rows-more : (f : ℕ → ℕ → Float) (n i : ℕ) {old l y : List Float} → i * n + n ≤ length l → y ≡ tabulate n (f i) → FilledRows f n old i l
+    → FilledRows f n old (i + 1) (putMid (i * n) (i * n + n - i * n) l y)
 unfolding matrix
 rows-more f n i {old} {l} {y} h e w = record { size = same-len-mid (i * n) (i * n + n - i * n) l y part ∙ w .size; done = done }
   where

@@ -74,7 +74,8 @@ rewritten-next f n i j {old} {l} h w =
     ∙ ap (λ (z : List Float). nth z j) (w .rest)
     ∙ getD-drop (i * n) old j nan
 
-pub rewritten-more : (f : ℕ → ℕ → Float) (n i : ℕ) {old l y : List Float} → i * n + n ≤ length l → y ≡ tabulate n (f i) → Rewritten f n old i l → Rewritten f n old (i + 1) (putMid (i * n) (i * n + n - i * n) l y)
+pub rewritten-more : (f : ℕ → ℕ → Float) (n i : ℕ) {old l y : List Float} → i * n + n ≤ length l → y ≡ tabulate n (f i) → Rewritten f n old i l
+    → Rewritten f n old (i + 1) (putMid (i * n) (i * n + n - i * n) l y)
 rewritten-more f n i {old} {l} {y} h e w = record { rows = rows-more f n i h e (w .rows); rest = rest }
   where
     count : length y ≡ i * n + n - i * n

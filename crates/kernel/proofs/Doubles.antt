@@ -128,5 +128,6 @@ pattern-size p h = ⊎-elim infinite finite-size (eq-or-lt-of-le h)
 pub pattern-positive : (p : ℕ) → 0 < p → p < 0x7FF0_0000_0000_0000 → T (positive (ofBits binary64 p))
 pattern-positive p h l =
     let whole : p % 2 ^ 63 ≡ p = mod-eq-of-lt (omega arith) in
-    let v : HasValue (ofBits binary64 p) false (scaledBits p) (2 ^ 1074) = subst (λ (s : Bool). HasValue (ofBits binary64 p) s (scaledBits p) (2 ^ 1074)) (lt-leb (2 ^ 63) p (omega arith)) (rw whole at (pattern-value p (omega arith))) in
+    let v : HasValue (ofBits binary64 p) false (scaledBits p) (2 ^ 1074) =
+    subst (λ (s : Bool). HasValue (ofBits binary64 p) s (scaledBits p) (2 ^ 1074)) (lt-leb (2 ^ 63) p (omega arith)) (rw whole at (pattern-value p (omega arith))) in
     positive-of-value (ofBits binary64 p) (scaledBits p) (2 ^ 1074) v (scaled-bits-positive p h)

@@ -106,7 +106,10 @@ module _ (w t r : ℕ) (s : Significand r) (n : Nearest w r) where
 -- 2 ^ e by the half of e and its last digit
 power-halves : (e : ℕ) → 2 ^ e ≡ (1 + e % 2) * (2 ^ (e / 2) * 2 ^ (e / 2))
 power-halves e =
-    ap (λ (x : ℕ). 2 ^ x) (omega arith) ∙ pow-add 2 (e % 2) (e / 2 + e / 2) ∙ ap (λ (x : ℕ). x * 2 ^ (e / 2 + e / 2)) (last (e % 2) (omega arith)) ∙ ap (λ (x : ℕ). (1 + e % 2) * x) (pow-add 2 (e / 2) (e / 2))
+    ap (λ (x : ℕ). 2 ^ x) (omega arith)
+    ∙ pow-add 2 (e % 2) (e / 2 + e / 2)
+    ∙ ap (λ (x : ℕ). x * 2 ^ (e / 2 + e / 2)) (last (e % 2) (omega arith))
+    ∙ ap (λ (x : ℕ). (1 + e % 2) * x) (pow-add 2 (e / 2) (e / 2))
   where
     last : (b : ℕ) → b < 2 → 2 ^ b ≡ 1 + b
     last zero h = refl

@@ -27,7 +27,14 @@ unfolding factor
 length-factor a n zero h = sym (zero-mul n)
 length-factor a n (suc i) h =
     let p = withLeft a n (factor a n i) i i in
-    omega (arith, length-append p (sqrt (reachedPivot a n p i) ∷ replicate (n - suc i) nought), length-replicate (n - suc i) nought, length-left a n (factor a n i) i i, length-factor a n i (omega arith), suc-mul i n)
+    omega (
+      arith,
+      length-append p (sqrt (reachedPivot a n p i) ∷ replicate (n - suc i) nought),
+      length-replicate (n - suc i) nought,
+      length-left a n (factor a n i) i i,
+      length-factor a n i (omega arith),
+      suc-mul i n,
+    )
 
 left-suc : (a : List Float) (n : ℕ) (p : List Float) (i j : ℕ) → withLeft a n p i (j + 1) ≡ withLeft a n p i j ++ (belowEntry a n (withLeft a n p i j) i j ∷ [])
 unfolding withLeft
@@ -54,7 +61,8 @@ module _ (a l : List Float) (n i : ℕ) (size : length l ≡ n * n) (hi : i < n)
       let len : length q ≡ i * n + j = length-row a n i j hi in
       let one : j * n + n ≤ i * n = row-within i n h in
       let same : v ≡ belowEntry a n q i j = e ∙ rw (inner-in q l n i j w (omega arith) (omega arith), padded-nth q l (j * n + j) w (omega arith)) in
-      subst (λ (z : List Float). Padded z (set l (i * n + j) v)) (ap (λ (x : Float). q ++ (x ∷ [])) same ∙ sym (left-suc a n (factor a n i) i j)) (padded-push q l (i * n + j) v len (omega (arith, row-within n n hi)) w)
+      subst (λ (z : List Float). Padded z (set l (i * n + j) v)) (ap (λ (x : Float). q ++ (x ∷ [])) same ∙ sym (left-suc a n (factor a n i) i j))
+      (padded-push q l (i * n + j) v len (omega (arith, row-within n n hi)) w)
 
   -- the pivot can be made in the slice
   pub pivot-in : {x y : Float} → x ≡ at a n i i → y ≡ inner l n i i → Padded (withLeft a n (factor a n i) i i) l → sub x y ≡ reachedPivot a n (withLeft a n (factor a n i) i i) i

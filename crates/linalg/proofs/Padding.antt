@@ -47,8 +47,10 @@ padded-push p l i v e h w =
 -- k entries stay 0.0
 pub padded-skip : (p l : List Float) (k : ℕ) → length p + k ≤ length l → Padded p l → Padded (p ++ replicate k nought) l
 unfolding Padded
-padded-skip p l k h w =
-    (omega (arith, length-append p (replicate k nought), length-replicate k nought), w .1 ∙ ap (λ (z : List Float). p ++ z) (sym split) ∙ sym (append-assoc p (replicate k nought) (replicate (length l - length (p ++ replicate k nought)) nought)))
+padded-skip p l k h w = (
+  omega (arith, length-append p (replicate k nought), length-replicate k nought),
+  w .1 ∙ ap (λ (z : List Float). p ++ z) (sym split) ∙ sym (append-assoc p (replicate k nought) (replicate (length l - length (p ++ replicate k nought)) nought)),
+)
   where
     whole : k + (length l - length (p ++ replicate k nought)) ≡ length l - length p
     whole = omega (arith, length-append p (replicate k nought), length-replicate k nought)

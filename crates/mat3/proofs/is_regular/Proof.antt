@@ -4,18 +4,9 @@ use Rattle.mat3.specs.Mat3.{regular, scale}
 use Rattle.mat3.proofs.is_regular.Statement.{statement}
 use Rattle.mat3.proofs.is_regular.Tie as tie
 
-max-abs-requires : tie.Need-max-abs-requires
-max-abs-requires c κs = search needs
-
-abs-requires : tie.Need-abs-requires
-abs-requires c κs = search needs
-
-max-requires : tie.Need-max-requires
-max-requires c κs = search needs
-
 returns : tie.Need-returns
 unfolding regular scale
 returns c = rw (c .max .ensures, c .before .abs .ensures, c .before .before .max-abs .ensures, c .before .before .before .before .pre .1)
 
 pub is-regular-spec : {M : Type 1} → statement M
-is-regular-spec = tie.close (tie.spec max-abs-requires abs-requires max-requires returns)
+is-regular-spec = tie.close (tie.spec (λ c κs. search needs) (λ c κs. search needs) (λ c κs. search needs) returns)

@@ -6,9 +6,6 @@ use Rattle.dense.proofs.Answers.{value}
 use Rattle.mat3.proofs.mat3_det.Statement.{statement}
 use Rattle.mat3.proofs.mat3_det.Tie as tie
 
-is-vector-requires : tie.Need-is-vector-requires
-is-vector-requires c κs = search needs
-
 returns : tie.Need-returns
 unfolding mat3Det
 returns c = rw (unmet (c .before .is-vector .ensures) (c .if1 .taken))
@@ -21,4 +18,4 @@ unfolding mat3Det
 returns-2 c = rw (met (c .before .before .is-vector .ensures) (c .before .if1 .left)) (value (c .det .ensures))
 
 pub mat3-det-spec : {M : Type 1} → statement M
-mat3-det-spec = tie.close (tie.spec is-vector-requires returns det-requires returns-2)
+mat3-det-spec = tie.close (tie.spec (λ c κs. search needs) returns det-requires returns-2)

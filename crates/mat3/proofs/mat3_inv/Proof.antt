@@ -8,45 +8,59 @@ use Rattle.dense.proofs.Answers.{done}
 use Rattle.mat3.proofs.mat3_inv.Statement.{statement}
 use Rattle.mat3.proofs.mat3_inv.Tie as tie
 
-are-3-by-3-requires : tie.Need-are-3-by-3-requires
-are-3-by-3-requires c κs = search needs
-
-same-length : tie.Need-same-length
-same-length c = search needs
-
 returns : tie.Need-returns
 unfolding mat3Inv
 returns c = rw (unmet (c .before .are-3-by-3 .ensures) (c .if1 .taken))
 
 det-requires : tie.Need-det-requires
-det-requires c κs = two-long (c .before .before .before .before .before .args .m .now) (c .before .before .before .before .before .args .out .now) 9 9 (met (c .before .are-3-by-3 .ensures) (c .if1 .left)) .0
+det-requires c κs =
+    let start = c .before .before .before .before .before in
+    two-long (start .args .m .now) (start .args .out .now) 9 9 (met (c .before .are-3-by-3 .ensures) (c .if1 .left)) .0
 
 is-regular-requires : tie.Need-is-regular-requires
-is-regular-requires c κs = (two-long (c .before .before .before .before .before .before .args .m .now) (c .before .before .before .before .before .before .args .out .now) 9 9 (met (c .before .before .are-3-by-3 .ensures) (c .before .if1 .left)) .0, c .det .ensures)
-
-same-length-2 : tie.Need-same-length-2
-same-length-2 c = search needs
+is-regular-requires c κs =
+    let after-are-3-by-3 = c .before .before in
+    let start = after-are-3-by-3 .before .before .before .before in
+    (two-long (start .args .m .now) (start .args .out .now) 9 9 (met (after-are-3-by-3 .are-3-by-3 .ensures) (c .before .if1 .left)) .0, c .det .ensures)
 
 returns-2 : tie.Need-returns-2
 unfolding mat3Inv
-returns-2 c = rw (met (c .before .before .before .before .are-3-by-3 .ensures) (c .before .before .before .if1 .left), unmet (c .before .is-regular .ensures) (c .if2 .taken))
+returns-2 c =
+    let else1 = c .before .before .before in
+    let after-are-3-by-3 = else1 .before in
+    rw (met (after-are-3-by-3 .are-3-by-3 .ensures) (else1 .if1 .left), unmet (c .before .is-regular .ensures) (c .if2 .taken))
 
 inverse-requires : tie.Need-inverse-requires
-inverse-requires c κs = (two-long (c .before .before .before .before .before .before .before .before .args .m .now) (c .before .before .before .before .before .before .before .before .args .out .now) 9 9 (met (c .before .before .before .before .are-3-by-3 .ensures) (c .before .before .before .if1 .left)) .0, c .before .before .det .ensures)
-
-slice-aggregate-copy : tie.Need-slice-aggregate-copy
-slice-aggregate-copy c = search needs
+inverse-requires c κs =
+    let after-det = c .before .before in
+    let else1 = after-det .before in
+    let after-are-3-by-3 = else1 .before in
+    let start = after-are-3-by-3 .before .before .before .before in
+    (two-long (start .args .m .now) (start .args .out .now) 9 9 (met (after-are-3-by-3 .are-3-by-3 .ensures) (else1 .if1 .left)) .0, after-det .det .ensures)
 
 copy-requires : tie.Need-copy-requires
 unfolding inverse3
-copy-requires c κs = (ap length (c .before .before .inverse .ensures), two-long (c .before .before .before .before .before .before .before .before .before .before .before .args .m .now) (c .before .before .before .before .before .before .before .before .before .before .before .args .out .now) 9 9 (met (c .before .before .before .before .before .before .before .are-3-by-3 .ensures) (c .before .before .before .before .before .before .if1 .left)) .1)
-
-same-length-3 : tie.Need-same-length-3
-same-length-3 c = search needs
+copy-requires c κs =
+    let after-inverse = c .before .before in
+    let else1 = after-inverse .before .before .before .before in
+    let after-are-3-by-3 = else1 .before in
+    let start = after-are-3-by-3 .before .before .before .before in
+    (ap length (after-inverse .inverse .ensures), two-long (start .args .m .now) (start .args .out .now) 9 9 (met (after-are-3-by-3 .are-3-by-3 .ensures) (else1 .if1 .left)) .1)
 
 returns-3 : tie.Need-returns-3
 unfolding mat3Inv
-returns-3 c = rw (met (c .before .before .before .before .before .before .before .before .before .before .are-3-by-3 .ensures) (c .before .before .before .before .before .before .before .before .before .if1 .left), met (c .before .before .before .before .before .before .before .is-regular .ensures) (c .before .before .before .before .before .before .if2 .left)) (done (c .before .before .copy .ensures ∙ c .before .before .before .before .before .inverse .ensures))
+returns-3 c =
+    let after-copy = c .before .before in
+    let after-inverse = after-copy .before .before .before in
+    let else2 = after-inverse .before in
+    let after-is-regular = else2 .before in
+    let else1 = after-is-regular .before .before in
+    let after-are-3-by-3 = else1 .before in
+    rw (met (after-are-3-by-3 .are-3-by-3 .ensures) (else1 .if1 .left), met (after-is-regular .is-regular .ensures) (else2 .if2 .left))
+    (done (after-copy .copy .ensures ∙ after-inverse .inverse .ensures))
 
 pub mat3-inv-spec : {M : Type 1} → statement M
-mat3-inv-spec = tie.close (tie.spec are-3-by-3-requires same-length returns det-requires is-regular-requires same-length-2 returns-2 inverse-requires slice-aggregate-copy copy-requires same-length-3 returns-3)
+mat3-inv-spec =
+    tie.close
+    (tie.spec (λ c κs. search needs) (λ c. search needs) returns det-requires is-regular-requires (λ c. search needs) returns-2 inverse-requires
+    (λ c. search needs) copy-requires (λ c. search needs) returns-3)

@@ -5,11 +5,8 @@ use lib.ListN.{length}
 use Rattle.capi.proofs.lists.pel_record.Statement.{statement}
 use Rattle.capi.proofs.lists.pel_record.Tie as tie
 
-record-requires : tie.Need-record-requires
-record-requires c κs = search needs
-
 returns : tie.Need-returns
 returns c = (refl, ap length (c .«record» .ensures))
 
 pub pel-record-spec : {M : Type 1} → statement M
-pel-record-spec = tie.close (tie.spec record-requires returns)
+pel-record-spec = tie.close (tie.spec (λ c κs. search needs) returns)

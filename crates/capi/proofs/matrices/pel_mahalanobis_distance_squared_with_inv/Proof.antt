@@ -10,12 +10,8 @@ mahalanobis-distance-squared-with-inv-requires :
     tie.Need-mahalanobis-distance-squared-with-inv-requires
 mahalanobis-distance-squared-with-inv-requires c κs = search needs
 
-enter-requires : tie.Need-enter-requires
-enter-requires c κs = search needs
-
 returns : tie.Need-returns
 returns c = gives-tells _ _ _ _ _ (c .enter .ensures) (c .before .before .mahalanobis-distance-squared-with-inv .ensures)
 
 pub pel-mahalanobis-distance-squared-with-inv-spec : {M : Type 1} → statement M
-pel-mahalanobis-distance-squared-with-inv-spec =
-    tie.close (tie.spec mahalanobis-distance-squared-with-inv-requires enter-requires returns)
+pel-mahalanobis-distance-squared-with-inv-spec = tie.close (tie.spec mahalanobis-distance-squared-with-inv-requires (λ c κs. search needs) returns)

@@ -4,17 +4,8 @@ use Rattle.capi.proofs.Laws.{leaves-tells}
 use Rattle.capi.proofs.matrices.pel_mat_ata.Statement.{statement}
 use Rattle.capi.proofs.matrices.pel_mat_ata.Tie as tie
 
-mat-ata-requires : tie.Need-mat-ata-requires
-mat-ata-requires c κs = search needs
-
-code-requires : tie.Need-code-requires
-code-requires c κs = search needs
-
-same-length : tie.Need-same-length
-same-length c = search needs
-
 returns : tie.Need-returns
 returns c = leaves-tells _ _ _ _ _ (c .code .ensures) (c .before .before .before .mat-ata .ensures)
 
 pub pel-mat-ata-spec : {M : Type 1} → statement M
-pel-mat-ata-spec = tie.close (tie.spec mat-ata-requires code-requires same-length returns)
+pel-mat-ata-spec = tie.close (tie.spec (λ c κs. search needs) (λ c κs. search needs) (λ c. search needs) returns)

@@ -4,17 +4,8 @@ use Rattle.capi.proofs.Laws.{leaves-tells}
 use Rattle.capi.proofs.matrices.pel_mat_mul.Statement.{statement}
 use Rattle.capi.proofs.matrices.pel_mat_mul.Tie as tie
 
-mat-mul-requires : tie.Need-mat-mul-requires
-mat-mul-requires c κs = search needs
-
-code-requires : tie.Need-code-requires
-code-requires c κs = search needs
-
-same-length : tie.Need-same-length
-same-length c = search needs
-
 returns : tie.Need-returns
 returns c = leaves-tells _ _ _ _ _ (c .code .ensures) (c .before .before .before .mat-mul .ensures)
 
 pub pel-mat-mul-spec : {M : Type 1} → statement M
-pel-mat-mul-spec = tie.close (tie.spec mat-mul-requires code-requires same-length returns)
+pel-mat-mul-spec = tie.close (tie.spec (λ c κs. search needs) (λ c κs. search needs) (λ c. search needs) returns)

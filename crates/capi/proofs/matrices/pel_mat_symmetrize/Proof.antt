@@ -4,18 +4,8 @@ use Rattle.capi.proofs.Laws.{leaves-tells}
 use Rattle.capi.proofs.matrices.pel_mat_symmetrize.Statement.{statement}
 use Rattle.capi.proofs.matrices.pel_mat_symmetrize.Tie as tie
 
-mat-symmetrize-requires : tie.Need-mat-symmetrize-requires
-mat-symmetrize-requires c κs = search needs
-
-code-requires : tie.Need-code-requires
-code-requires c κs = search needs
-
-same-length : tie.Need-same-length
-same-length c = search needs
-
 returns : tie.Need-returns
 returns c = leaves-tells _ _ _ _ _ (c .code .ensures) (c .before .before .before .mat-symmetrize .ensures)
 
 pub pel-mat-symmetrize-spec : {M : Type 1} → statement M
-pel-mat-symmetrize-spec =
-    tie.close (tie.spec mat-symmetrize-requires code-requires same-length returns)
+pel-mat-symmetrize-spec = tie.close (tie.spec (λ c κs. search needs) (λ c κs. search needs) (λ c. search needs) returns)

@@ -4,14 +4,8 @@ use Rattle.capi.proofs.Laws.{gives-tells}
 use Rattle.capi.proofs.matrices.pel_mat_trace_cube.Statement.{statement}
 use Rattle.capi.proofs.matrices.pel_mat_trace_cube.Tie as tie
 
-mat-trace-cube-requires : tie.Need-mat-trace-cube-requires
-mat-trace-cube-requires c κs = search needs
-
-enter-requires : tie.Need-enter-requires
-enter-requires c κs = search needs
-
 returns : tie.Need-returns
 returns c = gives-tells _ _ _ _ _ (c .enter .ensures) (c .before .before .mat-trace-cube .ensures)
 
 pub pel-mat-trace-cube-spec : {M : Type 1} → statement M
-pel-mat-trace-cube-spec = tie.close (tie.spec mat-trace-cube-requires enter-requires returns)
+pel-mat-trace-cube-spec = tie.close (tie.spec (λ c κs. search needs) (λ c κs. search needs) returns)

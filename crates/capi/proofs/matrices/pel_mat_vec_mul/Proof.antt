@@ -4,17 +4,8 @@ use Rattle.capi.proofs.Laws.{leaves-tells}
 use Rattle.capi.proofs.matrices.pel_mat_vec_mul.Statement.{statement}
 use Rattle.capi.proofs.matrices.pel_mat_vec_mul.Tie as tie
 
-mat-vec-mul-requires : tie.Need-mat-vec-mul-requires
-mat-vec-mul-requires c κs = search needs
-
-code-requires : tie.Need-code-requires
-code-requires c κs = search needs
-
-same-length : tie.Need-same-length
-same-length c = search needs
-
 returns : tie.Need-returns
 returns c = leaves-tells _ _ _ _ _ (c .code .ensures) (c .before .before .before .mat-vec-mul .ensures)
 
 pub pel-mat-vec-mul-spec : {M : Type 1} → statement M
-pel-mat-vec-mul-spec = tie.close (tie.spec mat-vec-mul-requires code-requires same-length returns)
+pel-mat-vec-mul-spec = tie.close (tie.spec (λ c κs. search needs) (λ c κs. search needs) (λ c. search needs) returns)

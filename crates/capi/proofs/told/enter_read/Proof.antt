@@ -7,21 +7,10 @@ use Rattle.capi.specs.Told.{enteredRead}
 use Rattle.capi.proofs.told.enter_read.Statement.{statement}
 use Rattle.capi.proofs.told.enter_read.Tie as tie
 
-enum-known-answer : tie.Need-enum-known-answer
-enum-known-answer c = search needs
-
-enum-known-answer-2 : tie.Need-enum-known-answer-2
-enum-known-answer-2 c = search needs
-
-cast-result : tie.Need-cast-result
-cast-result c = search needs
-
-returns : tie.Need-returns
-returns c = search needs
-
 returns-2 : tie.Need-returns-2
-returns-2 c = ap (λ (a : ReadList). enteredRead a (now (c .before .before .before .args .count)) (now (c .before .before .before .args .dimension))) (sym (c .before .answer2 .given .1))
+returns-2 c =
+    let start = c .before .before .before in
+    ap (λ (a : ReadList). enteredRead a (now (start .args .count)) (now (start .args .dimension))) (sym (c .before .answer2 .given .1))
 
 pub enter-read-spec : {M : Type 1} → statement M
-enter-read-spec =
-    tie.close (tie.spec enum-known-answer enum-known-answer-2 cast-result returns returns-2)
+enter-read-spec = tie.close (tie.spec (λ c. search needs) (λ c. search needs) (λ c. search needs) (λ c. search needs) returns-2)

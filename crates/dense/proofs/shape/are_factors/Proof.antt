@@ -4,17 +4,11 @@ use Rattle.dense.proofs.Tests.{and-no, and-yes}
 use Rattle.dense.proofs.shape.are_factors.Statement.{statement}
 use Rattle.dense.proofs.shape.are_factors.Tie as tie
 
-is-matrix-requires : tie.Need-is-matrix-requires
-is-matrix-requires c κs = search needs
-
 returns : tie.Need-returns
 returns c = and-no _ (c .before .is-matrix .ensures) (c .if1 .taken)
-
-are-matrices-requires : tie.Need-are-matrices-requires
-are-matrices-requires c κs = search needs
 
 returns-2 : tie.Need-returns-2
 returns-2 c = and-yes (c .before .before .is-matrix .ensures) (c .before .if1 .left) (c .are-matrices .ensures)
 
 pub are-factors-spec : {M : Type 1} → statement M
-are-factors-spec = tie.close (tie.spec is-matrix-requires returns are-matrices-requires returns-2)
+are-factors-spec = tie.close (tie.spec (λ c κs. search needs) returns (λ c κs. search needs) returns-2)

@@ -4,17 +4,11 @@ use Rattle.dense.proofs.Tests.{and-no, and-yes}
 use Rattle.dense.proofs.shape.are_matrices.Statement.{statement}
 use Rattle.dense.proofs.shape.are_matrices.Tie as tie
 
-is-matrix-requires : tie.Need-is-matrix-requires
-is-matrix-requires c κs = search needs
-
 returns : tie.Need-returns
 returns c = and-no _ (c .before .is-matrix .ensures) (c .if1 .taken)
-
-is-matrix-requires-2 : tie.Need-is-matrix-requires-2
-is-matrix-requires-2 c κs = search needs
 
 returns-2 : tie.Need-returns-2
 returns-2 c = and-yes (c .before .before .is-matrix .ensures) (c .before .if1 .left) (c .is-matrix2 .ensures)
 
 pub are-matrices-spec : {M : Type 1} → statement M
-are-matrices-spec = tie.close (tie.spec is-matrix-requires returns is-matrix-requires-2 returns-2)
+are-matrices-spec = tie.close (tie.spec (λ c κs. search needs) returns (λ c κs. search needs) returns-2)

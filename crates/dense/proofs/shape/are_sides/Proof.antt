@@ -4,17 +4,11 @@ use Rattle.dense.proofs.Tests.{and-no, and-yes}
 use Rattle.dense.proofs.shape.are_sides.Statement.{statement}
 use Rattle.dense.proofs.shape.are_sides.Tie as tie
 
-is-side-requires : tie.Need-is-side-requires
-is-side-requires c κs = search needs
-
 returns : tie.Need-returns
 returns c = and-no _ (c .before .is-side .ensures) (c .if1 .taken)
-
-is-side-requires-2 : tie.Need-is-side-requires-2
-is-side-requires-2 c κs = search needs
 
 returns-2 : tie.Need-returns-2
 returns-2 c = and-yes (c .before .before .is-side .ensures) (c .before .if1 .left) (c .is-side2 .ensures)
 
 pub are-sides-spec : {M : Type 1} → statement M
-are-sides-spec = tie.close (tie.spec is-side-requires returns is-side-requires-2 returns-2)
+are-sides-spec = tie.close (tie.spec (λ c κs. search needs) returns (λ c κs. search needs) returns-2)

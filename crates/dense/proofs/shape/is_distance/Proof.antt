@@ -4,17 +4,11 @@ use Rattle.dense.proofs.Tests.{and-no, and-yes}
 use Rattle.dense.proofs.shape.is_distance.Statement.{statement}
 use Rattle.dense.proofs.shape.is_distance.Tie as tie
 
-is-vector-requires : tie.Need-is-vector-requires
-is-vector-requires c κs = search needs
-
 returns : tie.Need-returns
 returns c = and-no _ (c .before .is-vector .ensures) (c .if1 .taken)
-
-is-form-requires : tie.Need-is-form-requires
-is-form-requires c κs = search needs
 
 returns-2 : tie.Need-returns-2
 returns-2 c = and-yes (c .before .before .is-vector .ensures) (c .before .if1 .left) (c .is-form .ensures)
 
 pub is-distance-spec : {M : Type 1} → statement M
-is-distance-spec = tie.close (tie.spec is-vector-requires returns is-form-requires returns-2)
+is-distance-spec = tie.close (tie.spec (λ c κs. search needs) returns (λ c κs. search needs) returns-2)

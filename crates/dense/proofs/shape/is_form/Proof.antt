@@ -4,17 +4,11 @@ use Rattle.dense.proofs.Tests.{and-no, and-yes}
 use Rattle.dense.proofs.shape.is_form.Statement.{statement}
 use Rattle.dense.proofs.shape.is_form.Tie as tie
 
-is-vector-requires : tie.Need-is-vector-requires
-is-vector-requires c κs = search needs
-
 returns : tie.Need-returns
 returns c = and-no _ (c .before .is-vector .ensures) (c .if1 .taken)
-
-is-matrix-requires : tie.Need-is-matrix-requires
-is-matrix-requires c κs = search needs
 
 returns-2 : tie.Need-returns-2
 returns-2 c = and-yes (c .before .before .is-vector .ensures) (c .before .if1 .left) (c .is-matrix .ensures)
 
 pub is-form-spec : {M : Type 1} → statement M
-is-form-spec = tie.close (tie.spec is-vector-requires returns is-matrix-requires returns-2)
+is-form-spec = tie.close (tie.spec (λ c κs. search needs) returns (λ c κs. search needs) returns-2)

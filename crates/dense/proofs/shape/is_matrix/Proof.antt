@@ -5,12 +5,9 @@ use Rattle.dense.specs.Matrix.{long}
 use Rattle.dense.proofs.shape.is_matrix.Statement.{statement}
 use Rattle.dense.proofs.shape.is_matrix.Tie as tie
 
-mul-result : tie.Need-mul-result
-mul-result c = omega arith
-
 returns : tie.Need-returns
 unfolding long
 returns c = refl
 
 pub is-matrix-spec : {M : Type 1} → statement M
-is-matrix-spec = tie.close (tie.spec mul-result returns)
+is-matrix-spec = tie.close (tie.spec (λ c. omega arith) returns)

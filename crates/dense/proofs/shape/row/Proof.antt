@@ -9,24 +9,6 @@ use Rattle.dense.proofs.Laws.{length-row}
 use Rattle.dense.proofs.shape.row.Statement.{statement}
 use Rattle.dense.proofs.shape.row.Tie as tie
 
-mul-start : tie.Need-mul-start
-mul-start c = omega arith
-
-add-result : tie.Need-add-result
-add-result c = omega arith
-
-mul-result : tie.Need-mul-result
-mul-result c = omega arith
-
-sub-result : tie.Need-sub-result
-sub-result c = omega arith
-
-part-result-start : tie.Need-part-result-start
-part-result-start c = omega arith
-
-part-result-end : tie.Need-part-result-end
-part-result-end c = omega arith
-
 returns : tie.Need-returns
 unfolding rowOf
 returns c =
@@ -35,4 +17,4 @@ returns c =
     (ap length whole ∙ length-row (x .a .now) (x .n) (x .i) (c .before .pre), whole)
 
 pub row-spec : {M : Type 1} → statement M
-row-spec = tie.close (tie.spec mul-start add-result mul-result sub-result part-result-start part-result-end returns)
+row-spec = tie.close (tie.spec (λ c. omega arith) (λ c. omega arith) (λ c. omega arith) (λ c. omega arith) (λ c. omega arith) (λ c. omega arith) returns)

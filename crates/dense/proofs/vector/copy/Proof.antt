@@ -17,24 +17,6 @@ abbrev μ-loop : tie.MeasureT-loop
 loop-holds : tie.Need-loop-holds Inv-loop μ-loop
 loop-holds c = (omega arith, filled-none _ _)
 
-mul-y : tie.Need-mul-y Inv-loop μ-loop
-mul-y c = omega arith
-
-shared-slice-read-y : tie.Need-shared-slice-read-y Inv-loop μ-loop
-shared-slice-read-y c = omega arith
-
-mul-y-2 : tie.Need-mul-y-2 Inv-loop μ-loop
-mul-y-2 c = omega arith
-
-slice-write-y : tie.Need-slice-write-y Inv-loop μ-loop
-slice-write-y c = omega arith
-
-add-j : tie.Need-add-j Inv-loop μ-loop
-add-j c = omega arith
-
-loop-less : tie.Need-loop-less Inv-loop μ-loop
-loop-less c = omega arith
-
 loop-again : tie.Need-loop-again Inv-loop μ-loop
 loop-again c = (omega arith, filled-more _ (c .before .before .loop .j) (omega arith) refl (c .before .before .loop .inv .1))
 
@@ -45,4 +27,7 @@ returns : tie.Need-returns Inv-loop μ-loop
 returns c = filled-all _ (c .before .before .pre .1) (c .loop-test .left) (c .before .loop .inv .1) ∙ sym (own-entries _ _ (c .before .before .pre .0))
 
 pub copy-spec : {M : Type 1} → statement M
-copy-spec = tie.close (tie.spec Inv-loop μ-loop loop-holds mul-y shared-slice-read-y mul-y-2 slice-write-y add-j loop-less loop-again same-length returns)
+copy-spec =
+    tie.close
+    (tie.spec Inv-loop μ-loop loop-holds (λ c. omega arith) (λ c. omega arith) (λ c. omega arith) (λ c. omega arith) (λ c. omega arith) (λ c. omega arith)
+    loop-again same-length returns)

@@ -19,24 +19,6 @@ loop-holds : tie.Need-loop-holds Inv-loop μ-loop
 unfolding sumFrom
 loop-holds c = (omega arith, refl)
 
-mul-s : tie.Need-mul-s Inv-loop μ-loop
-mul-s c = omega arith
-
-shared-slice-read-s : tie.Need-shared-slice-read-s Inv-loop μ-loop
-shared-slice-read-s c = omega arith
-
-mul-s-2 : tie.Need-mul-s-2 Inv-loop μ-loop
-mul-s-2 c = omega arith
-
-shared-slice-read-s-2 : tie.Need-shared-slice-read-s-2 Inv-loop μ-loop
-shared-slice-read-s-2 c = omega arith
-
-add-j : tie.Need-add-j Inv-loop μ-loop
-add-j c = omega arith
-
-loop-less : tie.Need-loop-less Inv-loop μ-loop
-loop-less c = omega arith
-
 loop-again : tie.Need-loop-again Inv-loop μ-loop
 loop-again c = (omega arith, sum-more nought _ (c .before .before .before .loop .j) (c .before .before .before .loop .inv .1) refl)
 
@@ -44,4 +26,7 @@ returns : tie.Need-returns Inv-loop μ-loop
 returns c = sum-all nought _ (c .before .loop .inv .0) (c .loop-test .left) (c .before .loop .inv .1)
 
 pub dot-spec : {M : Type 1} → statement M
-dot-spec = tie.close (tie.spec Inv-loop μ-loop loop-holds mul-s shared-slice-read-s mul-s-2 shared-slice-read-s-2 add-j loop-less loop-again returns)
+dot-spec =
+    tie.close
+    (tie.spec Inv-loop μ-loop loop-holds (λ c. omega arith) (λ c. omega arith) (λ c. omega arith) (λ c. omega arith) (λ c. omega arith) (λ c. omega arith)
+    loop-again returns)

@@ -29,4 +29,6 @@ returns : tie.Need-returns Inv-loop μ-loop
 returns c = at-end (maxAbs (c .before .before .before .args .x .now)) (c .before .loop .inv .0) (c .loop-test .left) (c .before .loop .inv .1)
 
 pub max-abs-spec : {M : Type 1} → statement M
-max-abs-spec = tie.close (tie.spec Inv-loop μ-loop loop-holds (λ c. omega arith) (λ c. omega arith) raised-requires (λ c. omega arith) (λ c. omega arith) loop-again returns)
+max-abs-spec =
+    tie.close
+    (tie.spec Inv-loop μ-loop loop-holds (λ c. omega arith) (λ c. omega arith) raised-requires (λ c. omega arith) (λ c. omega arith) loop-again returns)

@@ -74,9 +74,10 @@ float-from-bits-result c = no-nan-pattern _ (omega (arith, c .root-pattern .ensu
 
 returns-5 : tie.Need-returns-5
 returns-5 c =
-    let x = c .before .before .before .before .before .args .x in
+    let start = c .before .before .before .before .before in
+    let x = start .args .x in
     let p = root-is (c .before) in
-    ap (ofBits binary64) (c .root-pattern .ensures .0 ∙ ap rootPattern (sym (positive-pattern x (held (c .before .before .before .before .before)) p .size))) ∙ sym (sqrt-positive x p)
+    ap (ofBits binary64) (c .root-pattern .ensures .0 ∙ ap rootPattern (sym (positive-pattern x (held (start)) p .size))) ∙ sym (sqrt-positive x p)
 
 pub sqrt-spec : {M : Type 1} → statement M
 sqrt-spec = tie.close (tie.spec returns returns-2 returns-3 float-to-bits-bits returns-4 root-pattern-requires float-from-bits-result returns-5)

@@ -14,35 +14,55 @@ use Rattle.linalg.proofs.Factor.{length-factor}
 use Rattle.linalg.proofs.cholesky.cholesky.Statement.{statement}
 use Rattle.linalg.proofs.cholesky.cholesky.Tie as tie
 
-mul-size : tie.Need-mul-size
-mul-size c = omega arith
-
-array-borrow-prefix-l : tie.Need-array-borrow-prefix-l
-array-borrow-prefix-l c = omega arith
-
 slice-aggregate-factor-rows : tie.Need-slice-aggregate-factor-rows
 slice-aggregate-factor-rows c = sym (length-take-le _ _ (omega arith))
 
 factor-rows-requires : tie.Need-factor-rows-requires
-factor-rows-requires c κs = (c .before .before .before .pre .1, zeros-front (c .before .before .before .args .n * c .before .before .before .args .n) 256 (c .before .before .before .pre .0))
+factor-rows-requires c κs =
+    let start = c .before .before .before in
+    (start .pre .1, zeros-front (start .args .n * start .args .n) 256 (start .pre .0))
 
 returns : tie.Need-returns
 returns c = (sym (unmet (c .before .before .factor-rows .ensures .0) (c .if1 .taken)), λ e. never e, λ _. refl)
 
 array-share-prefix-l : tie.Need-array-share-prefix-l
-array-share-prefix-l c = omega (arith, length-front _ (c .before .before .factor-rows .last .1 .1 .0) (c .before .before .before .before .before .before .args .n * c .before .before .before .before .before .before .args .n) (c .before .before .factor-rows .kept .1 .1 .0))
+array-share-prefix-l c =
+    let after-factor-rows = c .before .before in
+    let start = after-factor-rows .before .before .before .before in
+    omega (arith, length-front _ (after-factor-rows .factor-rows .last .1 .1 .0) (start .args .n * start .args .n) (after-factor-rows .factor-rows .kept .1 .1 .0))
 
 slice-aggregate-copy : tie.Need-slice-aggregate-copy
-slice-aggregate-copy c = sym (ap length (front _ (length-factor (c .before .before .before .before .before .before .before .args .a .now) (c .before .before .before .before .before .before .before .args .n) (c .before .before .before .before .before .before .before .args .n) (le-refl _)) (c .before .before .before .factor-rows .ensures .1 (not-false _ (c .before .if1 .left)))) ∙ length-factor (c .before .before .before .before .before .before .before .args .a .now) (c .before .before .before .before .before .before .before .args .n) (c .before .before .before .before .before .before .before .args .n) (le-refl _))
+slice-aggregate-copy c =
+    let after-factor-rows = c .before .before .before in
+    let start = after-factor-rows .before .before .before .before in
+    sym
+    (ap length (front _ (length-factor (start .args .a .now) (start .args .n) (start .args .n) (le-refl _)) (after-factor-rows .factor-rows .ensures .1 (not-false _ (c .before .if1 .left))))
+    ∙ length-factor (start .args .a .now) (start .args .n) (start .args .n) (le-refl _))
 
 copy-requires : tie.Need-copy-requires
-copy-requires c κs = (ap length (front _ (length-factor (c .before .before .before .before .before .before .before .before .args .a .now) (c .before .before .before .before .before .before .before .before .args .n) (c .before .before .before .before .before .before .before .before .args .n) (le-refl _)) (c .before .before .before .before .factor-rows .ensures .1 (not-false _ (c .before .before .if1 .left)))) ∙ length-factor (c .before .before .before .before .before .before .before .before .args .a .now) (c .before .before .before .before .before .before .before .before .args .n) (c .before .before .before .before .before .before .before .before .args .n) (le-refl _), c .before .before .before .before .before .before .before .before .pre .2)
-
-same-length : tie.Need-same-length
-same-length c = search needs
+copy-requires c κs =
+    let else1 = c .before .before in
+    let after-factor-rows = else1 .before .before in
+    let start = after-factor-rows .before .before .before .before in (
+      ap length (front _ (length-factor (start .args .a .now) (start .args .n) (start .args .n) (le-refl _)) (after-factor-rows .factor-rows .ensures .1 (not-false _ (else1 .if1 .left))))
+          ∙ length-factor (start .args .a .now) (start .args .n) (start .args .n) (le-refl _),
+      start .pre .2,
+    )
 
 returns-2 : tie.Need-returns-2
-returns-2 c = (sym (met (c .before .before .before .before .before .before .before .factor-rows .ensures .0) (c .before .before .before .before .before .if1 .left)), λ _. c .before .before .copy .ensures ∙ front _ (length-factor (c .before .before .before .before .before .before .before .before .before .before .before .args .a .now) (c .before .before .before .before .before .before .before .before .before .before .before .args .n) (c .before .before .before .before .before .before .before .before .before .before .before .args .n) (le-refl _)) (c .before .before .before .before .before .before .before .factor-rows .ensures .1 (not-false _ (c .before .before .before .before .before .if1 .left))), λ e. never (sym e))
+returns-2 c =
+    let after-copy = c .before .before in
+    let else1 = after-copy .before .before .before in
+    let after-factor-rows = else1 .before .before in
+    let start = after-factor-rows .before .before .before .before in (
+      sym (met (after-factor-rows .factor-rows .ensures .0) (else1 .if1 .left)),
+      λ _. after-copy .copy .ensures
+          ∙ front _ (length-factor (start .args .a .now) (start .args .n) (start .args .n) (le-refl _)) (after-factor-rows .factor-rows .ensures .1 (not-false _ (else1 .if1 .left))),
+      λ e. never (sym e),
+    )
 
 pub cholesky-spec : {M : Type 1} → statement M
-cholesky-spec = tie.close (tie.spec mul-size array-borrow-prefix-l slice-aggregate-factor-rows factor-rows-requires returns array-share-prefix-l slice-aggregate-copy copy-requires same-length returns-2)
+cholesky-spec =
+    tie.close
+    (tie.spec (λ c. omega arith) (λ c. omega arith) slice-aggregate-factor-rows factor-rows-requires returns array-share-prefix-l slice-aggregate-copy
+    copy-requires (λ c. search needs) returns-2)

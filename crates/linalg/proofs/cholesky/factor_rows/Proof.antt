@@ -24,44 +24,57 @@ abbrev μ-loop : tie.MeasureT-loop
 
 loop-holds : tie.Need-loop-holds Inv-loop μ-loop
 unfolding definite factor
-loop-holds c = (omega arith, ap length (c .before .before .pre .1) ∙ length-replicate _ _, refl, subst (λ (z : List Float). Padded [] z) (sym (c .before .before .pre .1)) (padded-none (c .before .before .args .n * c .before .before .args .n)))
+loop-holds c =
+    let start = c .before .before in
+    (omega arith, ap length (start .pre .1) ∙ length-replicate _ _, refl, subst (λ (z : List Float). Padded [] z) (sym (start .pre .1)) (padded-none (start .args .n * start .args .n)))
 
 factor-row-requires : tie.Need-factor-row-requires Inv-loop μ-loop
 factor-row-requires c κs = (omega arith, c .before .before .before .before .before .pre .0, c .before .before .loop .inv .1, c .before .before .loop .inv .3)
 
 same-length : tie.Need-same-length Inv-loop μ-loop
-same-length c = c .before .before .before .factor-row .kept .1 .1 .1 .0 ∙ c .before .before .before .before .before .before .loop .inv .1 ∙ sym (ap length (c .before .before .before .before .before .before .before .before .before .pre .1) ∙ length-replicate _ _)
+same-length c =
+    let after-factor-row = c .before .before .before in
+    let at-loop = after-factor-row .before .before .before in
+    let start = at-loop .before .before .before in
+    after-factor-row .factor-row .kept .1 .1 .1 .0 ∙ at-loop .loop .inv .1 ∙ sym (ap length (start .pre .1) ∙ length-replicate _ _)
 
 returns : tie.Need-returns Inv-loop μ-loop
 returns c =
-    let x = c .before .before .before .before .before .before .before .before .before .args in
-    let turn = c .before .before .before .before .before .before .loop in
-    let fails : definite (x .a .now) (x .n) (turn .i + 1) ≡ false = definite-suc (x .a .now) (x .n) (turn .i) ∙ rw (turn .inv .2, unmet (c .before .before .before .factor-row .ensures .0) (c .if1 .taken)) in
+    let after-factor-row = c .before .before .before in
+    let at-loop = after-factor-row .before .before .before in
+    let start = at-loop .before .before .before in
+    let x = start .args in
+    let turn = at-loop .loop in
+    let fails : definite (x .a .now) (x .n) (turn .i + 1) ≡ false = definite-suc (x .a .now) (x .n) (turn .i) ∙ rw (turn .inv .2, unmet (after-factor-row .factor-row .ensures .0) (c .if1 .taken)) in
     let end : x .n ≡ x .n - (turn .i + 1) + (turn .i + 1) = omega arith in
     (sym (ap (definite (x .a .now) (x .n)) end ∙ definite-never (x .a .now) (x .n) (turn .i + 1) (x .n - (turn .i + 1)) fails), λ e. never e)
 
-add-i : tie.Need-add-i Inv-loop μ-loop
-add-i c = omega arith
-
-loop-less : tie.Need-loop-less Inv-loop μ-loop
-loop-less c = omega arith
-
 loop-again : tie.Need-loop-again Inv-loop μ-loop
 loop-again c =
-    let x = c .before .before .before .before .before .before .before .before .before .args in
-    let turn = c .before .before .before .before .before .before .loop in
-    (omega arith, c .before .before .before .factor-row .kept .1 .1 .1 .0 ∙ turn .inv .1, definite-suc (x .a .now) (x .n) (turn .i) ∙ rw (turn .inv .2, met (c .before .before .before .factor-row .ensures .0) (c .if1 .left)), c .before .before .before .factor-row .ensures .1 (not-false _ (c .if1 .left)))
+    let after-factor-row = c .before .before .before in
+    let at-loop = after-factor-row .before .before .before in
+    let start = at-loop .before .before .before in
+    let x = start .args in
+    let turn = at-loop .loop in (
+      omega arith,
+      after-factor-row .factor-row .kept .1 .1 .1 .0 ∙ turn .inv .1,
+      definite-suc (x .a .now) (x .n) (turn .i) ∙ rw (turn .inv .2, met (after-factor-row .factor-row .ensures .0) (c .if1 .left)),
+      after-factor-row .factor-row .ensures .1 (not-false _ (c .if1 .left)),
+    )
 
 same-length-2 : tie.Need-same-length-2 Inv-loop μ-loop
 same-length-2 c = c .before .loop .inv .1 ∙ sym (ap length (c .before .before .before .before .pre .1) ∙ length-replicate _ _)
 
 returns-2 : tie.Need-returns-2 Inv-loop μ-loop
 returns-2 c =
-    let x = c .before .before .before .before .args in
+    let start = c .before .before .before .before in
+    let x = start .args in
     let turn = c .before .loop in
     let end : turn .i ≡ x .n = le-antisymm (turn .inv .0) (c .loop-test .left) in
     let whole = padded-all (factor (x .a .now) (x .n) (turn .i)) (turn .l) (omega (arith, length-factor (x .a .now) (x .n) (turn .i) (turn .inv .0), ap (λ (k : ℕ). k * x .n) end)) (turn .inv .3) in
     (sym (ap (definite (x .a .now) (x .n)) (sym end) ∙ turn .inv .2), λ _. whole ∙ ap (factor (x .a .now) (x .n)) end)
 
 pub factor-rows-spec : {M : Type 1} → statement M
-factor-rows-spec = tie.close (tie.spec Inv-loop μ-loop loop-holds factor-row-requires same-length returns add-i loop-less loop-again same-length-2 returns-2)
+factor-rows-spec =
+    tie.close
+    (tie.spec Inv-loop μ-loop loop-holds factor-row-requires same-length returns (λ c. omega arith) (λ c. omega arith) loop-again same-length-2 returns-2)

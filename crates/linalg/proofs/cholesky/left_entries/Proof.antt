@@ -18,8 +18,12 @@ abbrev μ-loop : tie.MeasureT-loop
 μ-loop a n i l₀ j₀ l j = i - j
 
 -- rows i and j lie within the slice
-within : (c : tie.In-loop Inv-loop μ-loop) → (c .before .before .before .before .args .i * c .before .before .before .before .args .n + c .before .before .before .before .args .n ≤ c .before .before .before .before .args .n * c .before .before .before .before .args .n) × (c .before .loop .j * c .before .before .before .before .args .n + c .before .before .before .before .args .n ≤ c .before .before .before .before .args .n * c .before .before .before .before .args .n)
-within c = (row-within (c .before .before .before .before .args .n) (c .before .before .before .before .args .n) (omega arith), row-within (c .before .before .before .before .args .n) (c .before .before .before .before .args .n) (omega arith))
+within : (c : tie.In-loop Inv-loop μ-loop)
+    → (c .before .before .before .before .args .i * c .before .before .before .before .args .n + c .before .before .before .before .args .n ≤ c .before .before .before .before .args .n * c .before .before .before .before .args .n) × (c .before .loop .j * c .before .before .before .before .args .n + c .before .before .before .before .args .n ≤ c .before .before .before .before .args .n * c .before .before .before .before .args .n)
+within c = (
+  row-within (c .before .before .before .before .args .n) (c .before .before .before .before .args .n) (omega arith),
+  row-within (c .before .before .before .before .args .n) (c .before .before .before .before .args .n) (omega arith),
+)
 
 loop-holds : tie.Need-loop-holds Inv-loop μ-loop
 unfolding withLeft
@@ -46,25 +50,32 @@ mul-l-2 c = omega (arith, within (c .before .before .before .before .before))
 slice-write-l : tie.Need-slice-write-l Inv-loop μ-loop
 slice-write-l c = omega (arith, within (c .before .before .before .before .before))
 
-add-j : tie.Need-add-j Inv-loop μ-loop
-add-j c = omega arith
-
-loop-less : tie.Need-loop-less Inv-loop μ-loop
-loop-less c = omega arith
-
 loop-again : tie.Need-loop-again Inv-loop μ-loop
 loop-again c =
-    let x = c .before .before .before .before .before .before .before .before .before .args in
-    let turn = c .before .before .before .before .before .before .loop in
-    (omega arith, simp length-set (turn .inv .1), left-more (x .a .now) (turn .l) (x .n) (x .i) (turn .inv .1 ∙ c .before .before .before .before .before .before .before .before .before .pre .2) (c .before .before .before .before .before .before .before .before .before .pre .0) (turn .j) _ (omega arith) (rw (c .before .before .before .before .entry .ensures, c .before .before .inner .ensures, c .entry2 .ensures)) (turn .inv .2))
+    let after-inner = c .before .before in
+    let after-entry = after-inner .before .before in
+    let at-loop = after-entry .before .before in
+    let start = at-loop .before .before .before in
+    let x = start .args in
+    let turn = at-loop .loop in (
+      omega arith,
+      simp length-set (turn .inv .1),
+      left-more (x .a .now) (turn .l) (x .n) (x .i) (turn .inv .1 ∙ start .pre .2) (start .pre .0) (turn .j) _ (omega arith)
+          (rw (after-entry .entry .ensures, after-inner .inner .ensures, c .entry2 .ensures)) (turn .inv .2),
+    )
 
 same-length : tie.Need-same-length Inv-loop μ-loop
 same-length c = c .before .loop .inv .1
 
 returns : tie.Need-returns Inv-loop μ-loop
 returns c =
-    let x = c .before .before .before .before .args in
-    subst (λ (j : ℕ). Padded (withLeft (x .a .now) (x .n) (factor (x .a .now) (x .n) (x .i)) (x .i) j) (c .before .loop .l)) (le-antisymm (c .before .loop .inv .0) (c .loop-test .left)) (c .before .loop .inv .2)
+    let start = c .before .before .before .before in
+    let x = start .args in
+    subst (λ (j : ℕ). Padded (withLeft (x .a .now) (x .n) (factor (x .a .now) (x .n) (x .i)) (x .i) j) (c .before .loop .l))
+    (le-antisymm (c .before .loop .inv .0) (c .loop-test .left)) (c .before .loop .inv .2)
 
 pub left-entries-spec : {M : Type 1} → statement M
-left-entries-spec = tie.close (tie.spec Inv-loop μ-loop loop-holds entry-requires inner-requires entry-requires-2 mul-l add-l mul-l-2 slice-write-l add-j loop-less loop-again same-length returns)
+left-entries-spec =
+    tie.close
+    (tie.spec Inv-loop μ-loop loop-holds entry-requires inner-requires entry-requires-2 mul-l add-l mul-l-2 slice-write-l (λ c. omega arith) (λ c. omega arith)
+    loop-again same-length returns)

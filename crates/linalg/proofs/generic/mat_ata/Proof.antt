@@ -7,9 +7,6 @@ use Rattle.dense.proofs.Answers.{done}
 use Rattle.linalg.proofs.generic.mat_ata.Statement.{statement}
 use Rattle.linalg.proofs.generic.mat_ata.Tie as tie
 
-are-sides-requires : tie.Need-are-sides-requires
-are-sides-requires c κs = search needs
-
 returns : tie.Need-returns
 unfolding matAta
 returns c = rw (unmet (c .before .are-sides .ensures) (c .if1 .taken))
@@ -20,26 +17,35 @@ are-matrices-requires c κs =
     let s = two-sides (x .m) (x .n) (met (c .before .before .are-sides .ensures) (c .before .if1 .left)) in
     (area (x .m) (x .n) (s .0) (s .1), area (x .n) (x .n) (s .1) (s .1))
 
-same-length : tie.Need-same-length
-same-length c = search needs
-
 returns-2 : tie.Need-returns-2
 unfolding matAta
-returns-2 c = rw (met (c .before .before .before .before .are-sides .ensures) (c .before .before .before .if1 .left), unmet (c .before .are-matrices .ensures) (c .if2 .taken))
+returns-2 c =
+    let else1 = c .before .before .before in
+    let after-are-sides = else1 .before in
+    rw (met (after-are-sides .are-sides .ensures) (else1 .if1 .left), unmet (c .before .are-matrices .ensures) (c .if2 .taken))
 
 ata-by-width-requires : tie.Need-ata-by-width-requires
 ata-by-width-requires c κs =
-    let x = c .before .before .before .before .before .before .before .before .args in
-    let s = two-sides (x .m) (x .n) (met (c .before .before .before .before .before .are-sides .ensures) (c .before .before .before .before .if1 .left)) in
-    let l = two-long (x .a .now) (x .out .now) (x .m * x .n) (x .n * x .n) (met (c .before .before .are-matrices .ensures) (c .before .if2 .left)) in
+    let after-are-matrices = c .before .before in
+    let else1 = after-are-matrices .before .before in
+    let after-are-sides = else1 .before in
+    let start = after-are-sides .before .before .before in
+    let x = start .args in
+    let s = two-sides (x .m) (x .n) (met (after-are-sides .are-sides .ensures) (else1 .if1 .left)) in
+    let l = two-long (x .a .now) (x .out .now) (x .m * x .n) (x .n * x .n) (met (after-are-matrices .are-matrices .ensures) (c .before .if2 .left)) in
     (side-high (x .n) (s .1), l .0, l .1)
-
-same-length-2 : tie.Need-same-length-2
-same-length-2 c = search needs
 
 returns-3 : tie.Need-returns-3
 unfolding matAta
-returns-3 c = rw (met (c .before .before .before .before .before .before .before .before .are-sides .ensures) (c .before .before .before .before .before .before .before .if1 .left), met (c .before .before .before .before .before .are-matrices .ensures) (c .before .before .before .before .if2 .left)) (done (c .before .before .ata-by-width .ensures))
+returns-3 c =
+    let after-ata-by-width = c .before .before in
+    let else2 = after-ata-by-width .before .before in
+    let after-are-matrices = else2 .before in
+    let else1 = after-are-matrices .before .before in
+    let after-are-sides = else1 .before in
+    rw (met (after-are-sides .are-sides .ensures) (else1 .if1 .left), met (after-are-matrices .are-matrices .ensures) (else2 .if2 .left)) (done (after-ata-by-width .ata-by-width .ensures))
 
 pub mat-ata-spec : {M : Type 1} → statement M
-mat-ata-spec = tie.close (tie.spec are-sides-requires returns are-matrices-requires same-length returns-2 ata-by-width-requires same-length-2 returns-3)
+mat-ata-spec =
+    tie.close
+    (tie.spec (λ c κs. search needs) returns are-matrices-requires (λ c. search needs) returns-2 ata-by-width-requires (λ c. search needs) returns-3)

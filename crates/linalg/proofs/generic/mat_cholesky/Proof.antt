@@ -8,9 +8,6 @@ use Rattle.dense.proofs.Answers.{done, kept}
 use Rattle.linalg.proofs.generic.mat_cholesky.Statement.{statement}
 use Rattle.linalg.proofs.generic.mat_cholesky.Tie as tie
 
-is-side-requires : tie.Need-is-side-requires
-is-side-requires c κs = search needs
-
 returns : tie.Need-returns
 unfolding matCholesky
 returns c = rw (unmet (c .before .is-side .ensures) (c .if1 .taken))
@@ -18,33 +15,52 @@ returns c = rw (unmet (c .before .is-side .ensures) (c .if1 .taken))
 are-matrices-requires : tie.Need-are-matrices-requires
 are-matrices-requires c κs = two-squares (c .before .before .before .before .before .args .n) (met (c .before .before .is-side .ensures) (c .before .if1 .left))
 
-same-length : tie.Need-same-length
-same-length c = search needs
-
 returns-2 : tie.Need-returns-2
 unfolding matCholesky
-returns-2 c = rw (met (c .before .before .before .before .is-side .ensures) (c .before .before .before .if1 .left), unmet (c .before .are-matrices .ensures) (c .if2 .taken))
+returns-2 c =
+    let else1 = c .before .before .before in
+    let after-is-side = else1 .before in
+    rw (met (after-is-side .is-side .ensures) (else1 .if1 .left), unmet (c .before .are-matrices .ensures) (c .if2 .taken))
 
 cholesky-requires : tie.Need-cholesky-requires
 cholesky-requires c κs =
-    let x = c .before .before .before .before .before .before .before .before .args in
-    let s = met (c .before .before .before .before .before .is-side .ensures) (c .before .before .before .before .if1 .left) in
-    let l = two-long (x .a .now) (x .out .now) (x .n * x .n) (x .n * x .n) (met (c .before .before .are-matrices .ensures) (c .before .if2 .left)) in
+    let after-are-matrices = c .before .before in
+    let else1 = after-are-matrices .before .before in
+    let after-is-side = else1 .before in
+    let start = after-is-side .before .before .before in
+    let x = start .args in
+    let s = met (after-is-side .is-side .ensures) (else1 .if1 .left) in
+    let l = two-long (x .a .now) (x .out .now) (x .n * x .n) (x .n * x .n) (met (after-are-matrices .are-matrices .ensures) (c .before .if2 .left)) in
     (area (x .n) (x .n) s s, l .0, l .1)
-
-same-length-2 : tie.Need-same-length-2
-same-length-2 c = search needs
 
 returns-3 : tie.Need-returns-3
 unfolding matCholesky
-returns-3 c = rw (met (c .before .before .before .before .before .before .before .before .before .is-side .ensures) (c .before .before .before .before .before .before .before .before .if1 .left), met (c .before .before .before .before .before .before .are-matrices .ensures) (c .before .before .before .before .before .if2 .left), unmet (c .before .before .before .cholesky .ensures .0) (c .if3 .taken)) (kept (c .before .before .before .cholesky .ensures .2 (not-true _ (c .if3 .taken))))
-
-same-length-3 : tie.Need-same-length-3
-same-length-3 c = search needs
+returns-3 c =
+    let after-cholesky = c .before .before .before in
+    let else2 = after-cholesky .before .before in
+    let after-are-matrices = else2 .before in
+    let else1 = after-are-matrices .before .before in
+    let after-is-side = else1 .before in
+    rw (
+      met (after-is-side .is-side .ensures) (else1 .if1 .left),
+      met (after-are-matrices .are-matrices .ensures) (else2 .if2 .left),
+      unmet (after-cholesky .cholesky .ensures .0) (c .if3 .taken),
+    ) (kept (after-cholesky .cholesky .ensures .2 (not-true _ (c .if3 .taken))))
 
 returns-4 : tie.Need-returns-4
 unfolding matCholesky
-returns-4 c = rw (met (c .before .before .before .before .before .before .before .before .before .is-side .ensures) (c .before .before .before .before .before .before .before .before .if1 .left), met (c .before .before .before .before .before .before .are-matrices .ensures) (c .before .before .before .before .before .if2 .left), met (c .before .before .before .cholesky .ensures .0) (c .if3 .left)) (done (c .before .before .before .cholesky .ensures .1 (not-false _ (c .if3 .left))))
+returns-4 c =
+    let after-cholesky = c .before .before .before in
+    let else2 = after-cholesky .before .before in
+    let after-are-matrices = else2 .before in
+    let else1 = after-are-matrices .before .before in
+    let after-is-side = else1 .before in
+    rw
+    (met (after-is-side .is-side .ensures) (else1 .if1 .left), met (after-are-matrices .are-matrices .ensures) (else2 .if2 .left), met (after-cholesky .cholesky .ensures .0) (c .if3 .left))
+    (done (after-cholesky .cholesky .ensures .1 (not-false _ (c .if3 .left))))
 
 pub mat-cholesky-spec : {M : Type 1} → statement M
-mat-cholesky-spec = tie.close (tie.spec is-side-requires returns are-matrices-requires same-length returns-2 cholesky-requires same-length-2 returns-3 same-length-3 returns-4)
+mat-cholesky-spec =
+    tie.close
+    (tie.spec (λ c κs. search needs) returns are-matrices-requires (λ c. search needs) returns-2 cholesky-requires (λ c. search needs) returns-3
+    (λ c. search needs) returns-4)

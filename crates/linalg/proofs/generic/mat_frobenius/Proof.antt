@@ -8,9 +8,6 @@ use Rattle.dense.proofs.Answers.{value}
 use Rattle.linalg.proofs.generic.mat_frobenius.Statement.{statement}
 use Rattle.linalg.proofs.generic.mat_frobenius.Tie as tie
 
-are-sides-requires : tie.Need-are-sides-requires
-are-sides-requires c κs = search needs
-
 returns : tie.Need-returns
 unfolding matFrobenius
 returns c = rw (unmet (c .before .are-sides .ensures) (c .if1 .taken))
@@ -38,7 +35,11 @@ norm-requires c κs =
 
 returns-3 : tie.Need-returns-3
 unfolding matFrobenius
-returns-3 c = rw (met (c .before .before .before .before .are-sides .ensures) (c .before .before .before .if1 .left), met (c .before .before .is-matrix .ensures) (c .before .if2 .left)) (value (c .norm .ensures))
+returns-3 c =
+    let after-is-matrix = c .before .before in
+    let else1 = after-is-matrix .before in
+    let after-are-sides = else1 .before in
+    rw (met (after-are-sides .are-sides .ensures) (else1 .if1 .left), met (after-is-matrix .is-matrix .ensures) (c .before .if2 .left)) (value (c .norm .ensures))
 
 pub mat-frobenius-spec : {M : Type 1} → statement M
-mat-frobenius-spec = tie.close (tie.spec are-sides-requires returns is-matrix-requires returns-2 mul-norm norm-requires returns-3)
+mat-frobenius-spec = tie.close (tie.spec (λ c κs. search needs) returns is-matrix-requires returns-2 mul-norm norm-requires returns-3)

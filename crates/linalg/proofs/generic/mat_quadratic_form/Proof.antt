@@ -7,9 +7,6 @@ use Rattle.dense.proofs.Answers.{value}
 use Rattle.linalg.proofs.generic.mat_quadratic_form.Statement.{statement}
 use Rattle.linalg.proofs.generic.mat_quadratic_form.Tie as tie
 
-is-side-requires : tie.Need-is-side-requires
-is-side-requires c κs = search needs
-
 returns : tie.Need-returns
 unfolding matQuadraticForm
 returns c = rw (unmet (c .before .is-side .ensures) (c .if1 .taken))
@@ -26,12 +23,17 @@ returns-2 c = rw (met (c .before .before .before .is-side .ensures) (c .before .
 
 quadratic-form-requires : tie.Need-quadratic-form-requires
 quadratic-form-requires c κs =
-    let x = c .before .before .before .before .before .before .args in
+    let start = c .before .before .before .before .before .before in
+    let x = start .args in
     two-long (x .x .now) (x .a .now) (x .n) (x .n * x .n) (met (c .before .is-form .ensures) (c .if2 .left))
 
 returns-3 : tie.Need-returns-3
 unfolding matQuadraticForm
-returns-3 c = rw (met (c .before .before .before .before .is-side .ensures) (c .before .before .before .if1 .left), met (c .before .before .is-form .ensures) (c .before .if2 .left)) (value (c .quadratic-form .ensures))
+returns-3 c =
+    let after-is-form = c .before .before in
+    let else1 = after-is-form .before in
+    let after-is-side = else1 .before in
+    rw (met (after-is-side .is-side .ensures) (else1 .if1 .left), met (after-is-form .is-form .ensures) (c .before .if2 .left)) (value (c .quadratic-form .ensures))
 
 pub mat-quadratic-form-spec : {M : Type 1} → statement M
-mat-quadratic-form-spec = tie.close (tie.spec is-side-requires returns is-form-requires returns-2 quadratic-form-requires returns-3)
+mat-quadratic-form-spec = tie.close (tie.spec (λ c κs. search needs) returns is-form-requires returns-2 quadratic-form-requires returns-3)

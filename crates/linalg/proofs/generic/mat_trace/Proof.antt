@@ -7,9 +7,6 @@ use Rattle.dense.proofs.Answers.{value}
 use Rattle.linalg.proofs.generic.mat_trace.Statement.{statement}
 use Rattle.linalg.proofs.generic.mat_trace.Tie as tie
 
-is-side-requires : tie.Need-is-side-requires
-is-side-requires c κs = search needs
-
 returns : tie.Need-returns
 unfolding matTrace
 returns c = rw (unmet (c .before .is-side .ensures) (c .if1 .taken))
@@ -31,7 +28,11 @@ trace-requires c κs =
 
 returns-3 : tie.Need-returns-3
 unfolding matTrace
-returns-3 c = rw (met (c .before .before .before .before .is-side .ensures) (c .before .before .before .if1 .left), met (c .before .before .is-matrix .ensures) (c .before .if2 .left)) (value (c .trace .ensures))
+returns-3 c =
+    let after-is-matrix = c .before .before in
+    let else1 = after-is-matrix .before in
+    let after-is-side = else1 .before in
+    rw (met (after-is-side .is-side .ensures) (else1 .if1 .left), met (after-is-matrix .is-matrix .ensures) (c .before .if2 .left)) (value (c .trace .ensures))
 
 pub mat-trace-spec : {M : Type 1} → statement M
-mat-trace-spec = tie.close (tie.spec is-side-requires returns is-matrix-requires returns-2 trace-requires returns-3)
+mat-trace-spec = tie.close (tie.spec (λ c κs. search needs) returns is-matrix-requires returns-2 trace-requires returns-3)

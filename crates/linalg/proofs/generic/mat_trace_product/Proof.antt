@@ -7,9 +7,6 @@ use Rattle.dense.proofs.Answers.{value}
 use Rattle.linalg.proofs.generic.mat_trace_product.Statement.{statement}
 use Rattle.linalg.proofs.generic.mat_trace_product.Tie as tie
 
-is-side-requires : tie.Need-is-side-requires
-is-side-requires c κs = search needs
-
 returns : tie.Need-returns
 unfolding matTraceProduct
 returns c = rw (unmet (c .before .is-side .ensures) (c .if1 .taken))
@@ -23,12 +20,17 @@ returns-2 c = rw (met (c .before .before .before .is-side .ensures) (c .before .
 
 trace-product-requires : tie.Need-trace-product-requires
 trace-product-requires c κs =
-    let x = c .before .before .before .before .before .before .args in
+    let start = c .before .before .before .before .before .before in
+    let x = start .args in
     two-long (x .a .now) (x .b .now) (x .n * x .n) (x .n * x .n) (met (c .before .are-matrices .ensures) (c .if2 .left))
 
 returns-3 : tie.Need-returns-3
 unfolding matTraceProduct
-returns-3 c = rw (met (c .before .before .before .before .is-side .ensures) (c .before .before .before .if1 .left), met (c .before .before .are-matrices .ensures) (c .before .if2 .left)) (value (c .trace-product .ensures))
+returns-3 c =
+    let after-are-matrices = c .before .before in
+    let else1 = after-are-matrices .before in
+    let after-is-side = else1 .before in
+    rw (met (after-is-side .is-side .ensures) (else1 .if1 .left), met (after-are-matrices .are-matrices .ensures) (c .before .if2 .left)) (value (c .trace-product .ensures))
 
 pub mat-trace-product-spec : {M : Type 1} → statement M
-mat-trace-product-spec = tie.close (tie.spec is-side-requires returns are-matrices-requires returns-2 trace-product-requires returns-3)
+mat-trace-product-spec = tie.close (tie.spec (λ c κs. search needs) returns are-matrices-requires returns-2 trace-product-requires returns-3)

@@ -7,9 +7,6 @@ use Rattle.dense.proofs.Answers.{done}
 use Rattle.linalg.proofs.generic.mat_transpose.Statement.{statement}
 use Rattle.linalg.proofs.generic.mat_transpose.Tie as tie
 
-are-sides-requires : tie.Need-are-sides-requires
-are-sides-requires c κs = search needs
-
 returns : tie.Need-returns
 unfolding matTranspose
 returns c = rw (unmet (c .before .are-sides .ensures) (c .if1 .taken))
@@ -20,24 +17,31 @@ are-matrices-requires c κs =
     let s = two-sides (x .m) (x .n) (met (c .before .before .are-sides .ensures) (c .before .if1 .left)) in
     (area (x .m) (x .n) (s .0) (s .1), area (x .n) (x .m) (s .1) (s .0))
 
-same-length : tie.Need-same-length
-same-length c = search needs
-
 returns-2 : tie.Need-returns-2
 unfolding matTranspose
-returns-2 c = rw (met (c .before .before .before .before .are-sides .ensures) (c .before .before .before .if1 .left), unmet (c .before .are-matrices .ensures) (c .if2 .taken))
+returns-2 c =
+    let else1 = c .before .before .before in
+    let after-are-sides = else1 .before in
+    rw (met (after-are-sides .are-sides .ensures) (else1 .if1 .left), unmet (c .before .are-matrices .ensures) (c .if2 .taken))
 
 transpose-requires : tie.Need-transpose-requires
 transpose-requires c κs =
-    let x = c .before .before .before .before .before .before .before .before .args in
-    two-long (x .a .now) (x .out .now) (x .m * x .n) (x .n * x .m) (met (c .before .before .are-matrices .ensures) (c .before .if2 .left))
-
-same-length-2 : tie.Need-same-length-2
-same-length-2 c = search needs
+    let after-are-matrices = c .before .before in
+    let start = after-are-matrices .before .before .before .before .before .before in
+    let x = start .args in
+    two-long (x .a .now) (x .out .now) (x .m * x .n) (x .n * x .m) (met (after-are-matrices .are-matrices .ensures) (c .before .if2 .left))
 
 returns-3 : tie.Need-returns-3
 unfolding matTranspose
-returns-3 c = rw (met (c .before .before .before .before .before .before .before .before .are-sides .ensures) (c .before .before .before .before .before .before .before .if1 .left), met (c .before .before .before .before .before .are-matrices .ensures) (c .before .before .before .before .if2 .left)) (done (c .before .before .transpose .ensures))
+returns-3 c =
+    let after-transpose = c .before .before in
+    let else2 = after-transpose .before .before in
+    let after-are-matrices = else2 .before in
+    let else1 = after-are-matrices .before .before in
+    let after-are-sides = else1 .before in
+    rw (met (after-are-sides .are-sides .ensures) (else1 .if1 .left), met (after-are-matrices .are-matrices .ensures) (else2 .if2 .left)) (done (after-transpose .transpose .ensures))
 
 pub mat-transpose-spec : {M : Type 1} → statement M
-mat-transpose-spec = tie.close (tie.spec are-sides-requires returns are-matrices-requires same-length returns-2 transpose-requires same-length-2 returns-3)
+mat-transpose-spec =
+    tie.close
+    (tie.spec (λ c κs. search needs) returns are-matrices-requires (λ c. search needs) returns-2 transpose-requires (λ c. search needs) returns-3)

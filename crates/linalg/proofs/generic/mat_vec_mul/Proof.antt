@@ -7,37 +7,43 @@ use Rattle.dense.proofs.Answers.{done}
 use Rattle.linalg.proofs.generic.mat_vec_mul.Statement.{statement}
 use Rattle.linalg.proofs.generic.mat_vec_mul.Tie as tie
 
-is-side-requires : tie.Need-is-side-requires
-is-side-requires c κs = search needs
-
 returns : tie.Need-returns
 unfolding matVecMul
 returns c = rw (unmet (c .before .is-side .ensures) (c .if1 .taken))
 
 is-system-requires : tie.Need-is-system-requires
 is-system-requires c κs =
-    let x = c .before .before .before .before .before .before .args in
-    let s = met (c .before .before .is-side .ensures) (c .before .if1 .left) in
+    let after-is-side = c .before .before in
+    let start = after-is-side .before .before .before .before in
+    let x = start .args in
+    let s = met (after-is-side .is-side .ensures) (c .before .if1 .left) in
     area (x .n) (x .n) s s
-
-same-length : tie.Need-same-length
-same-length c = search needs
 
 returns-2 : tie.Need-returns-2
 unfolding matVecMul
-returns-2 c = rw (met (c .before .before .before .before .is-side .ensures) (c .before .before .before .if1 .left), unmet (c .before .is-system .ensures) (c .if2 .taken))
+returns-2 c =
+    let else1 = c .before .before .before in
+    let after-is-side = else1 .before in
+    rw (met (after-is-side .is-side .ensures) (else1 .if1 .left), unmet (c .before .is-system .ensures) (c .if2 .taken))
 
 times-vector-by-width-requires : tie.Need-times-vector-by-width-requires
 times-vector-by-width-requires c κs =
-    let x = c .before .before .before .before .before .before .before .before .before .args in
-    three-long (x .a .now) (x .x .now) (x .out .now) (x .n * x .n) (x .n) (x .n) (met (c .before .before .is-system .ensures) (c .before .if2 .left))
-
-same-length-2 : tie.Need-same-length-2
-same-length-2 c = search needs
+    let after-is-system = c .before .before in
+    let start = after-is-system .before .before .before .before .before .before .before in
+    let x = start .args in
+    three-long (x .a .now) (x .x .now) (x .out .now) (x .n * x .n) (x .n) (x .n) (met (after-is-system .is-system .ensures) (c .before .if2 .left))
 
 returns-3 : tie.Need-returns-3
 unfolding matVecMul
-returns-3 c = rw (met (c .before .before .before .before .before .before .before .before .is-side .ensures) (c .before .before .before .before .before .before .before .if1 .left), met (c .before .before .before .before .before .is-system .ensures) (c .before .before .before .before .if2 .left)) (done (c .before .before .times-vector-by-width .ensures))
+returns-3 c =
+    let after-times-vector-by-width = c .before .before in
+    let else2 = after-times-vector-by-width .before .before in
+    let after-is-system = else2 .before in
+    let else1 = after-is-system .before .before in
+    let after-is-side = else1 .before in
+    rw (met (after-is-side .is-side .ensures) (else1 .if1 .left), met (after-is-system .is-system .ensures) (else2 .if2 .left)) (done (after-times-vector-by-width .times-vector-by-width .ensures))
 
 pub mat-vec-mul-spec : {M : Type 1} → statement M
-mat-vec-mul-spec = tie.close (tie.spec is-side-requires returns is-system-requires same-length returns-2 times-vector-by-width-requires same-length-2 returns-3)
+mat-vec-mul-spec =
+    tie.close
+    (tie.spec (λ c κs. search needs) returns is-system-requires (λ c. search needs) returns-2 times-vector-by-width-requires (λ c. search needs) returns-3)

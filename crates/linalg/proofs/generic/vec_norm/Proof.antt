@@ -6,26 +6,26 @@ use Rattle.dense.proofs.Answers.{value}
 use Rattle.linalg.proofs.generic.vec_norm.Statement.{statement}
 use Rattle.linalg.proofs.generic.vec_norm.Tie as tie
 
-is-side-requires : tie.Need-is-side-requires
-is-side-requires c κs = search needs
-
 returns : tie.Need-returns
 unfolding vecNorm
 returns c = rw (unmet (c .before .is-side .ensures) (c .if1 .taken))
-
-is-vector-requires : tie.Need-is-vector-requires
-is-vector-requires c κs = search needs
 
 returns-2 : tie.Need-returns-2
 unfolding vecNorm
 returns-2 c = rw (met (c .before .before .before .is-side .ensures) (c .before .before .if1 .left), unmet (c .before .is-vector .ensures) (c .if2 .taken))
 
 norm-requires : tie.Need-norm-requires
-norm-requires c κs = long-length (c .before .before .before .before .before .args .x .now) (c .before .before .before .before .before .args .n) (met (c .before .is-vector .ensures) (c .if2 .left))
+norm-requires c κs =
+    let start = c .before .before .before .before .before in
+    long-length (start .args .x .now) (start .args .n) (met (c .before .is-vector .ensures) (c .if2 .left))
 
 returns-3 : tie.Need-returns-3
 unfolding vecNorm
-returns-3 c = rw (met (c .before .before .before .before .is-side .ensures) (c .before .before .before .if1 .left), met (c .before .before .is-vector .ensures) (c .before .if2 .left)) (value (c .norm .ensures))
+returns-3 c =
+    let after-is-vector = c .before .before in
+    let else1 = after-is-vector .before in
+    let after-is-side = else1 .before in
+    rw (met (after-is-side .is-side .ensures) (else1 .if1 .left), met (after-is-vector .is-vector .ensures) (c .before .if2 .left)) (value (c .norm .ensures))
 
 pub vec-norm-spec : {M : Type 1} → statement M
-vec-norm-spec = tie.close (tie.spec is-side-requires returns is-vector-requires returns-2 norm-requires returns-3)
+vec-norm-spec = tie.close (tie.spec (λ c κs. search needs) returns (λ c κs. search needs) returns-2 norm-requires returns-3)

@@ -30,26 +30,22 @@ add-ata-row c = omega (arith, within c)
 mul-ata-row : tie.Need-mul-ata-row Inv-loop μ-loop
 mul-ata-row c = omega (arith, within c)
 
-sub-ata-row : tie.Need-sub-ata-row Inv-loop μ-loop
-sub-ata-row c = omega arith
-
-part-ata-row-start : tie.Need-part-ata-row-start Inv-loop μ-loop
-part-ata-row-start c = omega arith
-
 part-ata-row-end : tie.Need-part-ata-row-end Inv-loop μ-loop
 part-ata-row-end c = omega (arith, within c)
 
 ata-row-requires : tie.Need-ata-row-requires Inv-loop μ-loop
-ata-row-requires c κs = (omega arith, omega arith, omega arith, length-part (c .before .before .loop .out) (c .before .before .before .before .before .args .n) (c .before .before .loop .i) (within (c .before)))
-
-add-i : tie.Need-add-i Inv-loop μ-loop
-add-i c = omega arith
-
-loop-less : tie.Need-loop-less Inv-loop μ-loop
-loop-less c = omega arith
+ata-row-requires c κs =
+    let at-loop = c .before .before in
+    let start = at-loop .before .before .before in
+    (omega arith, omega arith, omega arith, length-part (at-loop .loop .out) (start .args .n) (at-loop .loop .i) (within (c .before)))
 
 loop-again : tie.Need-loop-again Inv-loop μ-loop
-loop-again c = (omega arith, rows-more _ (c .before .before .before .before .before .before .before .before .args .n) (c .before .before .before .before .before .loop .i) (within (c .before .before .before .before)) (c .before .before .ata-row .ensures) (c .before .before .before .before .before .loop .inv .1))
+loop-again c =
+    let after-ata-row = c .before .before in
+    let in-loop = after-ata-row .before .before in
+    let at-loop = in-loop .before in
+    let start = at-loop .before .before .before in
+    (omega arith, rows-more _ (start .args .n) (at-loop .loop .i) (within (in-loop)) (after-ata-row .ata-row .ensures) (at-loop .loop .inv .1))
 
 same-length : tie.Need-same-length Inv-loop μ-loop
 same-length c = c .before .loop .inv .1 .size
@@ -58,4 +54,7 @@ returns : tie.Need-returns Inv-loop μ-loop
 returns c = rows-all _ _ _ (omega arith) (c .before .loop .inv .0) (c .loop-test .left) (c .before .loop .inv .1)
 
 pub ata-spec : {M : Type 1} → statement M
-ata-spec = tie.close (tie.spec Inv-loop μ-loop loop-holds mul-start add-ata-row mul-ata-row sub-ata-row part-ata-row-start part-ata-row-end ata-row-requires add-i loop-less loop-again same-length returns)
+ata-spec =
+    tie.close
+    (tie.spec Inv-loop μ-loop loop-holds mul-start add-ata-row mul-ata-row (λ c. omega arith) (λ c. omega arith) part-ata-row-end ata-row-requires
+    (λ c. omega arith) (λ c. omega arith) loop-again same-length returns)

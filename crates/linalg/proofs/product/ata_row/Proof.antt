@@ -44,41 +44,42 @@ row-requires c κs =
     let x = c .before .before .before .before .before .args in
     omega (arith, row-within (x .m) (x .n) {i = c .before .before .loop .k} (omega arith))
 
-array-borrow-prefix-sums : tie.Need-array-borrow-prefix-sums Inv-loop μ-loop
-array-borrow-prefix-sums c = omega arith
-
 -- the front that is lent has n sums
 lent : (n : ℕ) (l : List Float) → n ≤ 16 → length l ≡ 16 → length (take n l) ≡ n
 lent n l h e = length-take-le n l (omega arith)
 
 slice-aggregate-add-scaled : tie.Need-slice-aggregate-add-scaled Inv-loop μ-loop
 slice-aggregate-add-scaled c =
-    let s = c .before .before .before .before .before .before .before in
-    sym (lent (s .args .n) (c .before .before .before .before .loop .sums) (s .pre .0) (c .before .before .before .before .loop .inv .1))
+    let at-loop = c .before .before .before .before in
+    let start = at-loop .before .before .before in
+    let s = start in
+    sym (lent (s .args .n) (at-loop .loop .sums) (s .pre .0) (at-loop .loop .inv .1))
 
 add-scaled-requires : tie.Need-add-scaled-requires Inv-loop μ-loop
 add-scaled-requires c κs =
-    let s = c .before .before .before .before .before .before .before in
-    (c .before .row .ensures .0, lent (s .args .n) (c .before .before .before .before .loop .sums) (s .pre .0) (c .before .before .before .before .loop .inv .1))
-
-add-k : tie.Need-add-k Inv-loop μ-loop
-add-k c = omega arith
-
-loop-less : tie.Need-loop-less Inv-loop μ-loop
-loop-less c = omega arith
+    let at-loop = c .before .before .before .before in
+    let start = at-loop .before .before .before in
+    let s = start in
+    (c .before .row .ensures .0, lent (s .args .n) (at-loop .loop .sums) (s .pre .0) (at-loop .loop .inv .1))
 
 loop-again : tie.Need-loop-again Inv-loop μ-loop
 loop-again c =
-    let s = c .before .before .before .before .before .before .before .before .before in
+    let after-row = c .before .before .before in
+    let after-entry = after-row .before in
+    let at-loop = after-entry .before .before in
+    let start = at-loop .before .before .before in
+    let s = start in
     let x = s .args in
-    let turn = c .before .before .before .before .before .before .loop in
-    let step = sums-more nought (x .n) (turn .k) (term (x .a .now) (x .n) (x .i)) _ (take (x .n) (turn .sums)) (turn .inv .2) (λ j h. scaled (x .a .now) (x .n) (turn .k) j (c .before .before .before .before .entry .ensures) (c .before .before .before .row .ensures .1) h) in
+    let turn = at-loop .loop in
+    let step =
+    sums-more nought (x .n) (turn .k) (term (x .a .now) (x .n) (x .i)) _ (take (x .n) (turn .sums)) (turn .inv .2)
+    (λ j h. scaled (x .a .now) (x .n) (turn .k) j (after-entry .entry .ensures) (after-row .row .ensures .1) h) in
     let new = c .before .add-scaled .ensures ∙ step in
-    let size = ap length new ∙ length-tabulate _ _ in
-    (omega arith, front-size (x .n) (c .before .add-scaled .last .1 .1 .1 .0) (turn .sums) size (omega (arith, turn .inv .1)) ∙ turn .inv .1, take-at (c .before .add-scaled .last .1 .1 .1 .0) _ (x .n) size ∙ new)
-
-array-share-prefix-sums : tie.Need-array-share-prefix-sums Inv-loop μ-loop
-array-share-prefix-sums c = omega arith
+    let size = ap length new ∙ length-tabulate _ _ in (
+      omega arith,
+      front-size (x .n) (c .before .add-scaled .last .1 .1 .1 .0) (turn .sums) size (omega (arith, turn .inv .1)) ∙ turn .inv .1,
+      take-at (c .before .add-scaled .last .1 .1 .1 .0) _ (x .n) size ∙ new,
+    )
 
 slice-aggregate-copy : tie.Need-slice-aggregate-copy Inv-loop μ-loop
 slice-aggregate-copy c =
@@ -87,20 +88,24 @@ slice-aggregate-copy c =
 
 copy-requires : tie.Need-copy-requires Inv-loop μ-loop
 copy-requires c κs =
-    let s = c .before .before .before .before .before .before in
-    (lent (s .args .n) (c .before .before .before .loop .sums) (s .pre .0) (c .before .before .before .loop .inv .1), s .pre .3)
-
-same-length : tie.Need-same-length Inv-loop μ-loop
-same-length c = search needs
+    let at-loop = c .before .before .before in
+    let start = at-loop .before .before .before in
+    let s = start in
+    (lent (s .args .n) (at-loop .loop .sums) (s .pre .0) (at-loop .loop .inv .1), s .pre .3)
 
 returns : tie.Need-returns Inv-loop μ-loop
 returns c =
-    let x = c .before .before .before .before .before .before .before .before .before .args in
-    let l = c .before .before .before .before .before .before in
-    c .before .before .copy .ensures ∙ l .loop .inv .2 ∙ ap (sumsTo (x .a .now) (x .n) (x .i)) (le-antisymm (l .loop .inv .0) (c .before .before .before .before .before .loop-test .left))
+    let after-copy = c .before .before in
+    let after-loop = after-copy .before .before .before in
+    let at-loop = after-loop .before in
+    let start = at-loop .before .before .before in
+    let x = start .args in
+    let l = at-loop in
+    after-copy .copy .ensures ∙ l .loop .inv .2 ∙ ap (sumsTo (x .a .now) (x .n) (x .i)) (le-antisymm (l .loop .inv .0) (after-loop .loop-test .left))
     ∙ tabulate-ext _ _ _ (λ j h. ata-either (x .a .now) (x .m) (x .n) (x .i) j)
 
 pub ata-row-spec : {M : Type 1} → statement M
 ata-row-spec =
     tie.close
-    (tie.spec Inv-loop μ-loop loop-holds entry-requires row-requires array-borrow-prefix-sums slice-aggregate-add-scaled add-scaled-requires add-k loop-less loop-again array-share-prefix-sums slice-aggregate-copy copy-requires same-length returns)
+    (tie.spec Inv-loop μ-loop loop-holds entry-requires row-requires (λ c. omega arith) slice-aggregate-add-scaled add-scaled-requires (λ c. omega arith)
+    (λ c. omega arith) loop-again (λ c. omega arith) slice-aggregate-copy copy-requires (λ c. search needs) returns)

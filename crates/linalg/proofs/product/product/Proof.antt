@@ -15,7 +15,8 @@ abbrev μ-loop : tie.MeasureT-loop
 μ-loop a b m k n out₀ i₀ out i = m - i
 
 -- row i lies within the slice
-within : (c : tie.In-loop Inv-loop μ-loop) → c .before .loop .i * c .before .before .before .before .before .args .n + c .before .before .before .before .before .args .n ≤ length (c .before .loop .out)
+within : (c : tie.In-loop Inv-loop μ-loop)
+    → c .before .loop .i * c .before .before .before .before .before .args .n + c .before .before .before .before .before .args .n ≤ length (c .before .loop .out)
 within c = omega (arith, row-within (c .before .before .before .before .before .args .m) (c .before .before .before .before .before .args .n) {i = c .before .loop .i} (omega arith))
 
 loop-holds : tie.Need-loop-holds Inv-loop μ-loop
@@ -30,26 +31,26 @@ add-product-row c = omega (arith, within c)
 mul-product-row : tie.Need-mul-product-row Inv-loop μ-loop
 mul-product-row c = omega (arith, within c)
 
-sub-product-row : tie.Need-sub-product-row Inv-loop μ-loop
-sub-product-row c = omega arith
-
-part-product-row-start : tie.Need-part-product-row-start Inv-loop μ-loop
-part-product-row-start c = omega arith
-
 part-product-row-end : tie.Need-part-product-row-end Inv-loop μ-loop
 part-product-row-end c = omega (arith, within c)
 
 product-row-requires : tie.Need-product-row-requires Inv-loop μ-loop
-product-row-requires c κs = (omega arith, omega (arith, row-within (c .before .before .before .before .before .before .args .m) (c .before .before .before .before .before .before .args .k) {i = c .before .before .loop .i} (omega arith)), omega arith, length-part (c .before .before .loop .out) (c .before .before .before .before .before .before .args .n) (c .before .before .loop .i) (within (c .before)))
-
-add-i : tie.Need-add-i Inv-loop μ-loop
-add-i c = omega arith
-
-loop-less : tie.Need-loop-less Inv-loop μ-loop
-loop-less c = omega arith
+product-row-requires c κs =
+    let at-loop = c .before .before in
+    let start = at-loop .before .before .before .before in (
+      omega arith,
+      omega (arith, row-within (start .args .m) (start .args .k) {i = at-loop .loop .i} (omega arith)),
+      omega arith,
+      length-part (at-loop .loop .out) (start .args .n) (at-loop .loop .i) (within (c .before)),
+    )
 
 loop-again : tie.Need-loop-again Inv-loop μ-loop
-loop-again c = (omega arith, rows-more _ (c .before .before .before .before .before .before .before .before .before .args .n) (c .before .before .before .before .before .loop .i) (within (c .before .before .before .before)) (c .before .before .product-row .ensures) (c .before .before .before .before .before .loop .inv .1))
+loop-again c =
+    let after-product-row = c .before .before in
+    let in-loop = after-product-row .before .before in
+    let at-loop = in-loop .before in
+    let start = at-loop .before .before .before .before in
+    (omega arith, rows-more _ (start .args .n) (at-loop .loop .i) (within (in-loop)) (after-product-row .product-row .ensures) (at-loop .loop .inv .1))
 
 same-length : tie.Need-same-length Inv-loop μ-loop
 same-length c = c .before .loop .inv .1 .size
@@ -58,4 +59,7 @@ returns : tie.Need-returns Inv-loop μ-loop
 returns c = rows-all _ _ _ (omega arith) (c .before .loop .inv .0) (c .loop-test .left) (c .before .loop .inv .1)
 
 pub product-spec : {M : Type 1} → statement M
-product-spec = tie.close (tie.spec Inv-loop μ-loop loop-holds mul-start add-product-row mul-product-row sub-product-row part-product-row-start part-product-row-end product-row-requires add-i loop-less loop-again same-length returns)
+product-spec =
+    tie.close
+    (tie.spec Inv-loop μ-loop loop-holds mul-start add-product-row mul-product-row (λ c. omega arith) (λ c. omega arith) part-product-row-end
+    product-row-requires (λ c. omega arith) (λ c. omega arith) loop-again same-length returns)

@@ -6,40 +6,27 @@ use Rattle.linalg.proofs.product.product_by_width.Tie as tie
 product-requires : tie.Need-product-requires
 product-requires c κs = rw (c .before .if1 .taken) at (c .before .before .before .before .before .pre)
 
-same-length : tie.Need-same-length
-same-length c = search needs
-
 returns : tie.Need-returns
 returns c = rw (c .before .before .before .before .if1 .taken) (c .before .before .product .ensures)
 
 product-requires-2 : tie.Need-product-requires-2
-product-requires-2 c κs = rw (c .before .if2 .taken) at (c .before .before .before .before .before .before .pre)
-
-same-length-2 : tie.Need-same-length-2
-same-length-2 c = search needs
+product-requires-2 c κs =
+    let start = c .before .before .before .before .before .before in
+    rw (c .before .if2 .taken) at (start .pre)
 
 returns-2 : tie.Need-returns-2
 returns-2 c = rw (c .before .before .before .before .if2 .taken) (c .before .before .product2 .ensures)
 
 product-requires-3 : tie.Need-product-requires-3
-product-requires-3 c κs = rw (c .before .if3 .taken) at (c .before .before .before .before .before .before .before .pre)
-
-same-length-3 : tie.Need-same-length-3
-same-length-3 c = search needs
+product-requires-3 c κs =
+    let start = c .before .before .before .before .before .before .before in
+    rw (c .before .if3 .taken) at (start .pre)
 
 returns-3 : tie.Need-returns-3
 returns-3 c = rw (c .before .before .before .before .if3 .taken) (c .before .before .product3 .ensures)
 
-product-requires-4 : tie.Need-product-requires-4
-product-requires-4 c κs = search needs
-
-same-length-4 : tie.Need-same-length-4
-same-length-4 c = search needs
-
-returns-4 : tie.Need-returns-4
-returns-4 c = search needs
-
 pub product-by-width-spec : {M : Type 1} → statement M
 product-by-width-spec =
     tie.close
-    (tie.spec product-requires same-length returns product-requires-2 same-length-2 returns-2 product-requires-3 same-length-3 returns-3 product-requires-4 same-length-4 returns-4)
+    (tie.spec product-requires (λ c. search needs) returns product-requires-2 (λ c. search needs) returns-2 product-requires-3 (λ c. search needs) returns-3
+    (λ c κs. search needs) (λ c. search needs) (λ c. search needs))

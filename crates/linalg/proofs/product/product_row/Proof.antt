@@ -33,16 +33,12 @@ loop-holds : tie.Need-loop-holds Inv-loop μ-loop
 unfolding sumFrom
 loop-holds c = (omega arith, refl, front-zeros (c .before .before .before .args .n) nought (c .before .before .before .pre .0))
 
-entry-requires : tie.Need-entry-requires Inv-loop μ-loop
-entry-requires c κs = omega arith
-
 row-requires : tie.Need-row-requires Inv-loop μ-loop
 row-requires c κs =
-    let x = c .before .before .before .before .before .before .args in
-    omega (arith, row-within (x .k) (x .n) {i = c .before .before .loop .l} (omega arith))
-
-array-borrow-prefix-sums : tie.Need-array-borrow-prefix-sums Inv-loop μ-loop
-array-borrow-prefix-sums c = omega arith
+    let at-loop = c .before .before in
+    let start = at-loop .before .before .before .before in
+    let x = start .args in
+    omega (arith, row-within (x .k) (x .n) {i = at-loop .loop .l} (omega arith))
 
 -- the front that is lent has n sums
 lent : (n : ℕ) (l : List Float) → n ≤ 16 → length l ≡ 16 → length (take n l) ≡ n
@@ -50,53 +46,63 @@ lent n l h e = length-take-le n l (omega arith)
 
 slice-aggregate-add-scaled : tie.Need-slice-aggregate-add-scaled Inv-loop μ-loop
 slice-aggregate-add-scaled c =
-    let s = c .before .before .before .before .before .before .before .before in
-    sym (lent (s .args .n) (c .before .before .before .before .loop .sums) (s .pre .0) (c .before .before .before .before .loop .inv .1))
+    let at-loop = c .before .before .before .before in
+    let start = at-loop .before .before .before .before in
+    let s = start in
+    sym (lent (s .args .n) (at-loop .loop .sums) (s .pre .0) (at-loop .loop .inv .1))
 
 add-scaled-requires : tie.Need-add-scaled-requires Inv-loop μ-loop
 add-scaled-requires c κs =
-    let s = c .before .before .before .before .before .before .before .before in
-    (c .before .row .ensures .0, lent (s .args .n) (c .before .before .before .before .loop .sums) (s .pre .0) (c .before .before .before .before .loop .inv .1))
-
-add-l : tie.Need-add-l Inv-loop μ-loop
-add-l c = omega arith
-
-loop-less : tie.Need-loop-less Inv-loop μ-loop
-loop-less c = omega arith
+    let at-loop = c .before .before .before .before in
+    let start = at-loop .before .before .before .before in
+    let s = start in
+    (c .before .row .ensures .0, lent (s .args .n) (at-loop .loop .sums) (s .pre .0) (at-loop .loop .inv .1))
 
 loop-again : tie.Need-loop-again Inv-loop μ-loop
 loop-again c =
-    let s = c .before .before .before .before .before .before .before .before .before .before in
+    let after-row = c .before .before .before in
+    let after-entry = after-row .before in
+    let at-loop = after-entry .before .before in
+    let start = at-loop .before .before .before .before in
+    let s = start in
     let x = s .args in
-    let turn = c .before .before .before .before .before .before .loop in
-    let step = sums-more nought (x .n) (turn .l) (term (x .a .now) (x .b .now) (x .k) (x .n) (x .i)) _ (take (x .n) (turn .sums)) (turn .inv .2) (λ j h. scaled (x .b .now) (x .n) (turn .l) j (c .before .before .before .before .entry .ensures) (c .before .before .before .row .ensures .1) h) in
+    let turn = at-loop .loop in
+    let step =
+    sums-more nought (x .n) (turn .l) (term (x .a .now) (x .b .now) (x .k) (x .n) (x .i)) _ (take (x .n) (turn .sums)) (turn .inv .2)
+    (λ j h. scaled (x .b .now) (x .n) (turn .l) j (after-entry .entry .ensures) (after-row .row .ensures .1) h) in
     let new = c .before .add-scaled .ensures ∙ step in
-    let size = ap length new ∙ length-tabulate _ _ in
-    (omega arith, front-size (x .n) (c .before .add-scaled .last .1 .1 .1 .0) (turn .sums) size (omega (arith, turn .inv .1)) ∙ turn .inv .1, take-at (c .before .add-scaled .last .1 .1 .1 .0) _ (x .n) size ∙ new)
-
-array-share-prefix-sums : tie.Need-array-share-prefix-sums Inv-loop μ-loop
-array-share-prefix-sums c = omega arith
+    let size = ap length new ∙ length-tabulate _ _ in (
+      omega arith,
+      front-size (x .n) (c .before .add-scaled .last .1 .1 .1 .0) (turn .sums) size (omega (arith, turn .inv .1)) ∙ turn .inv .1,
+      take-at (c .before .add-scaled .last .1 .1 .1 .0) _ (x .n) size ∙ new,
+    )
 
 slice-aggregate-copy : tie.Need-slice-aggregate-copy Inv-loop μ-loop
 slice-aggregate-copy c =
-    let s = c .before .before .before .before .before .before in
-    sym (lent (s .args .n) (c .before .before .loop .sums) (s .pre .0) (c .before .before .loop .inv .1))
+    let at-loop = c .before .before in
+    let start = at-loop .before .before .before .before in
+    let s = start in
+    sym (lent (s .args .n) (at-loop .loop .sums) (s .pre .0) (at-loop .loop .inv .1))
 
 copy-requires : tie.Need-copy-requires Inv-loop μ-loop
 copy-requires c κs =
-    let s = c .before .before .before .before .before .before .before in
-    (lent (s .args .n) (c .before .before .before .loop .sums) (s .pre .0) (c .before .before .before .loop .inv .1), s .pre .3)
-
-same-length : tie.Need-same-length Inv-loop μ-loop
-same-length c = search needs
+    let at-loop = c .before .before .before in
+    let start = at-loop .before .before .before .before in
+    let s = start in
+    (lent (s .args .n) (at-loop .loop .sums) (s .pre .0) (at-loop .loop .inv .1), s .pre .3)
 
 returns : tie.Need-returns Inv-loop μ-loop
 returns c =
-    let x = c .before .before .before .before .before .before .before .before .before .before .args in
-    let l = c .before .before .before .before .before .before in
-    c .before .before .copy .ensures ∙ l .loop .inv .2 ∙ ap (sumsTo (x .a .now) (x .b .now) (x .k) (x .n) (x .i)) (le-antisymm (l .loop .inv .0) (c .before .before .before .before .before .loop-test .left))
+    let after-copy = c .before .before in
+    let after-loop = after-copy .before .before .before in
+    let at-loop = after-loop .before in
+    let start = at-loop .before .before .before .before in
+    let x = start .args in
+    let l = at-loop in
+    after-copy .copy .ensures ∙ l .loop .inv .2 ∙ ap (sumsTo (x .a .now) (x .b .now) (x .k) (x .n) (x .i)) (le-antisymm (l .loop .inv .0) (after-loop .loop-test .left))
 
 pub product-row-spec : {M : Type 1} → statement M
 product-row-spec =
     tie.close
-    (tie.spec Inv-loop μ-loop loop-holds entry-requires row-requires array-borrow-prefix-sums slice-aggregate-add-scaled add-scaled-requires add-l loop-less loop-again array-share-prefix-sums slice-aggregate-copy copy-requires same-length returns)
+    (tie.spec Inv-loop μ-loop loop-holds (λ c κs. omega arith) row-requires (λ c. omega arith) slice-aggregate-add-scaled add-scaled-requires (λ c. omega arith)
+    (λ c. omega arith) loop-again (λ c. omega arith) slice-aggregate-copy copy-requires (λ c. search needs) returns)

@@ -18,25 +18,24 @@ loop-holds : tie.Need-loop-holds Inv-loop μ-loop
 loop-holds c = (omega arith, filled-none _ _)
 
 entry-requires : tie.Need-entry-requires Inv-loop μ-loop
-entry-requires c κs = omega (arith, cell (c .before .before .before .before .args .n) (c .before .before .before .before .args .n) {i = c .before .before .before .before .args .i} {j = c .before .loop .j} (omega arith) (omega arith))
+entry-requires c κs =
+    let start = c .before .before .before .before in
+    omega (arith, cell (start .args .n) (start .args .n) {i = start .args .i} {j = c .before .loop .j} (omega arith) (omega arith))
 
 entry-requires-2 : tie.Need-entry-requires-2 Inv-loop μ-loop
-entry-requires-2 c κs = omega (arith, cell (c .before .before .before .before .before .args .n) (c .before .before .before .before .before .args .n) {i = c .before .before .loop .j} {j = c .before .before .before .before .before .args .i} (omega arith) (omega arith))
-
-mul-y : tie.Need-mul-y Inv-loop μ-loop
-mul-y c = omega arith
-
-slice-write-y : tie.Need-slice-write-y Inv-loop μ-loop
-slice-write-y c = omega arith
-
-add-j : tie.Need-add-j Inv-loop μ-loop
-add-j c = omega arith
-
-loop-less : tie.Need-loop-less Inv-loop μ-loop
-loop-less c = omega arith
+entry-requires-2 c κs =
+    let at-loop = c .before .before in
+    let start = at-loop .before .before .before in
+    omega (arith, cell (start .args .n) (start .args .n) {i = at-loop .loop .j} {j = start .args .i} (omega arith) (omega arith))
 
 loop-again : tie.Need-loop-again Inv-loop μ-loop
-loop-again c = (omega arith, filled-more _ (c .before .before .before .loop .j) (omega arith) (mean (c .before .before .before .before .before .before .args .a .now) (c .before .before .before .before .before .before .args .n) (c .before .before .before .before .before .before .args .i) (c .before .before .before .loop .j) (c .before .entry .ensures) (c .entry2 .ensures)) (c .before .before .before .loop .inv .1))
+loop-again c =
+    let at-loop = c .before .before .before in
+    let start = at-loop .before .before .before in (
+      omega arith,
+      filled-more _ (at-loop .loop .j) (omega arith)
+          (mean (start .args .a .now) (start .args .n) (start .args .i) (at-loop .loop .j) (c .before .entry .ensures) (c .entry2 .ensures)) (at-loop .loop .inv .1),
+    )
 
 same-length : tie.Need-same-length Inv-loop μ-loop
 same-length c = c .before .loop .inv .1 .size
@@ -45,4 +44,7 @@ returns : tie.Need-returns Inv-loop μ-loop
 returns c = filled-all _ (c .before .before .before .before .pre .2) (c .loop-test .left) (c .before .loop .inv .1)
 
 pub symmetric-row-spec : {M : Type 1} → statement M
-symmetric-row-spec = tie.close (tie.spec Inv-loop μ-loop loop-holds entry-requires entry-requires-2 mul-y slice-write-y add-j loop-less loop-again same-length returns)
+symmetric-row-spec =
+    tie.close
+    (tie.spec Inv-loop μ-loop loop-holds entry-requires entry-requires-2 (λ c. omega arith) (λ c. omega arith) (λ c. omega arith) (λ c. omega arith) loop-again
+    same-length returns)

@@ -30,26 +30,22 @@ add-symmetric-row c = omega (arith, within c)
 mul-symmetric-row : tie.Need-mul-symmetric-row Inv-loop μ-loop
 mul-symmetric-row c = omega (arith, within c)
 
-sub-symmetric-row : tie.Need-sub-symmetric-row Inv-loop μ-loop
-sub-symmetric-row c = omega arith
-
-part-symmetric-row-start : tie.Need-part-symmetric-row-start Inv-loop μ-loop
-part-symmetric-row-start c = omega arith
-
 part-symmetric-row-end : tie.Need-part-symmetric-row-end Inv-loop μ-loop
 part-symmetric-row-end c = omega (arith, within c)
 
 symmetric-row-requires : tie.Need-symmetric-row-requires Inv-loop μ-loop
-symmetric-row-requires c κs = (omega arith, omega arith, length-part (c .before .before .loop .out) (c .before .before .before .before .before .args .n) (c .before .before .loop .i) (within (c .before)))
-
-add-i : tie.Need-add-i Inv-loop μ-loop
-add-i c = omega arith
-
-loop-less : tie.Need-loop-less Inv-loop μ-loop
-loop-less c = omega arith
+symmetric-row-requires c κs =
+    let at-loop = c .before .before in
+    let start = at-loop .before .before .before in
+    (omega arith, omega arith, length-part (at-loop .loop .out) (start .args .n) (at-loop .loop .i) (within (c .before)))
 
 loop-again : tie.Need-loop-again Inv-loop μ-loop
-loop-again c = (omega arith, rows-more _ (c .before .before .before .before .before .before .before .before .args .n) (c .before .before .before .before .before .loop .i) (within (c .before .before .before .before)) (c .before .before .symmetric-row .ensures) (c .before .before .before .before .before .loop .inv .1))
+loop-again c =
+    let after-symmetric-row = c .before .before in
+    let in-loop = after-symmetric-row .before .before in
+    let at-loop = in-loop .before in
+    let start = at-loop .before .before .before in
+    (omega arith, rows-more _ (start .args .n) (at-loop .loop .i) (within (in-loop)) (after-symmetric-row .symmetric-row .ensures) (at-loop .loop .inv .1))
 
 same-length : tie.Need-same-length Inv-loop μ-loop
 same-length c = c .before .loop .inv .1 .size
@@ -58,4 +54,7 @@ returns : tie.Need-returns Inv-loop μ-loop
 returns c = rows-all _ _ _ (omega arith) (c .before .loop .inv .0) (c .loop-test .left) (c .before .loop .inv .1)
 
 pub symmetrize-spec : {M : Type 1} → statement M
-symmetrize-spec = tie.close (tie.spec Inv-loop μ-loop loop-holds mul-start add-symmetric-row mul-symmetric-row sub-symmetric-row part-symmetric-row-start part-symmetric-row-end symmetric-row-requires add-i loop-less loop-again same-length returns)
+symmetrize-spec =
+    tie.close
+    (tie.spec Inv-loop μ-loop loop-holds mul-start add-symmetric-row mul-symmetric-row (λ c. omega arith) (λ c. omega arith) part-symmetric-row-end
+    symmetric-row-requires (λ c. omega arith) (λ c. omega arith) loop-again same-length returns)

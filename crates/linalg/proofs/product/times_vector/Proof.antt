@@ -18,25 +18,19 @@ loop-holds : tie.Need-loop-holds Inv-loop μ-loop
 loop-holds c = (omega arith, filled-none _ _)
 
 row-requires : tie.Need-row-requires Inv-loop μ-loop
-row-requires c κs = omega (arith, row-within (c .before .before .before .before .before .args .n) (c .before .before .before .before .before .args .n) {i = c .before .loop .i} (omega arith))
-
-dot-requires : tie.Need-dot-requires Inv-loop μ-loop
-dot-requires c κs = omega arith
-
-mul-y : tie.Need-mul-y Inv-loop μ-loop
-mul-y c = omega arith
-
-slice-write-y : tie.Need-slice-write-y Inv-loop μ-loop
-slice-write-y c = omega arith
-
-add-i : tie.Need-add-i Inv-loop μ-loop
-add-i c = omega arith
-
-loop-less : tie.Need-loop-less Inv-loop μ-loop
-loop-less c = omega arith
+row-requires c κs =
+    let start = c .before .before .before .before .before in
+    omega (arith, row-within (start .args .n) (start .args .n) {i = c .before .loop .i} (omega arith))
 
 loop-again : tie.Need-loop-again Inv-loop μ-loop
-loop-again c = (omega arith, filled-more _ (c .before .before .before .loop .i) (omega arith) (c .dot .ensures ∙ row-sum (c .before .before .before .before .before .before .before .args .a .now) (c .before .before .before .before .before .before .before .args .x .now) (c .before .before .before .before .before .before .before .args .n) (c .before .before .before .loop .i) (c .before .row .ensures .1)) (c .before .before .before .loop .inv .1))
+loop-again c =
+    let at-loop = c .before .before .before in
+    let start = at-loop .before .before .before .before in (
+      omega arith,
+      filled-more _ (at-loop .loop .i) (omega arith)
+          (c .dot .ensures ∙ row-sum (start .args .a .now) (start .args .x .now) (start .args .n) (at-loop .loop .i) (c .before .row .ensures .1))
+          (at-loop .loop .inv .1),
+    )
 
 same-length : tie.Need-same-length Inv-loop μ-loop
 same-length c = c .before .loop .inv .1 .size
@@ -45,4 +39,7 @@ returns : tie.Need-returns Inv-loop μ-loop
 returns c = filled-all _ (c .before .before .before .before .before .pre .2) (c .loop-test .left) (c .before .loop .inv .1)
 
 pub times-vector-spec : {M : Type 1} → statement M
-times-vector-spec = tie.close (tie.spec Inv-loop μ-loop loop-holds row-requires dot-requires mul-y slice-write-y add-i loop-less loop-again same-length returns)
+times-vector-spec =
+    tie.close
+    (tie.spec Inv-loop μ-loop loop-holds row-requires (λ c κs. omega arith) (λ c. omega arith) (λ c. omega arith) (λ c. omega arith) (λ c. omega arith)
+    loop-again same-length returns)

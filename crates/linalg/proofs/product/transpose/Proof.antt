@@ -30,26 +30,22 @@ add-transpose-row c = omega (arith, within c)
 mul-transpose-row : tie.Need-mul-transpose-row Inv-loop μ-loop
 mul-transpose-row c = omega (arith, within c)
 
-sub-transpose-row : tie.Need-sub-transpose-row Inv-loop μ-loop
-sub-transpose-row c = omega arith
-
-part-transpose-row-start : tie.Need-part-transpose-row-start Inv-loop μ-loop
-part-transpose-row-start c = omega arith
-
 part-transpose-row-end : tie.Need-part-transpose-row-end Inv-loop μ-loop
 part-transpose-row-end c = omega (arith, within c)
 
 transpose-row-requires : tie.Need-transpose-row-requires Inv-loop μ-loop
-transpose-row-requires c κs = (omega arith, omega arith, length-part (c .before .before .loop .out) (c .before .before .before .before .before .args .m) (c .before .before .loop .i) (within (c .before)))
-
-add-i : tie.Need-add-i Inv-loop μ-loop
-add-i c = omega arith
-
-loop-less : tie.Need-loop-less Inv-loop μ-loop
-loop-less c = omega arith
+transpose-row-requires c κs =
+    let at-loop = c .before .before in
+    let start = at-loop .before .before .before in
+    (omega arith, omega arith, length-part (at-loop .loop .out) (start .args .m) (at-loop .loop .i) (within (c .before)))
 
 loop-again : tie.Need-loop-again Inv-loop μ-loop
-loop-again c = (omega arith, rows-more _ (c .before .before .before .before .before .before .before .before .args .m) (c .before .before .before .before .before .loop .i) (within (c .before .before .before .before)) (c .before .before .transpose-row .ensures) (c .before .before .before .before .before .loop .inv .1))
+loop-again c =
+    let after-transpose-row = c .before .before in
+    let in-loop = after-transpose-row .before .before in
+    let at-loop = in-loop .before in
+    let start = at-loop .before .before .before in
+    (omega arith, rows-more _ (start .args .m) (at-loop .loop .i) (within (in-loop)) (after-transpose-row .transpose-row .ensures) (at-loop .loop .inv .1))
 
 same-length : tie.Need-same-length Inv-loop μ-loop
 same-length c = c .before .loop .inv .1 .size
@@ -58,4 +54,7 @@ returns : tie.Need-returns Inv-loop μ-loop
 returns c = rows-all _ _ _ (omega arith) (c .before .loop .inv .0) (c .loop-test .left) (c .before .loop .inv .1)
 
 pub transpose-spec : {M : Type 1} → statement M
-transpose-spec = tie.close (tie.spec Inv-loop μ-loop loop-holds mul-start add-transpose-row mul-transpose-row sub-transpose-row part-transpose-row-start part-transpose-row-end transpose-row-requires add-i loop-less loop-again same-length returns)
+transpose-spec =
+    tie.close
+    (tie.spec Inv-loop μ-loop loop-holds mul-start add-transpose-row mul-transpose-row (λ c. omega arith) (λ c. omega arith) part-transpose-row-end
+    transpose-row-requires (λ c. omega arith) (λ c. omega arith) loop-again same-length returns)

@@ -17,19 +17,9 @@ loop-holds : tie.Need-loop-holds Inv-loop μ-loop
 loop-holds c = (omega arith, filled-none _ _)
 
 entry-requires : tie.Need-entry-requires Inv-loop μ-loop
-entry-requires c κs = omega (arith, cell (c .before .before .before .before .args .m) (c .before .before .before .before .args .n) {i = c .before .loop .j} {j = c .before .before .before .before .args .i} (omega arith) (omega arith))
-
-mul-y : tie.Need-mul-y Inv-loop μ-loop
-mul-y c = omega arith
-
-slice-write-y : tie.Need-slice-write-y Inv-loop μ-loop
-slice-write-y c = omega arith
-
-add-j : tie.Need-add-j Inv-loop μ-loop
-add-j c = omega arith
-
-loop-less : tie.Need-loop-less Inv-loop μ-loop
-loop-less c = omega arith
+entry-requires c κs =
+    let start = c .before .before .before .before in
+    omega (arith, cell (start .args .m) (start .args .n) {i = c .before .loop .j} {j = start .args .i} (omega arith) (omega arith))
 
 loop-again : tie.Need-loop-again Inv-loop μ-loop
 loop-again c = (omega arith, filled-more _ (c .before .before .loop .j) (omega arith) (c .entry .ensures) (c .before .before .loop .inv .1))
@@ -41,4 +31,7 @@ returns : tie.Need-returns Inv-loop μ-loop
 returns c = filled-all _ (c .before .before .before .before .pre .2) (c .loop-test .left) (c .before .loop .inv .1)
 
 pub transpose-row-spec : {M : Type 1} → statement M
-transpose-row-spec = tie.close (tie.spec Inv-loop μ-loop loop-holds entry-requires mul-y slice-write-y add-j loop-less loop-again same-length returns)
+transpose-row-spec =
+    tie.close
+    (tie.spec Inv-loop μ-loop loop-holds entry-requires (λ c. omega arith) (λ c. omega arith) (λ c. omega arith) (λ c. omega arith) loop-again same-length
+    returns)

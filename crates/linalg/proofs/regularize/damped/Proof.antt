@@ -30,26 +30,22 @@ add-damped-row c = omega (arith, within c)
 mul-damped-row : tie.Need-mul-damped-row Inv-loop μ-loop
 mul-damped-row c = omega (arith, within c)
 
-sub-damped-row : tie.Need-sub-damped-row Inv-loop μ-loop
-sub-damped-row c = omega arith
-
-part-damped-row-start : tie.Need-part-damped-row-start Inv-loop μ-loop
-part-damped-row-start c = omega arith
-
 part-damped-row-end : tie.Need-part-damped-row-end Inv-loop μ-loop
 part-damped-row-end c = omega (arith, within c)
 
 damped-row-requires : tie.Need-damped-row-requires Inv-loop μ-loop
-damped-row-requires c κs = (omega arith, omega arith, length-part (c .before .before .loop .out) (c .before .before .before .before .before .args .n) (c .before .before .loop .i) (within (c .before)))
-
-add-i : tie.Need-add-i Inv-loop μ-loop
-add-i c = omega arith
-
-loop-less : tie.Need-loop-less Inv-loop μ-loop
-loop-less c = omega arith
+damped-row-requires c κs =
+    let at-loop = c .before .before in
+    let start = at-loop .before .before .before in
+    (omega arith, omega arith, length-part (at-loop .loop .out) (start .args .n) (at-loop .loop .i) (within (c .before)))
 
 loop-again : tie.Need-loop-again Inv-loop μ-loop
-loop-again c = (omega arith, rows-more _ (c .before .before .before .before .before .before .before .before .args .n) (c .before .before .before .before .before .loop .i) (within (c .before .before .before .before)) (c .before .before .damped-row .ensures) (c .before .before .before .before .before .loop .inv .1))
+loop-again c =
+    let after-damped-row = c .before .before in
+    let in-loop = after-damped-row .before .before in
+    let at-loop = in-loop .before in
+    let start = at-loop .before .before .before in
+    (omega arith, rows-more _ (start .args .n) (at-loop .loop .i) (within (in-loop)) (after-damped-row .damped-row .ensures) (at-loop .loop .inv .1))
 
 same-length : tie.Need-same-length Inv-loop μ-loop
 same-length c = c .before .loop .inv .1 .size
@@ -58,4 +54,7 @@ returns : tie.Need-returns Inv-loop μ-loop
 returns c = rows-all _ _ _ (omega arith) (c .before .loop .inv .0) (c .loop-test .left) (c .before .loop .inv .1)
 
 pub damped-spec : {M : Type 1} → statement M
-damped-spec = tie.close (tie.spec Inv-loop μ-loop loop-holds mul-start add-damped-row mul-damped-row sub-damped-row part-damped-row-start part-damped-row-end damped-row-requires add-i loop-less loop-again same-length returns)
+damped-spec =
+    tie.close
+    (tie.spec Inv-loop μ-loop loop-holds mul-start add-damped-row mul-damped-row (λ c. omega arith) (λ c. omega arith) part-damped-row-end damped-row-requires
+    (λ c. omega arith) (λ c. omega arith) loop-again same-length returns)

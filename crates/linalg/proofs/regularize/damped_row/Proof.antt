@@ -29,9 +29,6 @@ on-diagonal a n i alpha y h e r = by-entries n _ _ (length-set y i _ ∙ e) (λ 
 row-requires : tie.Need-row-requires
 row-requires c κs = omega (arith, row-within (c .before .before .args .n) (c .before .before .args .n) {i = c .before .before .args .i} (omega arith))
 
-copy-requires : tie.Need-copy-requires
-copy-requires c κs = omega arith
-
 mul-y : tie.Need-mul-y
 mul-y c = omega (arith, c .before .before .copy .kept .1 .1 .0)
 
@@ -49,8 +46,11 @@ same-length c = simp length-set (c .before .before .before .copy .kept .1 .1 .0)
 
 returns : tie.Need-returns
 returns c =
-    let x = c .before .before .before .before .before .before .before .before .args in
-    on-diagonal (x .a .now) (x .n) (x .i) (x .alpha) _ (c .before .before .before .before .before .before .before .before .pre .0) (c .before .before .before .copy .kept .1 .1 .0 ∙ c .before .before .before .before .before .before .before .before .pre .2) (c .before .before .before .copy .ensures ∙ c .before .before .before .before .before .row .ensures .1)
+    let after-copy = c .before .before .before in
+    let after-row = after-copy .before .before in
+    let start = after-row .before .before .before in
+    let x = start .args in
+    on-diagonal (x .a .now) (x .n) (x .i) (x .alpha) _ (start .pre .0) (after-copy .copy .kept .1 .1 .0 ∙ start .pre .2) (after-copy .copy .ensures ∙ after-row .row .ensures .1)
 
 pub damped-row-spec : {M : Type 1} → statement M
-damped-row-spec = tie.close (tie.spec row-requires copy-requires mul-y slice-read-y mul-y-2 slice-write-y same-length returns)
+damped-row-spec = tie.close (tie.spec row-requires (λ c κs. omega arith) mul-y slice-read-y mul-y-2 slice-write-y same-length returns)

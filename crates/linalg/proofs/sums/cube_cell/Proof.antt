@@ -19,25 +19,33 @@ unfolding sumFrom
 loop-holds c = (omega arith, refl)
 
 entry-requires : tie.Need-entry-requires Inv-loop μ-loop
-entry-requires c κs = omega (arith, cell (c .before .before .before .args .n) (c .before .before .before .args .n) {i = c .before .before .before .args .i} {j = c .before .before .before .args .j} (omega arith) (omega arith))
+entry-requires c κs =
+    let start = c .before .before .before in
+    omega (arith, cell (start .args .n) (start .args .n) {i = start .args .i} {j = start .args .j} (omega arith) (omega arith))
 
 entry-requires-2 : tie.Need-entry-requires-2 Inv-loop μ-loop
-entry-requires-2 c κs = omega (arith, cell (c .before .before .before .before .args .n) (c .before .before .before .before .args .n) {i = c .before .before .before .before .args .j} {j = c .before .before .loop .k} (omega arith) (omega arith))
+entry-requires-2 c κs =
+    let at-loop = c .before .before in
+    let start = at-loop .before .before in
+    omega (arith, cell (start .args .n) (start .args .n) {i = start .args .j} {j = at-loop .loop .k} (omega arith) (omega arith))
 
 entry-requires-3 : tie.Need-entry-requires-3 Inv-loop μ-loop
-entry-requires-3 c κs = omega (arith, cell (c .before .before .before .before .before .args .n) (c .before .before .before .before .before .args .n) {i = c .before .before .before .loop .k} {j = c .before .before .before .before .before .args .i} (omega arith) (omega arith))
-
-add-k : tie.Need-add-k Inv-loop μ-loop
-add-k c = omega arith
-
-loop-less : tie.Need-loop-less Inv-loop μ-loop
-loop-less c = omega arith
+entry-requires-3 c κs =
+    let at-loop = c .before .before .before in
+    let start = at-loop .before .before in
+    omega (arith, cell (start .args .n) (start .args .n) {i = at-loop .loop .k} {j = start .args .i} (omega arith) (omega arith))
 
 loop-again : tie.Need-loop-again Inv-loop μ-loop
-loop-again c = (omega arith, sum-more (c .before .before .before .before .before .before .args .start) _ (c .before .before .before .before .loop .k) (c .before .before .before .before .loop .inv .1) (rw (c .before .before .entry .ensures, c .before .entry2 .ensures, c .entry3 .ensures)))
+loop-again c =
+    let after-entry = c .before .before in
+    let at-loop = after-entry .before .before in
+    let start = at-loop .before .before in
+    (omega arith, sum-more (start .args .start) _ (at-loop .loop .k) (at-loop .loop .inv .1) (rw (after-entry .entry .ensures, c .before .entry2 .ensures, c .entry3 .ensures)))
 
 returns : tie.Need-returns Inv-loop μ-loop
 returns c = sum-all (c .before .before .before .args .start) _ (c .before .loop .inv .0) (c .loop-test .left) (c .before .loop .inv .1)
 
 pub cube-cell-spec : {M : Type 1} → statement M
-cube-cell-spec = tie.close (tie.spec Inv-loop μ-loop loop-holds entry-requires entry-requires-2 entry-requires-3 add-k loop-less loop-again returns)
+cube-cell-spec =
+    tie.close
+    (tie.spec Inv-loop μ-loop loop-holds entry-requires entry-requires-2 entry-requires-3 (λ c. omega arith) (λ c. omega arith) loop-again returns)

@@ -23,20 +23,16 @@ loop-holds : tie.Need-loop-holds Inv-loop μ-loop
 unfolding sumRowsFrom
 loop-holds c = (omega arith, refl)
 
-cube-cell-requires : tie.Need-cube-cell-requires Inv-loop μ-loop
-cube-cell-requires c κs = omega arith
-
-add-j : tie.Need-add-j Inv-loop μ-loop
-add-j c = omega arith
-
-loop-less : tie.Need-loop-less Inv-loop μ-loop
-loop-less c = omega arith
-
 loop-again : tie.Need-loop-again Inv-loop μ-loop
-loop-again c = (omega arith, sum-rows-more (c .before .before .before .before .args .start) (c .before .before .before .before .args .n) (c .before .before .loop .j) (term (c .before .before .before .before .args .m .now) (c .before .before .before .before .args .n) (c .before .before .before .before .args .i)) (c .before .before .loop .inv .1) (c .cube-cell .ensures))
+loop-again c =
+    let at-loop = c .before .before in
+    let start = at-loop .before .before in
+    (omega arith, sum-rows-more (start .args .start) (start .args .n) (at-loop .loop .j) (term (start .args .m .now) (start .args .n) (start .args .i)) (at-loop .loop .inv .1) (c .cube-cell .ensures))
 
 returns : tie.Need-returns Inv-loop μ-loop
-returns c = sum-rows-all (c .before .before .before .args .start) (c .before .before .before .args .n) (term (c .before .before .before .args .m .now) (c .before .before .before .args .n) (c .before .before .before .args .i)) (c .before .loop .inv .0) (c .loop-test .left) (c .before .loop .inv .1)
+returns c =
+    let start = c .before .before .before in
+    sum-rows-all (start .args .start) (start .args .n) (term (start .args .m .now) (start .args .n) (start .args .i)) (c .before .loop .inv .0) (c .loop-test .left) (c .before .loop .inv .1)
 
 pub cube-row-spec : {M : Type 1} → statement M
-cube-row-spec = tie.close (tie.spec Inv-loop μ-loop loop-holds cube-cell-requires add-j loop-less loop-again returns)
+cube-row-spec = tie.close (tie.spec Inv-loop μ-loop loop-holds (λ c κs. omega arith) (λ c. omega arith) (λ c. omega arith) loop-again returns)

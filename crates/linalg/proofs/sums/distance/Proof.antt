@@ -11,9 +11,6 @@ use Rattle.dense.proofs.Laws.{front}
 use Rattle.linalg.proofs.sums.distance.Statement.{statement}
 use Rattle.linalg.proofs.sums.distance.Tie as tie
 
-array-borrow-prefix-delta : tie.Need-array-borrow-prefix-delta
-array-borrow-prefix-delta c = omega arith
-
 slice-aggregate-subtract : tie.Need-slice-aggregate-subtract
 slice-aggregate-subtract c = sym (length-take-le _ _ (omega arith))
 
@@ -21,16 +18,27 @@ subtract-requires : tie.Need-subtract-requires
 subtract-requires c κs = (c .before .before .before .before .pre .1, c .before .before .before .before .pre .2, length-take-le _ _ (omega arith))
 
 array-share-prefix-delta : tie.Need-array-share-prefix-delta
-array-share-prefix-delta c = omega (arith, length-front _ (c .before .subtract .last .1 .1 .1 .0) (c .before .before .before .before .before .before .args .n) (c .before .subtract .kept .1 .1 .1 .0))
+array-share-prefix-delta c =
+    let start = c .before .before .before .before .before .before in
+    omega (arith, length-front _ (c .before .subtract .last .1 .1 .1 .0) (start .args .n) (c .before .subtract .kept .1 .1 .1 .0))
 
 slice-aggregate-quadratic-form : tie.Need-slice-aggregate-quadratic-form
 slice-aggregate-quadratic-form c = sym (ap length (front _ (length-tabulate _ _) (c .before .before .subtract .ensures)) ∙ length-tabulate _ _)
 
 quadratic-form-requires : tie.Need-quadratic-form-requires
-quadratic-form-requires c κs = (ap length (front _ (length-tabulate _ _) (c .before .before .subtract .ensures)) ∙ length-tabulate _ _, c .before .before .before .before .before .before .before .pre .3)
+quadratic-form-requires c κs =
+    let after-subtract = c .before .before in
+    let start = after-subtract .before .before .before .before .before in
+    (ap length (front _ (length-tabulate _ _) (after-subtract .subtract .ensures)) ∙ length-tabulate _ _, start .pre .3)
 
 returns : tie.Need-returns
-returns c = c .quadratic-form .ensures ∙ ap (λ (d : List Float). quadraticForm d (c .before .before .before .before .before .before .before .before .args .inv .now) (c .before .before .before .before .before .before .before .before .args .n)) (front _ (length-tabulate _ _) (c .before .before .before .subtract .ensures))
+returns c =
+    let after-subtract = c .before .before .before in
+    let start = after-subtract .before .before .before .before .before in
+    c .quadratic-form .ensures ∙ ap (λ (d : List Float). quadraticForm d (start .args .inv .now) (start .args .n)) (front _ (length-tabulate _ _) (after-subtract .subtract .ensures))
 
 pub distance-spec : {M : Type 1} → statement M
-distance-spec = tie.close (tie.spec array-borrow-prefix-delta slice-aggregate-subtract subtract-requires array-share-prefix-delta slice-aggregate-quadratic-form quadratic-form-requires returns)
+distance-spec =
+    tie.close
+    (tie.spec (λ c. omega arith) slice-aggregate-subtract subtract-requires array-share-prefix-delta slice-aggregate-quadratic-form quadratic-form-requires
+    returns)

@@ -18,32 +18,23 @@ loop-holds : tie.Need-loop-holds Inv-loop μ-loop
 unfolding sumFrom
 loop-holds c = (omega arith, refl)
 
-mul-s : tie.Need-mul-s Inv-loop μ-loop
-mul-s c = omega arith
-
-shared-slice-read-s : tie.Need-shared-slice-read-s Inv-loop μ-loop
-shared-slice-read-s c = omega arith
-
 entry-requires : tie.Need-entry-requires Inv-loop μ-loop
-entry-requires c κs = omega (arith, cell (c .before .before .before .before .before .args .n) (c .before .before .before .before .before .args .n) {i = c .before .before .before .before .before .args .i} {j = c .before .before .loop .j} (omega arith) (omega arith))
-
-mul-s-2 : tie.Need-mul-s-2 Inv-loop μ-loop
-mul-s-2 c = omega arith
-
-shared-slice-read-s-2 : tie.Need-shared-slice-read-s-2 Inv-loop μ-loop
-shared-slice-read-s-2 c = omega arith
-
-add-j : tie.Need-add-j Inv-loop μ-loop
-add-j c = omega arith
-
-loop-less : tie.Need-loop-less Inv-loop μ-loop
-loop-less c = omega arith
+entry-requires c κs =
+    let at-loop = c .before .before in
+    let start = at-loop .before .before .before in
+    omega (arith, cell (start .args .n) (start .args .n) {i = start .args .i} {j = at-loop .loop .j} (omega arith) (omega arith))
 
 loop-again : tie.Need-loop-again Inv-loop μ-loop
-loop-again c = (omega arith, sum-more (c .before .before .before .before .before .before .before .args .start) _ (c .before .before .before .before .loop .j) (c .before .before .before .before .loop .inv .1) (rw (c .before .entry .ensures)))
+loop-again c =
+    let at-loop = c .before .before .before .before in
+    let start = at-loop .before .before .before in
+    (omega arith, sum-more (start .args .start) _ (at-loop .loop .j) (at-loop .loop .inv .1) (rw (c .before .entry .ensures)))
 
 returns : tie.Need-returns Inv-loop μ-loop
 returns c = sum-all (c .before .before .before .before .args .start) _ (c .before .loop .inv .0) (c .loop-test .left) (c .before .loop .inv .1)
 
 pub form-row-spec : {M : Type 1} → statement M
-form-row-spec = tie.close (tie.spec Inv-loop μ-loop loop-holds mul-s shared-slice-read-s entry-requires mul-s-2 shared-slice-read-s-2 add-j loop-less loop-again returns)
+form-row-spec =
+    tie.close
+    (tie.spec Inv-loop μ-loop loop-holds (λ c. omega arith) (λ c. omega arith) entry-requires (λ c. omega arith) (λ c. omega arith) (λ c. omega arith)
+    (λ c. omega arith) loop-again returns)

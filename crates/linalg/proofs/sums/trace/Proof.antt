@@ -19,13 +19,9 @@ unfolding sumFrom
 loop-holds c = (omega arith, refl)
 
 entry-requires : tie.Need-entry-requires Inv-loop μ-loop
-entry-requires c κs = omega (arith, cell (c .before .before .before .args .n) (c .before .before .before .args .n) {i = c .before .loop .i} {j = c .before .loop .i} (omega arith) (omega arith))
-
-add-i : tie.Need-add-i Inv-loop μ-loop
-add-i c = omega arith
-
-loop-less : tie.Need-loop-less Inv-loop μ-loop
-loop-less c = omega arith
+entry-requires c κs =
+    let start = c .before .before .before in
+    omega (arith, cell (start .args .n) (start .args .n) {i = c .before .loop .i} {j = c .before .loop .i} (omega arith) (omega arith))
 
 loop-again : tie.Need-loop-again Inv-loop μ-loop
 loop-again c = (omega arith, sum-more nought _ (c .before .before .loop .i) (c .before .before .loop .inv .1) (c .entry .ensures))
@@ -34,4 +30,4 @@ returns : tie.Need-returns Inv-loop μ-loop
 returns c = sum-all nought _ (c .before .loop .inv .0) (c .loop-test .left) (c .before .loop .inv .1)
 
 pub trace-spec : {M : Type 1} → statement M
-trace-spec = tie.close (tie.spec Inv-loop μ-loop loop-holds entry-requires add-i loop-less loop-again returns)
+trace-spec = tie.close (tie.spec Inv-loop μ-loop loop-holds entry-requires (λ c. omega arith) (λ c. omega arith) loop-again returns)

@@ -25,21 +25,17 @@ loop-holds : tie.Need-loop-holds Inv-loop μ-loop
 unfolding sumPlanesFrom
 loop-holds c = (omega arith, refl)
 
-cube-row-requires : tie.Need-cube-row-requires Inv-loop μ-loop
-cube-row-requires c κs = omega arith
-
-add-i : tie.Need-add-i Inv-loop μ-loop
-add-i c = omega arith
-
-loop-less : tie.Need-loop-less Inv-loop μ-loop
-loop-less c = omega arith
-
 loop-again : tie.Need-loop-again Inv-loop μ-loop
-loop-again c = (omega arith, sum-planes-more nought (c .before .before .before .before .args .n) (c .before .before .before .before .args .n) (c .before .before .loop .i) (term (c .before .before .before .before .args .m .now) (c .before .before .before .before .args .n)) (c .before .before .loop .inv .1) (c .cube-row .ensures))
+loop-again c =
+    let at-loop = c .before .before in
+    let start = at-loop .before .before in
+    (omega arith, sum-planes-more nought (start .args .n) (start .args .n) (at-loop .loop .i) (term (start .args .m .now) (start .args .n)) (at-loop .loop .inv .1) (c .cube-row .ensures))
 
 returns : tie.Need-returns Inv-loop μ-loop
 unfolding traceCube
-returns c = sum-planes-all nought (c .before .before .before .args .n) (c .before .before .before .args .n) (term (c .before .before .before .args .m .now) (c .before .before .before .args .n)) (c .before .loop .inv .0) (c .loop-test .left) (c .before .loop .inv .1)
+returns c =
+    let start = c .before .before .before in
+    sum-planes-all nought (start .args .n) (start .args .n) (term (start .args .m .now) (start .args .n)) (c .before .loop .inv .0) (c .loop-test .left) (c .before .loop .inv .1)
 
 pub trace-cube-spec : {M : Type 1} → statement M
-trace-cube-spec = tie.close (tie.spec Inv-loop μ-loop loop-holds cube-row-requires add-i loop-less loop-again returns)
+trace-cube-spec = tie.close (tie.spec Inv-loop μ-loop loop-holds (λ c κs. omega arith) (λ c. omega arith) (λ c. omega arith) loop-again returns)

@@ -24,20 +24,16 @@ loop-holds : tie.Need-loop-holds Inv-loop μ-loop
 unfolding sumRowsFrom
 loop-holds c = (omega arith, refl)
 
-trace-row-requires : tie.Need-trace-row-requires Inv-loop μ-loop
-trace-row-requires c κs = omega arith
-
-add-i : tie.Need-add-i Inv-loop μ-loop
-add-i c = omega arith
-
-loop-less : tie.Need-loop-less Inv-loop μ-loop
-loop-less c = omega arith
-
 loop-again : tie.Need-loop-again Inv-loop μ-loop
-loop-again c = (omega arith, sum-rows-more nought (c .before .before .before .before .before .args .n) (c .before .before .loop .i) (term (c .before .before .before .before .before .args .a .now) (c .before .before .before .before .before .args .b .now) (c .before .before .before .before .before .args .n)) (c .before .before .loop .inv .1) (c .trace-row .ensures))
+loop-again c =
+    let at-loop = c .before .before in
+    let start = at-loop .before .before .before in
+    (omega arith, sum-rows-more nought (start .args .n) (at-loop .loop .i) (term (start .args .a .now) (start .args .b .now) (start .args .n)) (at-loop .loop .inv .1) (c .trace-row .ensures))
 
 returns : tie.Need-returns Inv-loop μ-loop
-returns c = sum-rows-all nought (c .before .before .before .before .args .n) (term (c .before .before .before .before .args .a .now) (c .before .before .before .before .args .b .now) (c .before .before .before .before .args .n)) (c .before .loop .inv .0) (c .loop-test .left) (c .before .loop .inv .1)
+returns c =
+    let start = c .before .before .before .before in
+    sum-rows-all nought (start .args .n) (term (start .args .a .now) (start .args .b .now) (start .args .n)) (c .before .loop .inv .0) (c .loop-test .left) (c .before .loop .inv .1)
 
 pub trace-product-spec : {M : Type 1} → statement M
-trace-product-spec = tie.close (tie.spec Inv-loop μ-loop loop-holds trace-row-requires add-i loop-less loop-again returns)
+trace-product-spec = tie.close (tie.spec Inv-loop μ-loop loop-holds (λ c κs. omega arith) (λ c. omega arith) (λ c. omega arith) loop-again returns)

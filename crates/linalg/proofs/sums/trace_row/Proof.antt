@@ -19,22 +19,24 @@ unfolding sumFrom
 loop-holds c = (omega arith, refl)
 
 entry-requires : tie.Need-entry-requires Inv-loop μ-loop
-entry-requires c κs = omega (arith, cell (c .before .before .before .before .args .n) (c .before .before .before .before .args .n) {i = c .before .before .before .before .args .i} {j = c .before .loop .j} (omega arith) (omega arith))
+entry-requires c κs =
+    let start = c .before .before .before .before in
+    omega (arith, cell (start .args .n) (start .args .n) {i = start .args .i} {j = c .before .loop .j} (omega arith) (omega arith))
 
 entry-requires-2 : tie.Need-entry-requires-2 Inv-loop μ-loop
-entry-requires-2 c κs = omega (arith, cell (c .before .before .before .before .before .args .n) (c .before .before .before .before .before .args .n) {i = c .before .before .loop .j} {j = c .before .before .before .before .before .args .i} (omega arith) (omega arith))
-
-add-j : tie.Need-add-j Inv-loop μ-loop
-add-j c = omega arith
-
-loop-less : tie.Need-loop-less Inv-loop μ-loop
-loop-less c = omega arith
+entry-requires-2 c κs =
+    let at-loop = c .before .before in
+    let start = at-loop .before .before .before in
+    omega (arith, cell (start .args .n) (start .args .n) {i = at-loop .loop .j} {j = start .args .i} (omega arith) (omega arith))
 
 loop-again : tie.Need-loop-again Inv-loop μ-loop
-loop-again c = (omega arith, sum-more (c .before .before .before .before .before .before .args .start) _ (c .before .before .before .loop .j) (c .before .before .before .loop .inv .1) (rw (c .before .entry .ensures, c .entry2 .ensures)))
+loop-again c =
+    let at-loop = c .before .before .before in
+    let start = at-loop .before .before .before in
+    (omega arith, sum-more (start .args .start) _ (at-loop .loop .j) (at-loop .loop .inv .1) (rw (c .before .entry .ensures, c .entry2 .ensures)))
 
 returns : tie.Need-returns Inv-loop μ-loop
 returns c = sum-all (c .before .before .before .before .args .start) _ (c .before .loop .inv .0) (c .loop-test .left) (c .before .loop .inv .1)
 
 pub trace-row-spec : {M : Type 1} → statement M
-trace-row-spec = tie.close (tie.spec Inv-loop μ-loop loop-holds entry-requires entry-requires-2 add-j loop-less loop-again returns)
+trace-row-spec = tie.close (tie.spec Inv-loop μ-loop loop-holds entry-requires entry-requires-2 (λ c. omega arith) (λ c. omega arith) loop-again returns)

@@ -5,14 +5,8 @@ use Rattle.kernel.specs.Sqrt.{sqrt}
 use Rattle.linalg.proofs.vector.norm.Statement.{statement}
 use Rattle.linalg.proofs.vector.norm.Tie as tie
 
-dot-requires : tie.Need-dot-requires
-dot-requires c κs = search needs
-
-sqrt-requires : tie.Need-sqrt-requires
-sqrt-requires c κs = search needs
-
 returns : tie.Need-returns
 returns c = c .sqrt .ensures ∙ ap sqrt (c .before .dot .ensures)
 
 pub norm-spec : {M : Type 1} → statement M
-norm-spec = tie.close (tie.spec dot-requires sqrt-requires returns)
+norm-spec = tie.close (tie.spec (λ c κs. search needs) (λ c κs. search needs) returns)

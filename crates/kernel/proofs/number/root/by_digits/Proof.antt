@@ -16,27 +16,6 @@ abbrev μ-loop : tie.MeasureT-loop
 loop-holds : tie.Need-loop-holds Inv-loop μ-loop
 loop-holds c = let d = no-digits _ (c .pre .1) in (d, sizes (c .pre .1) d)
 
-mul-step : tie.Need-mul-step Inv-loop μ-loop
-mul-step c = omega arith
-
-add-step : tie.Need-add-step Inv-loop μ-loop
-add-step c = omega arith
-
-mul-rest : tie.Need-mul-rest Inv-loop μ-loop
-mul-rest c = omega arith
-
-add-root : tie.Need-add-root Inv-loop μ-loop
-add-root c = omega arith
-
-mul-rest-2 : tie.Need-mul-rest-2 Inv-loop μ-loop
-mul-rest-2 c = omega arith
-
-sub-k : tie.Need-sub-k Inv-loop μ-loop
-sub-k c = omega arith
-
-loop-less : tie.Need-loop-less Inv-loop μ-loop
-loop-less c = omega arith
-
 -- a turn, by the test of the digit t = 2 * p
 module _ {w root rest t k : ℕ} (d : Digits w root rest t k) (h : 0 < k) where
   taken : 2 * root + t ≤ rest → Digits w (root + t) (2 * (rest - (2 * root + t))) (t / 2) (k - 1)
@@ -63,20 +42,8 @@ loop-again c =
 returns : tie.Need-returns Inv-loop μ-loop
 returns c = let b = c .before .before in nearest-same (b .loop .inv .0) (c .before .loop-test .left) (omega arith) (c .if2 .taken)
 
-mul-if3 : tie.Need-mul-if3 Inv-loop μ-loop
-mul-if3 c = omega arith
-
-add-if3 : tie.Need-add-if3 Inv-loop μ-loop
-add-if3 c = omega arith
-
-add-result : tie.Need-add-result Inv-loop μ-loop
-add-result c = omega arith
-
 returns-2 : tie.Need-returns-2 Inv-loop μ-loop
 returns-2 c = let b = c .before .before .before in nearest-next (b .loop .inv .0) (c .before .before .loop-test .left) (c .before .if2 .left) (c .if3 .taken)
-
-add-result-2 : tie.Need-add-result-2 Inv-loop μ-loop
-add-result-2 c = omega arith
 
 returns-3 : tie.Need-returns-3 Inv-loop μ-loop
 returns-3 c = let b = c .before .before .before in nearest-second (b .loop .inv .0) (c .before .before .loop-test .left) (c .if3 .left)
@@ -84,4 +51,5 @@ returns-3 c = let b = c .before .before .before in nearest-second (b .loop .inv 
 pub by-digits-spec : {M : Type 1} → statement M
 by-digits-spec =
     tie.close
-    (tie.spec Inv-loop μ-loop loop-holds mul-step add-step mul-rest add-root mul-rest-2 sub-k loop-less loop-again returns mul-if3 add-if3 add-result returns-2 add-result-2 returns-3)
+    (tie.spec Inv-loop μ-loop loop-holds (λ c. omega arith) (λ c. omega arith) (λ c. omega arith) (λ c. omega arith) (λ c. omega arith) (λ c. omega arith)
+    (λ c. omega arith) loop-again returns (λ c. omega arith) (λ c. omega arith) (λ c. omega arith) returns-2 (λ c. omega arith) returns-3)

@@ -30,23 +30,11 @@ module _ (r : ℕ) (small : r < 2 ^ 53) where
   low-low : r % 134217728 * (r % 134217728) ≤ 2 ^ 54
   low-low = let l : r % 134217728 ≤ 2 ^ 27 = omega arith in omega (arith, mul-le-mul l l)
 
-mul-high : tie.Need-mul-high
-mul-high c = search needs
-
 mul-high-2 : tie.Need-mul-high-2
 mul-high-2 c = omega (arith, high-high (c .args .r) (c .pre .1))
 
-add-if1 : tie.Need-add-if1
-add-if1 c = search needs
-
 returns : tie.Need-returns
 returns c = no-claim
-
-add-rest : tie.Need-add-rest
-add-rest c = search needs
-
-sub-rest : tie.Need-sub-rest
-sub-rest c = search needs
 
 returns-2 : tie.Need-returns-2
 returns-2 c = no-claim
@@ -54,17 +42,11 @@ returns-2 c = no-claim
 mul-cross : tie.Need-mul-cross
 mul-cross c = omega (arith, high-low (c .before .before .args .r) (c .before .before .pre .1))
 
-mul-sum : tie.Need-mul-sum
-mul-sum c = search needs
-
 returns-3 : tie.Need-returns-3
 returns-3 c = no-claim
 
 returns-4 : tie.Need-returns-4
 returns-4 c = no-claim
-
-mul-left : tie.Need-mul-left
-mul-left c = search needs
 
 mul-right : tie.Need-mul-right
 mul-right c = let s = c .before .before .before .before in omega (arith, low-low (s .args .r) (s .pre .1))
@@ -72,14 +54,8 @@ mul-right c = let s = c .before .before .before .before in omega (arith, low-low
 add-right : tie.Need-add-right
 add-right c = let s = c .before .before .before .before in omega (arith, low-low (s .args .r) (s .pre .1))
 
-add-if5 : tie.Need-add-if5
-add-if5 c = search needs
-
 returns-5 : tie.Need-returns-5
 returns-5 c = no-claim
-
-add-result : tie.Need-add-result
-add-result c = search needs
 
 returns-6 : tie.Need-returns-6
 returns-6 c answer =
@@ -93,4 +69,5 @@ returns-6 c answer =
 pub is-nearest-spec : {M : Type 1} → statement M
 is-nearest-spec =
     tie.close
-    (tie.spec mul-high mul-high-2 add-if1 returns add-rest sub-rest returns-2 mul-cross mul-sum returns-3 returns-4 mul-left mul-right add-right add-if5 returns-5 add-result returns-6)
+    (tie.spec (λ c. search needs) mul-high-2 (λ c. search needs) returns (λ c. search needs) (λ c. search needs) returns-2 mul-cross (λ c. search needs)
+    returns-3 returns-4 (λ c. search needs) mul-right add-right (λ c. search needs) returns-5 (λ c. search needs) returns-6)

@@ -6,12 +6,6 @@ use Rattle.kernel.proofs.Root.{significand-range, root-of}
 use Rattle.kernel.proofs.number.root.pattern.Statement.{statement}
 use Rattle.kernel.proofs.number.root.pattern.Tie as tie
 
-mul-result : tie.Need-mul-result
-mul-result c = search needs
-
-significand-requires : tie.Need-significand-requires
-significand-requires c κs = search needs
-
 add-result : tie.Need-add-result
 add-result c =
     let x = c .before .args in
@@ -22,4 +16,4 @@ returns : tie.Need-returns
 returns c = root-of (c .before .args .digits) (c .before .args .e) _ (c .before .pre .0) (c .before .pre .1) (c .significand .ensures)
 
 pub pattern-spec : {M : Type 1} → statement M
-pattern-spec = tie.close (tie.spec mul-result significand-requires add-result returns)
+pattern-spec = tie.close (tie.spec (λ c. search needs) (λ c κs. search needs) add-result returns)

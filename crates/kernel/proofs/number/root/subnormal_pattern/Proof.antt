@@ -17,15 +17,6 @@ abbrev μ-loop : tie.MeasureT-loop
 loop-holds : tie.Need-loop-holds Inv-loop μ-loop
 loop-holds c = (omega arith, omega arith, omega arith)
 
-mul-m : tie.Need-mul-m Inv-loop μ-loop
-mul-m c = omega arith
-
-add-shift : tie.Need-add-shift Inv-loop μ-loop
-add-shift c = omega arith
-
-loop-less : tie.Need-loop-less Inv-loop μ-loop
-loop-less c = omega arith
-
 loop-again : tie.Need-loop-again Inv-loop μ-loop
 loop-again c =
     let b = c .before .before .args .b in
@@ -34,17 +25,15 @@ loop-again c =
     let small : 2 * l .m < 2 ^ 53 = omega arith in
     (moved, small, places b (l .shift + 1) (c .before .before .pre .0) (rw moved at small))
 
-sub-pattern : tie.Need-sub-pattern Inv-loop μ-loop
-sub-pattern c = omega arith
-
-pattern-requires : tie.Need-pattern-requires Inv-loop μ-loop
-pattern-requires c κs = omega arith
-
 returns : tie.Need-returns Inv-loop μ-loop
 returns c =
-    let start = c .before .before .before in
-    let l = c .before .before .loop in
+    let at-loop = c .before .before in
+    let start-place = at-loop .before in
+    let start = start-place in
+    let l = at-loop .loop in
     (c .pattern .ensures .root _ (subnormal-argument (start .args .b) (l .m) (l .shift) (start .pre .1) (l .inv .2) (l .inv .0) (c .before .loop-test .left)), c .pattern .ensures .finite)
 
 pub subnormal-pattern-spec : {M : Type 1} → statement M
-subnormal-pattern-spec = tie.close (tie.spec Inv-loop μ-loop loop-holds mul-m add-shift loop-less loop-again sub-pattern pattern-requires returns)
+subnormal-pattern-spec =
+    tie.close
+    (tie.spec Inv-loop μ-loop loop-holds (λ c. omega arith) (λ c. omega arith) (λ c. omega arith) loop-again (λ c. omega arith) (λ c κs. omega arith) returns)
