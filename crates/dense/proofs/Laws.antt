@@ -23,6 +23,10 @@ use Rattle.dense.specs.Fill.{Filled, FilledRows}
 pub cell : (m n : ℕ) {i j : ℕ} → i < m → j < n → i * n + j < m * n
 cell m n {i} {j} hi hj = omega (arith, mul-le-mul-right n hi, suc-mul i n)
 
+-- a cell of an n by n matrix lies in its slice, of so many entries
+pub inside : (n : ℕ) {i j size : ℕ} → size ≡ n * n → i < n → j < n → i * n + j < size
+inside n e h k = omega (arith, cell n n h k)
+
 -- row i is among the first m
 pub row-within : (m n : ℕ) {i : ℕ} → i < m → i * n + n ≤ m * n
 row-within m n {i} h = omega (arith, mul-le-mul-right n h, suc-mul i n)

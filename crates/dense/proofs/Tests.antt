@@ -59,6 +59,9 @@ three-sides m k n e =
 pub area : (m n : ℕ) → side m ≡ true → side n ≡ true → m * n ≤ 256
 area m n e f = omega (arith, mul-le-mul-right n (side-high m e), side-high n f)
 
+pub square-area : (n : ℕ) → side n ≡ true → n * n ≤ 256
+square-area n e = area n n e e
+
 -- a square with so few has a side of at most 16
 pub side-of-area : (n : ℕ) → n * n ≤ 256 → n ≤ 16
 side-of-area n h = go (decLe n 16)

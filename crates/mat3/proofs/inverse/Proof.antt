@@ -6,9 +6,7 @@ use Rattle.mat3.proofs.inverse.Tie as tie
 
 returns : tie.Need-returns
 unfolding inverse3
-returns c =
-    let start = c .before .before .before .before .before .before .before .before .before in
-    rw (start .pre .1)
+returns c = let start = c .before .before .before .before .before .before .before .before .before in rw (start .pre .1)
 
 pub inverse-spec : {M : Type 1} → statement M
 inverse-spec =

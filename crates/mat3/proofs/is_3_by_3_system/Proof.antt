@@ -13,9 +13,8 @@ returns-2 c = and-yes (c .before .before .before .is-vector .ensures) (c .before
 returns-3 : tie.Need-returns-3
 returns-3 c =
     let after-is-vector2 = c .before .before in
-    let else1 = after-is-vector2 .before in
-    let after-is-vector = else1 .before in
-    and-yes (after-is-vector .is-vector .ensures) (else1 .if1 .left) (and-yes (after-is-vector2 .is-vector2 .ensures) (c .before .if2 .left) (c .is-vector3 .ensures))
+    let after-is-vector = after-is-vector2 .before .before in
+    and-yes (after-is-vector .is-vector .ensures) (after-is-vector2 .before .if1 .left) (and-yes (after-is-vector2 .is-vector2 .ensures) (c .before .if2 .left) (c .is-vector3 .ensures))
 
 pub is-3-by-3-system-spec : {M : Type 1} → statement M
 is-3-by-3-system-spec = tie.close (tie.spec (λ c κs. search needs) returns (λ c κs. search needs) returns-2 (λ c κs. search needs) returns-3)

@@ -25,38 +25,31 @@ is-regular-requires c κs =
 
 returns-2 : tie.Need-returns-2
 unfolding mat3Inv
-returns-2 c =
-    let else1 = c .before .before .before in
-    let after-are-3-by-3 = else1 .before in
-    rw (met (after-are-3-by-3 .are-3-by-3 .ensures) (else1 .if1 .left), unmet (c .before .is-regular .ensures) (c .if2 .taken))
+returns-2 c = let else1 = c .before .before .before in rw (met (else1 .before .are-3-by-3 .ensures) (else1 .if1 .left), unmet (c .before .is-regular .ensures) (c .if2 .taken))
 
 inverse-requires : tie.Need-inverse-requires
 inverse-requires c κs =
     let after-det = c .before .before in
-    let else1 = after-det .before in
-    let after-are-3-by-3 = else1 .before in
+    let after-are-3-by-3 = after-det .before .before in
     let start = after-are-3-by-3 .before .before .before .before in
-    (two-long (start .args .m .now) (start .args .out .now) 9 9 (met (after-are-3-by-3 .are-3-by-3 .ensures) (else1 .if1 .left)) .0, after-det .det .ensures)
+    (two-long (start .args .m .now) (start .args .out .now) 9 9 (met (after-are-3-by-3 .are-3-by-3 .ensures) (after-det .before .if1 .left)) .0, after-det .det .ensures)
 
 copy-requires : tie.Need-copy-requires
 unfolding inverse3
 copy-requires c κs =
     let after-inverse = c .before .before in
     let else1 = after-inverse .before .before .before .before in
-    let after-are-3-by-3 = else1 .before in
-    let start = after-are-3-by-3 .before .before .before .before in
-    (ap length (after-inverse .inverse .ensures), two-long (start .args .m .now) (start .args .out .now) 9 9 (met (after-are-3-by-3 .are-3-by-3 .ensures) (else1 .if1 .left)) .1)
+    let start = else1 .before .before .before .before .before in
+    (ap length (after-inverse .inverse .ensures), two-long (start .args .m .now) (start .args .out .now) 9 9 (met (else1 .before .are-3-by-3 .ensures) (else1 .if1 .left)) .1)
 
 returns-3 : tie.Need-returns-3
 unfolding mat3Inv
 returns-3 c =
     let after-copy = c .before .before in
     let after-inverse = after-copy .before .before .before in
-    let else2 = after-inverse .before in
-    let after-is-regular = else2 .before in
+    let after-is-regular = after-inverse .before .before in
     let else1 = after-is-regular .before .before in
-    let after-are-3-by-3 = else1 .before in
-    rw (met (after-are-3-by-3 .are-3-by-3 .ensures) (else1 .if1 .left), met (after-is-regular .is-regular .ensures) (else2 .if2 .left))
+    rw (met (else1 .before .are-3-by-3 .ensures) (else1 .if1 .left), met (after-is-regular .is-regular .ensures) (after-inverse .before .if2 .left))
     (done (after-copy .copy .ensures ∙ after-inverse .inverse .ensures))
 
 pub mat3-inv-spec : {M : Type 1} → statement M

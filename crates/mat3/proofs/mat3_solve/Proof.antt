@@ -25,18 +25,14 @@ is-regular-requires c κs =
 
 returns-2 : tie.Need-returns-2
 unfolding mat3Solve
-returns-2 c =
-    let else1 = c .before .before .before in
-    let after-is-3-by-3-system = else1 .before in
-    rw (met (after-is-3-by-3-system .is-3-by-3-system .ensures) (else1 .if1 .left), unmet (c .before .is-regular .ensures) (c .if2 .taken))
+returns-2 c = let else1 = c .before .before .before in rw (met (else1 .before .is-3-by-3-system .ensures) (else1 .if1 .left), unmet (c .before .is-regular .ensures) (c .if2 .taken))
 
 solution-requires : tie.Need-solution-requires
 solution-requires c κs =
     let after-det = c .before .before in
-    let else1 = after-det .before in
-    let after-is-3-by-3-system = else1 .before in
+    let after-is-3-by-3-system = after-det .before .before in
     let start = after-is-3-by-3-system .before .before .before .before .before in
-    let l = three-long (start .args .a .now) (start .args .b .now) (start .args .out .now) 9 3 3 (met (after-is-3-by-3-system .is-3-by-3-system .ensures) (else1 .if1 .left)) in
+    let l = three-long (start .args .a .now) (start .args .b .now) (start .args .out .now) 9 3 3 (met (after-is-3-by-3-system .is-3-by-3-system .ensures) (after-det .before .if1 .left)) in
     (l .0, l .1, after-det .det .ensures)
 
 copy-requires : tie.Need-copy-requires
@@ -44,10 +40,9 @@ unfolding solution3
 copy-requires c κs =
     let after-solution = c .before .before in
     let else1 = after-solution .before .before .before .before in
-    let after-is-3-by-3-system = else1 .before in
-    let start = after-is-3-by-3-system .before .before .before .before .before in (
+    let start = else1 .before .before .before .before .before .before in (
       ap length (after-solution .solution .ensures),
-      three-long (start .args .a .now) (start .args .b .now) (start .args .out .now) 9 3 3 (met (after-is-3-by-3-system .is-3-by-3-system .ensures) (else1 .if1 .left)) .2,
+      three-long (start .args .a .now) (start .args .b .now) (start .args .out .now) 9 3 3 (met (else1 .before .is-3-by-3-system .ensures) (else1 .if1 .left)) .2,
     )
 
 returns-3 : tie.Need-returns-3
@@ -55,11 +50,9 @@ unfolding mat3Solve
 returns-3 c =
     let after-copy = c .before .before in
     let after-solution = after-copy .before .before .before in
-    let else2 = after-solution .before in
-    let after-is-regular = else2 .before in
+    let after-is-regular = after-solution .before .before in
     let else1 = after-is-regular .before .before in
-    let after-is-3-by-3-system = else1 .before in
-    rw (met (after-is-3-by-3-system .is-3-by-3-system .ensures) (else1 .if1 .left), met (after-is-regular .is-regular .ensures) (else2 .if2 .left))
+    rw (met (else1 .before .is-3-by-3-system .ensures) (else1 .if1 .left), met (after-is-regular .is-regular .ensures) (after-solution .before .if2 .left))
     (done (after-copy .copy .ensures ∙ after-solution .solution .ensures))
 
 pub mat3-solve-spec : {M : Type 1} → statement M

@@ -13,9 +13,8 @@ returns-2 c = and-yes (c .before .before .before .is-matrix .ensures) (c .before
 returns-3 : tie.Need-returns-3
 returns-3 c =
     let after-is-vector = c .before .before in
-    let else1 = after-is-vector .before in
-    let after-is-matrix = else1 .before in
-    and-yes (after-is-matrix .is-matrix .ensures) (else1 .if1 .left) (and-yes (after-is-vector .is-vector .ensures) (c .before .if2 .left) (c .is-vector2 .ensures))
+    let after-is-matrix = after-is-vector .before .before in
+    and-yes (after-is-matrix .is-matrix .ensures) (after-is-vector .before .if1 .left) (and-yes (after-is-vector .is-vector .ensures) (c .before .if2 .left) (c .is-vector2 .ensures))
 
 pub is-system-spec : {M : Type 1} → statement M
 is-system-spec = tie.close (tie.spec (λ c κs. search needs) returns (λ c κs. search needs) returns-2 (λ c κs. search needs) returns-3)

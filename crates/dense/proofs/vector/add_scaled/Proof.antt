@@ -18,9 +18,7 @@ loop-holds : tie.Need-loop-holds Inv-loop μ-loop
 loop-holds c = (omega arith, filled-none _ _)
 
 loop-again : tie.Need-loop-again Inv-loop μ-loop
-loop-again c =
-    let turn = c .before .before .before .loop in
-    (omega arith, filled-more _ (turn .j) (omega arith) (cc (filled-next (turn .inv .1))) (turn .inv .1))
+loop-again c = let turn = c .before .before .before .loop in (omega arith, filled-more _ (turn .j) (omega arith) (cc (filled-next (turn .inv .1))) (turn .inv .1))
 
 same-length : tie.Need-same-length Inv-loop μ-loop
 same-length c = c .before .loop .inv .1 .size

@@ -18,9 +18,7 @@ slice-aggregate-factor-rows : tie.Need-slice-aggregate-factor-rows
 slice-aggregate-factor-rows c = sym (length-take-le _ _ (omega arith))
 
 factor-rows-requires : tie.Need-factor-rows-requires
-factor-rows-requires c κs =
-    let start = c .before .before .before in
-    (start .pre .1, zeros-front (start .args .n * start .args .n) 256 (start .pre .0))
+factor-rows-requires c κs = let start = c .before .before .before in (start .pre .1, zeros-front (start .args .n * start .args .n) 256 (start .pre .0))
 
 returns : tie.Need-returns
 returns c = (sym (unmet (c .before .before .factor-rows .ensures .0) (c .if1 .taken)), λ e. never e, λ _. refl)

@@ -1,97 +1,66 @@
 -- `factor_row` meets its contract: the slice holds what the pivot and the root are made of.
-use mathlib.Core.Path.{sym, ap, _∙_}
+use Prim.Native.Nat.{_+_, _*_, _≤_}
+use mathlib.Core.Path.{_≡_, sym, ap, _∙_}
 use native.Mathlib.Omega.{arith}
-use lib.ListN.{length-set}
+use lib.ListN.{length, length-set}
+use Rattle.kernel.specs.Number.{sub}
 use Rattle.kernel.specs.Sqrt.{sqrt}
-use Rattle.linalg.specs.Cholesky.{isPivot}
+use Rattle.linalg.specs.Cholesky.{isPivot, withLeft, factor, reachedPivot}
 use Rattle.dense.proofs.Laws.{row-within}
 use Rattle.dense.proofs.Tests.{met, unmet, never}
 use Rattle.linalg.proofs.Factor.{pivot-in, row-more}
 use Rattle.linalg.proofs.cholesky.factor_row.Statement.{statement}
 use Rattle.linalg.proofs.cholesky.factor_row.Tie as tie
 
+-- ---- the places on the way
+
+abbrev entered : tie.After-left-entries → tie.Start
+entered c = c .before .before .before .before
+
+abbrev made : tie.After-is-pivot → tie.After-left-entries
+made c = c .before .before .before .before .before .before
+
+-- ---- what is known there
+
+-- row i lies within the slice
+within : (c : tie.After-left-entries) → entered c .args .i * entered c .args .n + entered c .args .n ≤ length (c .left-entries .last .1 .1 .1 .0)
+within c = let start = entered c in omega (arith, row-within (start .args .n) (start .args .n) (start .pre .0), c .left-entries .kept .1 .1 .1 .0)
+
+size : (c : tie.After-left-entries) → length (c .left-entries .last .1 .1 .1 .0) ≡ entered c .args .n * entered c .args .n
+size c = c .left-entries .kept .1 .1 .1 .0 ∙ entered c .pre .2
+
+-- what is tested is the pivot of row i
+pivot-of : (c : tie.After-is-pivot) → let x = entered (made c) .args in
+    sub (c .before .before .before .entry .result) (c .before .inner .result) ≡ reachedPivot (x .a .now) (x .n) (withLeft (x .a .now) (x .n) (factor (x .a .now) (x .n) (x .i)) (x .i) (x .i)) (x .i)
+pivot-of c =
+    let m = made c in
+    let x = entered m .args in
+    pivot-in (x .a .now) (m .left-entries .last .1 .1 .1 .0) (x .n) (x .i) (size m) (entered m .pre .0) (c .before .before .before .entry .ensures) (c .before .inner .ensures) (m .left-entries .ensures)
+
+-- ---- the needs
+
 left-entries-requires : tie.Need-left-entries-requires
-left-entries-requires c κs =
-    let start = c .before .before .before in
-    (start .pre .0, start .pre .1, start .pre .2, start .pre .3)
+left-entries-requires c κs = let start = c .before .before .before in (start .pre .0, start .pre .1, start .pre .2, start .pre .3)
 
 entry-requires : tie.Need-entry-requires
-entry-requires c κs =
-    let start = c .before .before .before .before .before .before in
-    omega (arith, row-within (start .args .n) (start .args .n) (start .pre .0))
-
-inner-requires : tie.Need-inner-requires
-inner-requires c κs =
-    let after-left-entries = c .before .before .before .before in
-    let start = after-left-entries .before .before .before .before in
-    omega (arith, row-within (start .args .n) (start .args .n) (start .pre .0), after-left-entries .left-entries .kept .1 .1 .1 .0)
-
-same-length : tie.Need-same-length
-same-length c =
-    let after-left-entries = c .before .before .before .before .before .before .before in
-    after-left-entries .left-entries .kept .1 .1 .1 .0
+entry-requires c κs = let start = entered (c .before .before) in omega (arith, row-within (start .args .n) (start .args .n) (start .pre .0))
 
 returns : tie.Need-returns
-returns c =
-    let after-inner = c .before .before in
-    let after-entry = after-inner .before .before in
-    let after-left-entries = after-entry .before .before .before in
-    let start = after-left-entries .before .before .before .before in
-    let x = start .args in
-    let size = after-left-entries .left-entries .kept .1 .1 .1 .0 ∙ start .pre .2 in
-    let d =
-    pivot-in (x .a .now) (after-left-entries .left-entries .last .1 .1 .1 .0) (x .n) (x .i) size (start .pre .0) (after-entry .entry .ensures)
-    (after-inner .inner .ensures) (after-left-entries .left-entries .ensures) in
-    (sym (ap isPivot (sym d) ∙ unmet (c .before .is-pivot .ensures) (c .if1 .taken)), λ e. never e)
-
-mul-l : tie.Need-mul-l
-mul-l c =
-    let after-left-entries = c .before .before .before .before .before .before .before .before in
-    let start = after-left-entries .before .before .before .before in
-    omega (arith, row-within (start .args .n) (start .args .n) (start .pre .0), after-left-entries .left-entries .kept .1 .1 .1 .0)
-
-add-l : tie.Need-add-l
-add-l c =
-    let after-left-entries = c .before .before .before .before .before .before .before .before in
-    let start = after-left-entries .before .before .before .before in
-    omega (arith, row-within (start .args .n) (start .args .n) (start .pre .0), after-left-entries .left-entries .kept .1 .1 .1 .0)
-
-mul-l-2 : tie.Need-mul-l-2
-mul-l-2 c =
-    let after-left-entries = c .before .before .before .before .before .before .before .before in
-    let start = after-left-entries .before .before .before .before in
-    omega (arith, row-within (start .args .n) (start .args .n) (start .pre .0), after-left-entries .left-entries .kept .1 .1 .1 .0)
-
-slice-write-l : tie.Need-slice-write-l
-slice-write-l c =
-    let after-left-entries = c .before .before .before .before .before .before .before .before in
-    let start = after-left-entries .before .before .before .before in
-    omega (arith, row-within (start .args .n) (start .args .n) (start .pre .0), after-left-entries .left-entries .kept .1 .1 .1 .0)
-
-same-length-2 : tie.Need-same-length-2
-same-length-2 c =
-    let after-left-entries = c .before .before .before .before .before .before .before .before in
-    simp length-set (after-left-entries .left-entries .kept .1 .1 .1 .0)
+returns c = (sym (ap isPivot (sym (pivot-of (c .before))) ∙ unmet (c .before .is-pivot .ensures) (c .if1 .taken)), λ e. never e)
 
 returns-2 : tie.Need-returns-2
 returns-2 c =
-    let after-is-pivot = c .before .before in
-    let after-inner = after-is-pivot .before in
-    let after-entry = after-inner .before .before in
-    let after-left-entries = after-entry .before .before .before in
-    let start = after-left-entries .before .before .before .before in
-    let x = start .args in
-    let size = after-left-entries .left-entries .kept .1 .1 .1 .0 ∙ start .pre .2 in
-    let d =
-    pivot-in (x .a .now) (after-left-entries .left-entries .last .1 .1 .1 .0) (x .n) (x .i) size (start .pre .0) (after-entry .entry .ensures)
-    (after-inner .inner .ensures) (after-left-entries .left-entries .ensures) in (
-      sym (ap isPivot (sym d) ∙ met (after-is-pivot .is-pivot .ensures) (c .before .if1 .left)),
-      λ _. row-more (x .a .now) (after-left-entries .left-entries .last .1 .1 .1 .0) (x .n) (x .i) size (start .pre .0) _ (c .sqrt .ensures ∙ ap sqrt d)
-          (after-left-entries .left-entries .ensures),
+    let tested = c .before .before in
+    let m = made tested in
+    let x = entered m .args in (
+      sym (ap isPivot (sym (pivot-of tested)) ∙ met (tested .is-pivot .ensures) (c .before .if1 .left)),
+      λ _. row-more (x .a .now) (m .left-entries .last .1 .1 .1 .0) (x .n) (x .i) (size m) (entered m .pre .0) _ (c .sqrt .ensures ∙ ap sqrt (pivot-of tested)) (m .left-entries .ensures),
     )
 
 pub factor-row-spec : {M : Type 1} → statement M
 factor-row-spec =
     tie.close
-    (tie.spec left-entries-requires entry-requires inner-requires (λ c κs. tt) same-length returns (λ c κs. tt) mul-l add-l mul-l-2 slice-write-l same-length-2
-    returns-2)
+    (tie.spec left-entries-requires entry-requires (λ c κs. omega (arith, within (c .before .before .before .before))) (λ c κs. tt)
+    (λ c. made (c .before) .left-entries .kept .1 .1 .1 .0) returns (λ c κs. tt) (λ c. omega (arith, within (made (c .before .before))))
+    (λ c. omega (arith, within (made (c .before .before)))) (λ c. omega (arith, within (made (c .before .before))))
+    (λ c. omega (arith, within (made (c .before .before)))) (λ c. simp length-set (made (c .before .before) .left-entries .kept .1 .1 .1 .0)) returns-2)

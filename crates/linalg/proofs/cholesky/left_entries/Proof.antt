@@ -19,7 +19,11 @@ abbrev μ-loop : tie.MeasureT-loop
 
 -- rows i and j lie within the slice
 within : (c : tie.In-loop Inv-loop μ-loop)
-    → (c .before .before .before .before .args .i * c .before .before .before .before .args .n + c .before .before .before .before .args .n ≤ c .before .before .before .before .args .n * c .before .before .before .before .args .n) × (c .before .loop .j * c .before .before .before .before .args .n + c .before .before .before .before .args .n ≤ c .before .before .before .before .args .n * c .before .before .before .before .args .n)
+    →
+    (c .before .before .before .before .args .i * c .before .before .before .before .args .n + c .before .before .before .before .args .n ≤ c .before .before
+    .before .before .args .n * c .before .before .before .before .args .n) ×
+    (c .before .loop .j * c .before .before .before .before .args .n + c .before .before .before .before .args .n ≤ c .before .before .before .before .args .n *
+    c .before .before .before .before .args .n)
 within c = (
   row-within (c .before .before .before .before .args .n) (c .before .before .before .before .args .n) (omega arith),
   row-within (c .before .before .before .before .args .n) (c .before .before .before .before .args .n) (omega arith),

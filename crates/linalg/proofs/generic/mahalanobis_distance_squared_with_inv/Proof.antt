@@ -24,10 +24,9 @@ returns-2 c = rw (met (c .before .before .before .is-side .ensures) (c .before .
 distance-requires : tie.Need-distance-requires
 distance-requires c κs =
     let else1 = c .before .before in
-    let after-is-side = else1 .before in
-    let start = after-is-side .before .before .before .before in
+    let start = else1 .before .before .before .before .before in
     let x = start .args in
-    let s = met (after-is-side .is-side .ensures) (else1 .if1 .left) in
+    let s = met (else1 .before .is-side .ensures) (else1 .if1 .left) in
     let l = three-long (x .x .now) (x .mu .now) (x .inv .now) (x .n) (x .n) (x .n * x .n) (met (c .before .is-distance .ensures) (c .if2 .left)) in
     (side-high (x .n) s, l .0, l .1, l .2)
 
@@ -35,9 +34,8 @@ returns-3 : tie.Need-returns-3
 unfolding distanceWithInv
 returns-3 c =
     let after-is-distance = c .before .before in
-    let else1 = after-is-distance .before in
-    let after-is-side = else1 .before in
-    rw (met (after-is-side .is-side .ensures) (else1 .if1 .left), met (after-is-distance .is-distance .ensures) (c .before .if2 .left)) (value (c .distance .ensures))
+    let after-is-side = after-is-distance .before .before in
+    rw (met (after-is-side .is-side .ensures) (after-is-distance .before .if1 .left), met (after-is-distance .is-distance .ensures) (c .before .if2 .left)) (value (c .distance .ensures))
 
 pub mahalanobis-distance-squared-with-inv-spec : {M : Type 1} → statement M
 mahalanobis-distance-squared-with-inv-spec = tie.close (tie.spec (λ c κs. search needs) returns is-distance-requires returns-2 distance-requires returns-3)

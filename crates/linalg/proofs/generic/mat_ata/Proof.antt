@@ -19,19 +19,15 @@ are-matrices-requires c κs =
 
 returns-2 : tie.Need-returns-2
 unfolding matAta
-returns-2 c =
-    let else1 = c .before .before .before in
-    let after-are-sides = else1 .before in
-    rw (met (after-are-sides .are-sides .ensures) (else1 .if1 .left), unmet (c .before .are-matrices .ensures) (c .if2 .taken))
+returns-2 c = let else1 = c .before .before .before in rw (met (else1 .before .are-sides .ensures) (else1 .if1 .left), unmet (c .before .are-matrices .ensures) (c .if2 .taken))
 
 ata-by-width-requires : tie.Need-ata-by-width-requires
 ata-by-width-requires c κs =
     let after-are-matrices = c .before .before in
     let else1 = after-are-matrices .before .before in
-    let after-are-sides = else1 .before in
-    let start = after-are-sides .before .before .before in
+    let start = else1 .before .before .before .before in
     let x = start .args in
-    let s = two-sides (x .m) (x .n) (met (after-are-sides .are-sides .ensures) (else1 .if1 .left)) in
+    let s = two-sides (x .m) (x .n) (met (else1 .before .are-sides .ensures) (else1 .if1 .left)) in
     let l = two-long (x .a .now) (x .out .now) (x .m * x .n) (x .n * x .n) (met (after-are-matrices .are-matrices .ensures) (c .before .if2 .left)) in
     (side-high (x .n) (s .1), l .0, l .1)
 
@@ -40,10 +36,8 @@ unfolding matAta
 returns-3 c =
     let after-ata-by-width = c .before .before in
     let else2 = after-ata-by-width .before .before in
-    let after-are-matrices = else2 .before in
-    let else1 = after-are-matrices .before .before in
-    let after-are-sides = else1 .before in
-    rw (met (after-are-sides .are-sides .ensures) (else1 .if1 .left), met (after-are-matrices .are-matrices .ensures) (else2 .if2 .left)) (done (after-ata-by-width .ata-by-width .ensures))
+    let else1 = else2 .before .before .before in
+    rw (met (else1 .before .are-sides .ensures) (else1 .if1 .left), met (else2 .before .are-matrices .ensures) (else2 .if2 .left)) (done (after-ata-by-width .ata-by-width .ensures))
 
 pub mat-ata-spec : {M : Type 1} → statement M
 mat-ata-spec =

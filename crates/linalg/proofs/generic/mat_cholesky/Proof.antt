@@ -17,19 +17,15 @@ are-matrices-requires c κs = two-squares (c .before .before .before .before .be
 
 returns-2 : tie.Need-returns-2
 unfolding matCholesky
-returns-2 c =
-    let else1 = c .before .before .before in
-    let after-is-side = else1 .before in
-    rw (met (after-is-side .is-side .ensures) (else1 .if1 .left), unmet (c .before .are-matrices .ensures) (c .if2 .taken))
+returns-2 c = let else1 = c .before .before .before in rw (met (else1 .before .is-side .ensures) (else1 .if1 .left), unmet (c .before .are-matrices .ensures) (c .if2 .taken))
 
 cholesky-requires : tie.Need-cholesky-requires
 cholesky-requires c κs =
     let after-are-matrices = c .before .before in
     let else1 = after-are-matrices .before .before in
-    let after-is-side = else1 .before in
-    let start = after-is-side .before .before .before in
+    let start = else1 .before .before .before .before in
     let x = start .args in
-    let s = met (after-is-side .is-side .ensures) (else1 .if1 .left) in
+    let s = met (else1 .before .is-side .ensures) (else1 .if1 .left) in
     let l = two-long (x .a .now) (x .out .now) (x .n * x .n) (x .n * x .n) (met (after-are-matrices .are-matrices .ensures) (c .before .if2 .left)) in
     (area (x .n) (x .n) s s, l .0, l .1)
 
@@ -38,12 +34,10 @@ unfolding matCholesky
 returns-3 c =
     let after-cholesky = c .before .before .before in
     let else2 = after-cholesky .before .before in
-    let after-are-matrices = else2 .before in
-    let else1 = after-are-matrices .before .before in
-    let after-is-side = else1 .before in
+    let else1 = else2 .before .before .before in
     rw (
-      met (after-is-side .is-side .ensures) (else1 .if1 .left),
-      met (after-are-matrices .are-matrices .ensures) (else2 .if2 .left),
+      met (else1 .before .is-side .ensures) (else1 .if1 .left),
+      met (else2 .before .are-matrices .ensures) (else2 .if2 .left),
       unmet (after-cholesky .cholesky .ensures .0) (c .if3 .taken),
     ) (kept (after-cholesky .cholesky .ensures .2 (not-true _ (c .if3 .taken))))
 
@@ -52,11 +46,9 @@ unfolding matCholesky
 returns-4 c =
     let after-cholesky = c .before .before .before in
     let else2 = after-cholesky .before .before in
-    let after-are-matrices = else2 .before in
-    let else1 = after-are-matrices .before .before in
-    let after-is-side = else1 .before in
+    let else1 = else2 .before .before .before in
     rw
-    (met (after-is-side .is-side .ensures) (else1 .if1 .left), met (after-are-matrices .are-matrices .ensures) (else2 .if2 .left), met (after-cholesky .cholesky .ensures .0) (c .if3 .left))
+    (met (else1 .before .is-side .ensures) (else1 .if1 .left), met (else2 .before .are-matrices .ensures) (else2 .if2 .left), met (after-cholesky .cholesky .ensures .0) (c .if3 .left))
     (done (after-cholesky .cholesky .ensures .1 (not-false _ (c .if3 .left))))
 
 pub mat-cholesky-spec : {M : Type 1} → statement M

@@ -29,17 +29,14 @@ mul-norm c =
     omega (arith, area (x .m) (x .n) (s .0) (s .1))
 
 norm-requires : tie.Need-norm-requires
-norm-requires c κs =
-    let x = c .before .before .before .before .before .args in
-    long-length (x .a .now) (x .m * x .n) (met (c .before .is-matrix .ensures) (c .if2 .left))
+norm-requires c κs = let x = c .before .before .before .before .before .args in long-length (x .a .now) (x .m * x .n) (met (c .before .is-matrix .ensures) (c .if2 .left))
 
 returns-3 : tie.Need-returns-3
 unfolding matFrobenius
 returns-3 c =
     let after-is-matrix = c .before .before in
-    let else1 = after-is-matrix .before in
-    let after-are-sides = else1 .before in
-    rw (met (after-are-sides .are-sides .ensures) (else1 .if1 .left), met (after-is-matrix .is-matrix .ensures) (c .before .if2 .left)) (value (c .norm .ensures))
+    let after-are-sides = after-is-matrix .before .before in
+    rw (met (after-are-sides .are-sides .ensures) (after-is-matrix .before .if1 .left), met (after-is-matrix .is-matrix .ensures) (c .before .if2 .left)) (value (c .norm .ensures))
 
 pub mat-frobenius-spec : {M : Type 1} → statement M
 mat-frobenius-spec = tie.close (tie.spec (λ c κs. search needs) returns is-matrix-requires returns-2 mul-norm norm-requires returns-3)

@@ -21,19 +21,15 @@ are-factors-requires c κs =
 
 returns-2 : tie.Need-returns-2
 unfolding matMul
-returns-2 c =
-    let else1 = c .before .before .before in
-    let after-are-three-sides = else1 .before in
-    rw (met (after-are-three-sides .are-three-sides .ensures) (else1 .if1 .left), unmet (c .before .are-factors .ensures) (c .if2 .taken))
+returns-2 c = let else1 = c .before .before .before in rw (met (else1 .before .are-three-sides .ensures) (else1 .if1 .left), unmet (c .before .are-factors .ensures) (c .if2 .taken))
 
 product-by-width-requires : tie.Need-product-by-width-requires
 product-by-width-requires c κs =
     let after-are-factors = c .before .before in
     let else1 = after-are-factors .before .before in
-    let after-are-three-sides = else1 .before in
-    let start = after-are-three-sides .before .before .before .before in
+    let start = else1 .before .before .before .before .before in
     let x = start .args in
-    let s = three-sides (x .m) (x .k) (x .n) (met (after-are-three-sides .are-three-sides .ensures) (else1 .if1 .left)) in
+    let s = three-sides (x .m) (x .k) (x .n) (met (else1 .before .are-three-sides .ensures) (else1 .if1 .left)) in
     let l = three-long (x .a .now) (x .b .now) (x .out .now) (x .m * x .k) (x .k * x .n) (x .m * x .n) (met (after-are-factors .are-factors .ensures) (c .before .if2 .left)) in
     (side-high (x .n) (s .2), l .0, l .1, l .2)
 
@@ -42,10 +38,8 @@ unfolding matMul
 returns-3 c =
     let after-product-by-width = c .before .before in
     let else2 = after-product-by-width .before .before in
-    let after-are-factors = else2 .before in
-    let else1 = after-are-factors .before .before in
-    let after-are-three-sides = else1 .before in
-    rw (met (after-are-three-sides .are-three-sides .ensures) (else1 .if1 .left), met (after-are-factors .are-factors .ensures) (else2 .if2 .left))
+    let else1 = else2 .before .before .before in
+    rw (met (else1 .before .are-three-sides .ensures) (else1 .if1 .left), met (else2 .before .are-factors .ensures) (else2 .if2 .left))
     (done (after-product-by-width .product-by-width .ensures))
 
 pub mat-mul-spec : {M : Type 1} → statement M

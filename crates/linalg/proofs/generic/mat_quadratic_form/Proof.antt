@@ -31,9 +31,8 @@ returns-3 : tie.Need-returns-3
 unfolding matQuadraticForm
 returns-3 c =
     let after-is-form = c .before .before in
-    let else1 = after-is-form .before in
-    let after-is-side = else1 .before in
-    rw (met (after-is-side .is-side .ensures) (else1 .if1 .left), met (after-is-form .is-form .ensures) (c .before .if2 .left)) (value (c .quadratic-form .ensures))
+    let after-is-side = after-is-form .before .before in
+    rw (met (after-is-side .is-side .ensures) (after-is-form .before .if1 .left), met (after-is-form .is-form .ensures) (c .before .if2 .left)) (value (c .quadratic-form .ensures))
 
 pub mat-quadratic-form-spec : {M : Type 1} → statement M
 mat-quadratic-form-spec = tie.close (tie.spec (λ c κs. search needs) returns is-form-requires returns-2 quadratic-form-requires returns-3)

@@ -21,10 +21,9 @@ returns-2 c = rw (met (c .before .before .before .is-side .ensures) (c .before .
 trace-cube-product-requires : tie.Need-trace-cube-product-requires
 trace-cube-product-requires c κs =
     let else1 = c .before .before in
-    let after-is-side = else1 .before in
-    let start = after-is-side .before .before .before in
+    let start = else1 .before .before .before .before in
     let x = start .args in
-    let s = met (after-is-side .is-side .ensures) (else1 .if1 .left) in
+    let s = met (else1 .before .is-side .ensures) (else1 .if1 .left) in
     let l = two-long (x .a .now) (x .b .now) (x .n * x .n) (x .n * x .n) (met (c .before .are-matrices .ensures) (c .if2 .left)) in
     (area (x .n) (x .n) s s, l .0, l .1)
 
@@ -32,9 +31,8 @@ returns-3 : tie.Need-returns-3
 unfolding matTraceCube
 returns-3 c =
     let after-are-matrices = c .before .before in
-    let else1 = after-are-matrices .before in
-    let after-is-side = else1 .before in
-    rw (met (after-is-side .is-side .ensures) (else1 .if1 .left), met (after-are-matrices .are-matrices .ensures) (c .before .if2 .left)) (value (c .trace-cube-product .ensures))
+    let after-is-side = after-are-matrices .before .before in
+    rw (met (after-is-side .is-side .ensures) (after-are-matrices .before .if1 .left), met (after-are-matrices .are-matrices .ensures) (c .before .if2 .left)) (value (c .trace-cube-product .ensures))
 
 pub mat-trace-cube-spec : {M : Type 1} → statement M
 mat-trace-cube-spec = tie.close (tie.spec (λ c κs. search needs) returns are-matrices-requires returns-2 trace-cube-product-requires returns-3)

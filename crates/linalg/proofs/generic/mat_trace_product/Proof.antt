@@ -28,9 +28,8 @@ returns-3 : tie.Need-returns-3
 unfolding matTraceProduct
 returns-3 c =
     let after-are-matrices = c .before .before in
-    let else1 = after-are-matrices .before in
-    let after-is-side = else1 .before in
-    rw (met (after-is-side .is-side .ensures) (else1 .if1 .left), met (after-are-matrices .are-matrices .ensures) (c .before .if2 .left)) (value (c .trace-product .ensures))
+    let after-is-side = after-are-matrices .before .before in
+    rw (met (after-is-side .is-side .ensures) (after-are-matrices .before .if1 .left), met (after-are-matrices .are-matrices .ensures) (c .before .if2 .left)) (value (c .trace-product .ensures))
 
 pub mat-trace-product-spec : {M : Type 1} → statement M
 mat-trace-product-spec = tie.close (tie.spec (λ c κs. search needs) returns are-matrices-requires returns-2 trace-product-requires returns-3)

@@ -19,10 +19,7 @@ are-matrices-requires c κs =
 
 returns-2 : tie.Need-returns-2
 unfolding matTranspose
-returns-2 c =
-    let else1 = c .before .before .before in
-    let after-are-sides = else1 .before in
-    rw (met (after-are-sides .are-sides .ensures) (else1 .if1 .left), unmet (c .before .are-matrices .ensures) (c .if2 .taken))
+returns-2 c = let else1 = c .before .before .before in rw (met (else1 .before .are-sides .ensures) (else1 .if1 .left), unmet (c .before .are-matrices .ensures) (c .if2 .taken))
 
 transpose-requires : tie.Need-transpose-requires
 transpose-requires c κs =
@@ -36,10 +33,8 @@ unfolding matTranspose
 returns-3 c =
     let after-transpose = c .before .before in
     let else2 = after-transpose .before .before in
-    let after-are-matrices = else2 .before in
-    let else1 = after-are-matrices .before .before in
-    let after-are-sides = else1 .before in
-    rw (met (after-are-sides .are-sides .ensures) (else1 .if1 .left), met (after-are-matrices .are-matrices .ensures) (else2 .if2 .left)) (done (after-transpose .transpose .ensures))
+    let else1 = else2 .before .before .before in
+    rw (met (else1 .before .are-sides .ensures) (else1 .if1 .left), met (else2 .before .are-matrices .ensures) (else2 .if2 .left)) (done (after-transpose .transpose .ensures))
 
 pub mat-transpose-spec : {M : Type 1} → statement M
 mat-transpose-spec =

@@ -21,10 +21,7 @@ is-system-requires c κs =
 
 returns-2 : tie.Need-returns-2
 unfolding matVecMul
-returns-2 c =
-    let else1 = c .before .before .before in
-    let after-is-side = else1 .before in
-    rw (met (after-is-side .is-side .ensures) (else1 .if1 .left), unmet (c .before .is-system .ensures) (c .if2 .taken))
+returns-2 c = let else1 = c .before .before .before in rw (met (else1 .before .is-side .ensures) (else1 .if1 .left), unmet (c .before .is-system .ensures) (c .if2 .taken))
 
 times-vector-by-width-requires : tie.Need-times-vector-by-width-requires
 times-vector-by-width-requires c κs =
@@ -38,10 +35,8 @@ unfolding matVecMul
 returns-3 c =
     let after-times-vector-by-width = c .before .before in
     let else2 = after-times-vector-by-width .before .before in
-    let after-is-system = else2 .before in
-    let else1 = after-is-system .before .before in
-    let after-is-side = else1 .before in
-    rw (met (after-is-side .is-side .ensures) (else1 .if1 .left), met (after-is-system .is-system .ensures) (else2 .if2 .left)) (done (after-times-vector-by-width .times-vector-by-width .ensures))
+    let else1 = else2 .before .before .before in
+    rw (met (else1 .before .is-side .ensures) (else1 .if1 .left), met (else2 .before .is-system .ensures) (else2 .if2 .left)) (done (after-times-vector-by-width .times-vector-by-width .ensures))
 
 pub mat-vec-mul-spec : {M : Type 1} → statement M
 mat-vec-mul-spec =

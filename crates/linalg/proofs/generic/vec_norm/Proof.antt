@@ -15,17 +15,14 @@ unfolding vecNorm
 returns-2 c = rw (met (c .before .before .before .is-side .ensures) (c .before .before .if1 .left), unmet (c .before .is-vector .ensures) (c .if2 .taken))
 
 norm-requires : tie.Need-norm-requires
-norm-requires c κs =
-    let start = c .before .before .before .before .before in
-    long-length (start .args .x .now) (start .args .n) (met (c .before .is-vector .ensures) (c .if2 .left))
+norm-requires c κs = let start = c .before .before .before .before .before in long-length (start .args .x .now) (start .args .n) (met (c .before .is-vector .ensures) (c .if2 .left))
 
 returns-3 : tie.Need-returns-3
 unfolding vecNorm
 returns-3 c =
     let after-is-vector = c .before .before in
-    let else1 = after-is-vector .before in
-    let after-is-side = else1 .before in
-    rw (met (after-is-side .is-side .ensures) (else1 .if1 .left), met (after-is-vector .is-vector .ensures) (c .before .if2 .left)) (value (c .norm .ensures))
+    let after-is-side = after-is-vector .before .before in
+    rw (met (after-is-side .is-side .ensures) (after-is-vector .before .if1 .left), met (after-is-vector .is-vector .ensures) (c .before .if2 .left)) (value (c .norm .ensures))
 
 pub vec-norm-spec : {M : Type 1} → statement M
 vec-norm-spec = tie.close (tie.spec (λ c κs. search needs) returns (λ c κs. search needs) returns-2 norm-requires returns-3)

@@ -16,9 +16,7 @@ returns-2 : tie.Need-returns-2
 returns-2 c = rw (c .before .before .before .before .if2 .taken) (c .before .before .ata2 .ensures)
 
 ata-requires-3 : tie.Need-ata-requires-3
-ata-requires-3 c κs =
-    let start = c .before .before .before .before .before .before in
-    rw (c .before .if3 .taken) at (start .pre)
+ata-requires-3 c κs = let start = c .before .before .before .before .before .before in rw (c .before .if3 .taken) at (start .pre)
 
 returns-3 : tie.Need-returns-3
 returns-3 c = rw (c .before .before .before .before .if3 .taken) (c .before .before .ata3 .ensures)

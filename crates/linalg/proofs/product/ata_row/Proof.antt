@@ -35,14 +35,10 @@ unfolding sumFrom
 loop-holds c = (omega arith, refl, front-zeros (c .before .before .args .n) nought (c .before .before .pre .0))
 
 entry-requires : tie.Need-entry-requires Inv-loop μ-loop
-entry-requires c κs =
-    let x = c .before .before .before .before .args in
-    omega (arith, cell (x .m) (x .n) {i = c .before .loop .k} {j = x .i} (omega arith) (omega arith))
+entry-requires c κs = let x = c .before .before .before .before .args in omega (arith, cell (x .m) (x .n) {i = c .before .loop .k} {j = x .i} (omega arith) (omega arith))
 
 row-requires : tie.Need-row-requires Inv-loop μ-loop
-row-requires c κs =
-    let x = c .before .before .before .before .before .args in
-    omega (arith, row-within (x .m) (x .n) {i = c .before .before .loop .k} (omega arith))
+row-requires c κs = let x = c .before .before .before .before .before .args in omega (arith, row-within (x .m) (x .n) {i = c .before .before .loop .k} (omega arith))
 
 -- the front that is lent has n sums
 lent : (n : ℕ) (l : List Float) → n ≤ 16 → length l ≡ 16 → length (take n l) ≡ n
@@ -65,15 +61,14 @@ add-scaled-requires c κs =
 loop-again : tie.Need-loop-again Inv-loop μ-loop
 loop-again c =
     let after-row = c .before .before .before in
-    let after-entry = after-row .before in
-    let at-loop = after-entry .before .before in
+    let at-loop = after-row .before .before .before in
     let start = at-loop .before .before .before in
     let s = start in
     let x = s .args in
     let turn = at-loop .loop in
     let step =
     sums-more nought (x .n) (turn .k) (term (x .a .now) (x .n) (x .i)) _ (take (x .n) (turn .sums)) (turn .inv .2)
-    (λ j h. scaled (x .a .now) (x .n) (turn .k) j (after-entry .entry .ensures) (after-row .row .ensures .1) h) in
+    (λ j h. scaled (x .a .now) (x .n) (turn .k) j (after-row .before .entry .ensures) (after-row .row .ensures .1) h) in
     let new = c .before .add-scaled .ensures ∙ step in
     let size = ap length new ∙ length-tabulate _ _ in (
       omega arith,
@@ -82,9 +77,7 @@ loop-again c =
     )
 
 slice-aggregate-copy : tie.Need-slice-aggregate-copy Inv-loop μ-loop
-slice-aggregate-copy c =
-    let s = c .before .before .before .before .before in
-    sym (lent (s .args .n) (c .before .before .loop .sums) (s .pre .0) (c .before .before .loop .inv .1))
+slice-aggregate-copy c = let s = c .before .before .before .before .before in sym (lent (s .args .n) (c .before .before .loop .sums) (s .pre .0) (c .before .before .loop .inv .1))
 
 copy-requires : tie.Need-copy-requires Inv-loop μ-loop
 copy-requires c κs =
@@ -97,11 +90,9 @@ returns : tie.Need-returns Inv-loop μ-loop
 returns c =
     let after-copy = c .before .before in
     let after-loop = after-copy .before .before .before in
-    let at-loop = after-loop .before in
-    let start = at-loop .before .before .before in
+    let start = after-loop .before .before .before .before in
     let x = start .args in
-    let l = at-loop in
-    after-copy .copy .ensures ∙ l .loop .inv .2 ∙ ap (sumsTo (x .a .now) (x .n) (x .i)) (le-antisymm (l .loop .inv .0) (after-loop .loop-test .left))
+    after-copy .copy .ensures ∙ after-loop .before .loop .inv .2 ∙ ap (sumsTo (x .a .now) (x .n) (x .i)) (le-antisymm (after-loop .before .loop .inv .0) (after-loop .loop-test .left))
     ∙ tabulate-ext _ _ _ (λ j h. ata-either (x .a .now) (x .m) (x .n) (x .i) j)
 
 pub ata-row-spec : {M : Type 1} → statement M

@@ -48,9 +48,8 @@ loop-again : tie.Need-loop-again Inv-loop μ-loop
 loop-again c =
     let after-product-row = c .before .before in
     let in-loop = after-product-row .before .before in
-    let at-loop = in-loop .before in
-    let start = at-loop .before .before .before .before in
-    (omega arith, rows-more _ (start .args .n) (at-loop .loop .i) (within (in-loop)) (after-product-row .product-row .ensures) (at-loop .loop .inv .1))
+    let start = in-loop .before .before .before .before .before in
+    (omega arith, rows-more _ (start .args .n) (in-loop .before .loop .i) (within (in-loop)) (after-product-row .product-row .ensures) (in-loop .before .loop .inv .1))
 
 same-length : tie.Need-same-length Inv-loop μ-loop
 same-length c = c .before .loop .inv .1 .size

@@ -10,17 +10,13 @@ returns : tie.Need-returns
 returns c = rw (c .before .before .before .before .if1 .taken) (c .before .before .product .ensures)
 
 product-requires-2 : tie.Need-product-requires-2
-product-requires-2 c κs =
-    let start = c .before .before .before .before .before .before in
-    rw (c .before .if2 .taken) at (start .pre)
+product-requires-2 c κs = let start = c .before .before .before .before .before .before in rw (c .before .if2 .taken) at (start .pre)
 
 returns-2 : tie.Need-returns-2
 returns-2 c = rw (c .before .before .before .before .if2 .taken) (c .before .before .product2 .ensures)
 
 product-requires-3 : tie.Need-product-requires-3
-product-requires-3 c κs =
-    let start = c .before .before .before .before .before .before .before in
-    rw (c .before .if3 .taken) at (start .pre)
+product-requires-3 c κs = let start = c .before .before .before .before .before .before .before in rw (c .before .if3 .taken) at (start .pre)
 
 returns-3 : tie.Need-returns-3
 returns-3 c = rw (c .before .before .before .before .if3 .taken) (c .before .before .product3 .ensures)

@@ -61,15 +61,14 @@ add-scaled-requires c κs =
 loop-again : tie.Need-loop-again Inv-loop μ-loop
 loop-again c =
     let after-row = c .before .before .before in
-    let after-entry = after-row .before in
-    let at-loop = after-entry .before .before in
+    let at-loop = after-row .before .before .before in
     let start = at-loop .before .before .before .before in
     let s = start in
     let x = s .args in
     let turn = at-loop .loop in
     let step =
     sums-more nought (x .n) (turn .l) (term (x .a .now) (x .b .now) (x .k) (x .n) (x .i)) _ (take (x .n) (turn .sums)) (turn .inv .2)
-    (λ j h. scaled (x .b .now) (x .n) (turn .l) j (after-entry .entry .ensures) (after-row .row .ensures .1) h) in
+    (λ j h. scaled (x .b .now) (x .n) (turn .l) j (after-row .before .entry .ensures) (after-row .row .ensures .1) h) in
     let new = c .before .add-scaled .ensures ∙ step in
     let size = ap length new ∙ length-tabulate _ _ in (
       omega arith,
@@ -95,11 +94,11 @@ returns : tie.Need-returns Inv-loop μ-loop
 returns c =
     let after-copy = c .before .before in
     let after-loop = after-copy .before .before .before in
-    let at-loop = after-loop .before in
-    let start = at-loop .before .before .before .before in
+    let start = after-loop .before .before .before .before .before in
     let x = start .args in
-    let l = at-loop in
-    after-copy .copy .ensures ∙ l .loop .inv .2 ∙ ap (sumsTo (x .a .now) (x .b .now) (x .k) (x .n) (x .i)) (le-antisymm (l .loop .inv .0) (after-loop .loop-test .left))
+    after-copy .copy .ensures
+    ∙ after-loop .before .loop .inv .2
+    ∙ ap (sumsTo (x .a .now) (x .b .now) (x .k) (x .n) (x .i)) (le-antisymm (after-loop .before .loop .inv .0) (after-loop .loop-test .left))
 
 pub product-row-spec : {M : Type 1} → statement M
 product-row-spec =

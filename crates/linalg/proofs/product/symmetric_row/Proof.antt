@@ -3,7 +3,7 @@ use Prim.Native.Nat.{_-_, _≤_}
 use native.Mathlib.Omega.{arith}
 use Rattle.linalg.specs.Products.{symmetricEntry}
 use Rattle.dense.specs.Fill.{Filled}
-use Rattle.dense.proofs.Laws.{cell, filled-none, filled-more, filled-all}
+use Rattle.dense.proofs.Laws.{inside, filled-none, filled-more, filled-all}
 use Rattle.linalg.proofs.Symmetry.{mean}
 use Rattle.linalg.proofs.product.symmetric_row.Statement.{statement}
 use Rattle.linalg.proofs.product.symmetric_row.Tie as tie
@@ -20,13 +20,12 @@ loop-holds c = (omega arith, filled-none _ _)
 entry-requires : tie.Need-entry-requires Inv-loop μ-loop
 entry-requires c κs =
     let start = c .before .before .before .before in
-    omega (arith, cell (start .args .n) (start .args .n) {i = start .args .i} {j = c .before .loop .j} (omega arith) (omega arith))
+    inside (start .args .n) (start .pre .1) (start .pre .0) (c .loop-test .taken)
 
 entry-requires-2 : tie.Need-entry-requires-2 Inv-loop μ-loop
 entry-requires-2 c κs =
-    let at-loop = c .before .before in
-    let start = at-loop .before .before .before in
-    omega (arith, cell (start .args .n) (start .args .n) {i = at-loop .loop .j} {j = start .args .i} (omega arith) (omega arith))
+    let start = c .before .before .before .before .before in
+    inside (start .args .n) (start .pre .1) (c .before .loop-test .taken) (start .pre .0)
 
 loop-again : tie.Need-loop-again Inv-loop μ-loop
 loop-again c =

@@ -18,9 +18,7 @@ loop-holds : tie.Need-loop-holds Inv-loop μ-loop
 loop-holds c = (omega arith, filled-none _ _)
 
 row-requires : tie.Need-row-requires Inv-loop μ-loop
-row-requires c κs =
-    let start = c .before .before .before .before .before in
-    omega (arith, row-within (start .args .n) (start .args .n) {i = c .before .loop .i} (omega arith))
+row-requires c κs = let start = c .before .before .before .before .before in omega (arith, row-within (start .args .n) (start .args .n) {i = c .before .loop .i} (omega arith))
 
 loop-again : tie.Need-loop-again Inv-loop μ-loop
 loop-again c =

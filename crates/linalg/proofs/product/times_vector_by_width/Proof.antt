@@ -10,17 +10,13 @@ returns : tie.Need-returns
 returns c = rw (c .before .before .before .before .if1 .taken) (c .before .before .times-vector .ensures)
 
 times-vector-requires-2 : tie.Need-times-vector-requires-2
-times-vector-requires-2 c κs =
-    let start = c .before .before .before .before .before .before in
-    rw (c .before .if2 .taken) at (start .pre)
+times-vector-requires-2 c κs = let start = c .before .before .before .before .before .before in rw (c .before .if2 .taken) at (start .pre)
 
 returns-2 : tie.Need-returns-2
 returns-2 c = rw (c .before .before .before .before .if2 .taken) (c .before .before .times-vector2 .ensures)
 
 times-vector-requires-3 : tie.Need-times-vector-requires-3
-times-vector-requires-3 c κs =
-    let start = c .before .before .before .before .before .before .before in
-    rw (c .before .if3 .taken) at (start .pre)
+times-vector-requires-3 c κs = let start = c .before .before .before .before .before .before .before in rw (c .before .if3 .taken) at (start .pre)
 
 returns-3 : tie.Need-returns-3
 returns-3 c = rw (c .before .before .before .before .if3 .taken) (c .before .before .times-vector3 .ensures)

@@ -16,10 +16,7 @@ are-matrices-requires c κs = two-squares (c .before .before .before .before .be
 
 returns-2 : tie.Need-returns-2
 unfolding tikhonov
-returns-2 c =
-    let else1 = c .before .before .before in
-    let after-is-side = else1 .before in
-    rw (met (after-is-side .is-side .ensures) (else1 .if1 .left), unmet (c .before .are-matrices .ensures) (c .if2 .taken))
+returns-2 c = let else1 = c .before .before .before in rw (met (else1 .before .is-side .ensures) (else1 .if1 .left), unmet (c .before .are-matrices .ensures) (c .if2 .taken))
 
 damped-requires : tie.Need-damped-requires
 damped-requires c κs =
@@ -33,10 +30,8 @@ unfolding tikhonov
 returns-3 c =
     let after-damped = c .before .before in
     let else2 = after-damped .before .before in
-    let after-are-matrices = else2 .before in
-    let else1 = after-are-matrices .before .before in
-    let after-is-side = else1 .before in
-    rw (met (after-is-side .is-side .ensures) (else1 .if1 .left), met (after-are-matrices .are-matrices .ensures) (else2 .if2 .left)) (done (after-damped .damped .ensures))
+    let else1 = else2 .before .before .before in
+    rw (met (else1 .before .is-side .ensures) (else1 .if1 .left), met (else2 .before .are-matrices .ensures) (else2 .if2 .left)) (done (after-damped .damped .ensures))
 
 pub tikhonov-spec : {M : Type 1} → statement M
 tikhonov-spec =

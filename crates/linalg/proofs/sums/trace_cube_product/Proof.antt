@@ -16,9 +16,7 @@ slice-aggregate-product : tie.Need-slice-aggregate-product
 slice-aggregate-product c = sym (length-take-le _ _ (omega arith))
 
 product-requires : tie.Need-product-requires
-product-requires c κs =
-    let start = c .before .before .before in
-    (side-of-area (start .args .n) (omega arith), start .pre .1, start .pre .2, length-take-le _ _ (omega arith))
+product-requires c κs = let start = c .before .before .before in (side-of-area (start .args .n) (omega arith), start .pre .1, start .pre .2, length-take-le _ _ (omega arith))
 
 array-share-prefix-m : tie.Need-array-share-prefix-m
 array-share-prefix-m c =

@@ -4,7 +4,7 @@ use Prim.Native.Nat.{_-_, _≤_}
 use native.Mathlib.Omega.{arith}
 use Rattle.kernel.specs.Number.{mul}
 use Rattle.dense.specs.Matrix.{at, sumFrom}
-use Rattle.dense.proofs.Laws.{cell, sum-more, sum-all}
+use Rattle.dense.proofs.Laws.{inside, sum-more, sum-all}
 use Rattle.linalg.proofs.sums.trace_row.Statement.{statement}
 use Rattle.linalg.proofs.sums.trace_row.Tie as tie
 
@@ -19,15 +19,10 @@ unfolding sumFrom
 loop-holds c = (omega arith, refl)
 
 entry-requires : tie.Need-entry-requires Inv-loop μ-loop
-entry-requires c κs =
-    let start = c .before .before .before .before in
-    omega (arith, cell (start .args .n) (start .args .n) {i = start .args .i} {j = c .before .loop .j} (omega arith) (omega arith))
+entry-requires c κs = let start = c .before .before .before .before in inside (start .args .n) (start .pre .1) (start .pre .0) (c .loop-test .taken)
 
 entry-requires-2 : tie.Need-entry-requires-2 Inv-loop μ-loop
-entry-requires-2 c κs =
-    let at-loop = c .before .before in
-    let start = at-loop .before .before .before in
-    omega (arith, cell (start .args .n) (start .args .n) {i = at-loop .loop .j} {j = start .args .i} (omega arith) (omega arith))
+entry-requires-2 c κs = let start = c .before .before .before .before .before in inside (start .args .n) (start .pre .2) (c .before .loop-test .taken) (start .pre .0)
 
 loop-again : tie.Need-loop-again Inv-loop μ-loop
 loop-again c =

@@ -16,14 +16,10 @@ slice-aggregate-determinant-in : tie.Need-slice-aggregate-determinant-in
 slice-aggregate-determinant-in c = sym (length-take-le _ _ (omega (arith, square-size (c .before .before .args .n) (c .before .before .pre .0))))
 
 slice-aggregate-determinant-in-2 : tie.Need-slice-aggregate-determinant-in-2
-slice-aggregate-determinant-in-2 c =
-    let start = c .before .before .before in
-    sym (length-take-le _ _ (omega (arith, square-size (start .args .n) (start .pre .0))))
+slice-aggregate-determinant-in-2 c = let start = c .before .before .before in sym (length-take-le _ _ (omega (arith, square-size (start .args .n) (start .pre .0))))
 
 slice-aggregate-determinant-in-3 : tie.Need-slice-aggregate-determinant-in-3
-slice-aggregate-determinant-in-3 c =
-    let start = c .before .before .before .before in
-    sym (length-take-le _ _ (omega (arith, square-size (start .args .n) (start .pre .0))))
+slice-aggregate-determinant-in-3 c = let start = c .before .before .before .before in sym (length-take-le _ _ (omega (arith, square-size (start .args .n) (start .pre .0))))
 
 determinant-in-requires : tie.Need-determinant-in-requires
 determinant-in-requires c κs =

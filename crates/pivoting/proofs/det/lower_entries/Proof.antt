@@ -32,9 +32,7 @@ abbrev μ-loop : tie.MeasureT-loop
 μ-loop x n k y₀ factor j₀ y j = n - j
 
 loop-holds : tie.Need-loop-holds Inv-loop μ-loop
-loop-holds c =
-    let start = c .before .before in
-    (omega arith, omega arith, refl, filled-from _ _ _ (λ q h. kept (start .args .x .now) (start .args .y .now) (start .args .k) q h))
+loop-holds c = let start = c .before .before in (omega arith, omega arith, refl, filled-from _ _ _ (λ q h. kept (start .args .x .now) (start .args .y .now) (start .args .k) q h))
 
 loop-again : tie.Need-loop-again Inv-loop μ-loop
 loop-again c =

@@ -59,9 +59,8 @@ loop-again : tie.Need-loop-again Inv-loop μ-loop
 loop-again c =
     let after-lower-row = c .before .before in
     let in-loop = after-lower-row .before .before in
-    let at-loop = in-loop .before in
-    let start = at-loop .before .before .before in
-    let turn = at-loop .loop in
+    let start = in-loop .before .before .before .before in
+    let turn = in-loop .before .loop in
     let x = start .args in (
       omega arith,
       omega arith,

@@ -29,28 +29,21 @@ unfolding pivoted lowered swapSign pivotProduct
 loop-holds c = (omega arith, refl, refl, refl, refl, refl, refl, refl)
 
 same-length : tie.Need-same-length Inv-loop μ-loop
-same-length c =
-    let at-loop = c .before .before .before .before .before .before in
-    at-loop .loop .inv .1
+same-length c = let at-loop = c .before .before .before .before .before .before in at-loop .loop .inv .1
 
 same-length-2 : tie.Need-same-length-2 Inv-loop μ-loop
-same-length-2 c =
-    let at-loop = c .before .before .before .before .before .before in
-    at-loop .loop .inv .2
+same-length-2 c = let at-loop = c .before .before .before .before .before .before in at-loop .loop .inv .2
 
 same-length-3 : tie.Need-same-length-3 Inv-loop μ-loop
-same-length-3 c =
-    let at-loop = c .before .before .before .before .before .before in
-    at-loop .loop .inv .3
+same-length-3 c = let at-loop = c .before .before .before .before .before .before in at-loop .loop .inv .3
 
 returns : tie.Need-returns Inv-loop μ-loop
 unfolding product
 returns c =
     let after-choose = c .before .before in
     let in-loop = after-choose .before .before .before in
-    let at-loop = in-loop .before in
-    let start = at-loop .before .before .before .before in
-    let turn = at-loop .loop in
+    let start = in-loop .before .before .before .before .before in
+    let turn = in-loop .before .loop in
     let x = start .args in
     rw
     (pivoted-never _ _ (lowered (x .n) (stage (x .m .now) (x .s .now))) (turn .k) (in-loop .loop-test .taken) (turn .inv .4) (turn .inv .5)
@@ -60,9 +53,8 @@ entry-requires : tie.Need-entry-requires Inv-loop μ-loop
 entry-requires c κs =
     let after-choose = c .before .before .before .before in
     let in-loop = after-choose .before .before .before in
-    let at-loop = in-loop .before in
-    let start = at-loop .before .before .before .before in
-    let turn = at-loop .loop in
+    let start = in-loop .before .before .before .before .before in
+    let turn = in-loop .before .loop in
     let x = start .args in
     let h = pivot-row (turn .m) (turn .s) (x .n) (x .n) (turn .k) (in-loop .loop-test .taken) (after-choose .choose .ensures) in
     omega (arith, cell (x .n) (x .n) {i = after-choose .choose .result .row} {j = turn .k} h (in-loop .loop-test .taken))
@@ -71,9 +63,8 @@ swap-norms-requires : tie.Need-swap-norms-requires Inv-loop μ-loop
 swap-norms-requires c κs =
     let after-choose = c .before .before .before .before .before .before in
     let in-loop = after-choose .before .before .before in
-    let at-loop = in-loop .before in
-    let start = at-loop .before .before .before .before in
-    let turn = at-loop .loop in
+    let start = in-loop .before .before .before .before .before in
+    let turn = in-loop .before .loop in
     let x = start .args in
     (in-loop .loop-test .taken, pivot-row (turn .m) (turn .s) (x .n) (x .n) (turn .k) (in-loop .loop-test .taken) (after-choose .choose .ensures), omega arith)
 
@@ -81,9 +72,8 @@ lower-requires : tie.Need-lower-requires Inv-loop μ-loop
 lower-requires c κs =
     let after-choose = c .before .before .before .before .before .before .before .before .before .before .before in
     let in-loop = after-choose .before .before .before in
-    let at-loop = in-loop .before in
-    let start = at-loop .before .before .before .before in
-    let turn = at-loop .loop in
+    let start = in-loop .before .before .before .before .before in
+    let turn = in-loop .before .loop in
     let x = start .args in
     (in-loop .loop-test .taken, pivot-row (turn .m) (turn .s) (x .n) (x .n) (turn .k) (in-loop .loop-test .taken) (after-choose .choose .ensures), omega arith, omega arith)
 
@@ -93,33 +83,22 @@ loop-again c =
     let after-swap-norms = after-lower .before .before .before .before .before in
     let after-entry = after-swap-norms .before .before in
     let after-flipped = after-entry .before .before in
-    let else1 = after-flipped .before in
-    let after-is-taken = else1 .before in
-    let after-choose = after-is-taken .before in
-    let in-loop = after-choose .before .before .before in
-    let at-loop = in-loop .before in
-    let start = at-loop .before .before .before .before in
-    let turn = at-loop .loop in
+    let after-is-taken = after-flipped .before .before in
+    let in-loop = after-is-taken .before .before .before .before in
+    let start = in-loop .before .before .before .before .before in
+    let turn = in-loop .before .loop in
     let x = start .args in
     let f = lowered (x .n) (stage (x .m .now) (x .s .now)) in (
       omega (arith, in-loop .loop-test .taken),
       after-lower .lower .kept .0 ∙ turn .inv .1,
       after-swap-norms .swap-norms .kept .0 ∙ turn .inv .2,
       after-lower .lower .kept .1 .0 ∙ turn .inv .3,
-      sym (pivoted-more _ _ f (turn .k) (turn .inv .4) (turn .inv .5) (after-is-taken .is-taken .ensures ∙ ap taken (after-choose .choose .ensures))) ∙ not-false _ (else1 .if1 .left),
-      lowered-more _ _ (turn .k) _ _ _ _ _ (turn .inv .5) (after-choose .choose .ensures) (after-lower .lower .ensures) (after-swap-norms .swap-norms .ensures),
-      sign-more _ f (turn .k) (turn .inv .5) (after-choose .choose .ensures) (turn .inv .6) (after-flipped .flipped .ensures),
-      product-more _ f (turn .k) (turn .inv .5) (after-choose .choose .ensures) (turn .inv .7) (after-entry .entry .ensures),
+      sym (pivoted-more _ _ f (turn .k) (turn .inv .4) (turn .inv .5) (after-is-taken .is-taken .ensures ∙ ap taken (after-is-taken .before .choose .ensures)))
+          ∙ not-false _ (after-flipped .before .if1 .left),
+      lowered-more _ _ (turn .k) _ _ _ _ _ (turn .inv .5) (after-is-taken .before .choose .ensures) (after-lower .lower .ensures) (after-swap-norms .swap-norms .ensures),
+      sign-more _ f (turn .k) (turn .inv .5) (after-is-taken .before .choose .ensures) (turn .inv .6) (after-flipped .flipped .ensures),
+      product-more _ f (turn .k) (turn .inv .5) (after-is-taken .before .choose .ensures) (turn .inv .7) (after-entry .entry .ensures),
     )
-
-same-length-4 : tie.Need-same-length-4 Inv-loop μ-loop
-same-length-4 c = c .before .loop .inv .1
-
-same-length-5 : tie.Need-same-length-5 Inv-loop μ-loop
-same-length-5 c = c .before .loop .inv .2
-
-same-length-6 : tie.Need-same-length-6 Inv-loop μ-loop
-same-length-6 c = c .before .loop .inv .3
 
 returns-2 : tie.Need-returns-2 Inv-loop μ-loop
 unfolding product
@@ -134,4 +113,4 @@ pub product-spec : {M : Type 1} → statement M
 product-spec =
     tie.close
     (tie.spec Inv-loop μ-loop loop-holds (λ c κs. omega arith) (λ c κs. search needs) same-length same-length-2 same-length-3 returns (λ c κs. search needs)
-    entry-requires swap-norms-requires lower-requires (λ c. omega arith) (λ c. omega arith) loop-again same-length-4 same-length-5 same-length-6 returns-2)
+    entry-requires swap-norms-requires lower-requires (λ c. omega arith) (λ c. omega arith) loop-again (λ c. c .before .loop .inv .1) (λ c. c .before .loop .inv .2) (λ c. c .before .loop .inv .3) returns-2)

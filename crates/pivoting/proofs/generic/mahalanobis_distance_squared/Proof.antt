@@ -33,9 +33,8 @@ distance-requires c κs =
 returns-3 : tie.Need-returns-3
 unfolding mahalanobis
 returns-3 c =
-    let shaped = c .before in
-    let sided = shaped .before .before in
-    rw (met (sided .before .is-side .ensures) (sided .if1 .left), met (shaped .before .is-distance .ensures) (shaped .if2 .left)) (c .distance .ensures)
+    let sided = c .before .before .before in
+    rw (met (sided .before .is-side .ensures) (sided .if1 .left), met (c .before .before .is-distance .ensures) (c .before .if2 .left)) (c .distance .ensures)
 
 pub mahalanobis-distance-squared-spec : {M : Type 1} → statement M
 mahalanobis-distance-squared-spec = tie.close (tie.spec (λ c κs. search needs) returns is-distance-requires returns-2 distance-requires returns-3)

@@ -21,10 +21,9 @@ returns-2 c =
 
 inverse-requires : tie.Need-inverse-requires
 inverse-requires c κs =
-    let shaped = c .before in
-    let sided = shaped .before .before .before in
+    let sided = c .before .before .before .before in
     let x = sided .before .before .before .before .args in
-    let l = two-long (x .a .now) (x .out .now) (x .n * x .n) (x .n * x .n) (met (shaped .before .are-matrices .ensures) (shaped .if2 .left)) in
+    let l = two-long (x .a .now) (x .out .now) (x .n * x .n) (x .n * x .n) (met (c .before .before .are-matrices .ensures) (c .before .if2 .left)) in
     (side-high (x .n) (met (sided .before .is-side .ensures) (sided .if1 .left)), l .0, l .1)
 
 returns-3 : tie.Need-returns-3

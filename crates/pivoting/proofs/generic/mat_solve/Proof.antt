@@ -27,10 +27,9 @@ returns-2 c =
 
 solve-requires : tie.Need-solve-requires
 solve-requires c κs =
-    let shaped = c .before in
-    let sided = shaped .before .before .before in
+    let sided = c .before .before .before .before in
     let x = sided .before .before .before .before .before .args in
-    let l = three-long (x .a .now) (x .b .now) (x .out .now) (x .n * x .n) (x .n) (x .n) (met (shaped .before .is-system .ensures) (shaped .if2 .left)) in
+    let l = three-long (x .a .now) (x .b .now) (x .out .now) (x .n * x .n) (x .n) (x .n) (met (c .before .before .is-system .ensures) (c .before .if2 .left)) in
     (side-high (x .n) (met (sided .before .is-side .ensures) (sided .if1 .left)), omega arith, l .0, omega arith, omega arith)
 
 returns-3 : tie.Need-returns-3

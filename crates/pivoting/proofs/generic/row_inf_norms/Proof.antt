@@ -25,19 +25,16 @@ returns-3 : tie.Need-returns-3
 unfolding rowInfNorms
 returns-3 c =
     let else2 = c .before .before .before in
-    let after-is-matrix = else2 .before in
-    let else1 = after-is-matrix .before in
-    let after-is-side = else1 .before in
-    rw (met (after-is-side .is-side .ensures) (else1 .if1 .left), met (after-is-matrix .is-matrix .ensures) (else2 .if2 .left), unmet (c .before .is-vector .ensures) (c .if3 .taken))
+    let else1 = else2 .before .before in
+    rw (met (else1 .before .is-side .ensures) (else1 .if1 .left), met (else2 .before .is-matrix .ensures) (else2 .if2 .left), unmet (c .before .is-vector .ensures) (c .if3 .taken))
 
 row-norms-requires : tie.Need-row-norms-requires
 row-norms-requires c κs =
     let after-is-vector = c .before .before in
     let else2 = after-is-vector .before .before in
-    let after-is-matrix = else2 .before in
-    let start = after-is-matrix .before .before .before .before .before in
+    let start = else2 .before .before .before .before .before .before in
     let x = start .args in (
-      long-length (x .a .now) (x .n * x .n) (met (after-is-matrix .is-matrix .ensures) (else2 .if2 .left)),
+      long-length (x .a .now) (x .n * x .n) (met (else2 .before .is-matrix .ensures) (else2 .if2 .left)),
       long-length (x .out .now) (x .n) (met (after-is-vector .is-vector .ensures) (c .before .if3 .left)),
     )
 
@@ -46,13 +43,10 @@ unfolding rowInfNorms
 returns-4 c =
     let after-row-norms = c .before .before in
     let else3 = after-row-norms .before .before in
-    let after-is-vector = else3 .before in
-    let else2 = after-is-vector .before .before in
-    let after-is-matrix = else2 .before in
-    let else1 = after-is-matrix .before in
-    let after-is-side = else1 .before in
+    let else2 = else3 .before .before .before in
+    let else1 = else2 .before .before in
     rw
-    (met (after-is-side .is-side .ensures) (else1 .if1 .left), met (after-is-matrix .is-matrix .ensures) (else2 .if2 .left), met (after-is-vector .is-vector .ensures) (else3 .if3 .left))
+    (met (else1 .before .is-side .ensures) (else1 .if1 .left), met (else2 .before .is-matrix .ensures) (else2 .if2 .left), met (else3 .before .is-vector .ensures) (else3 .if3 .left))
     (done (after-row-norms .row-norms .ensures))
 
 pub row-inf-norms-spec : {M : Type 1} → statement M

@@ -46,8 +46,7 @@ returns : tie.Need-returns Inv-loop μ-loop
 returns c =
     let after-reduce-column = c .before .before .before .before .before .before .before in
     let in-loop = after-reduce-column .before .before .before .before in
-    let at-loop = in-loop .before in
-    let turn = at-loop .loop in
+    let turn = in-loop .before .loop in
     (sym (pivoted-never _ _ _ (turn .k) (in-loop .loop-test .taken) (turn .inv .4) (turn .inv .5) (after-reduce-column .reduce-column .ensures .0) (not-true _ (c .if1 .taken))), never)
 
 loop-again : tie.Need-loop-again Inv-loop μ-loop
@@ -64,15 +63,6 @@ loop-again c =
       reduced-more _ _ _ _ _ _ (turn .inv .5) (after-reduce-column .reduce-column .ensures .1 ok),
     )
 
-same-length-4 : tie.Need-same-length-4 Inv-loop μ-loop
-same-length-4 c = c .before .loop .inv .1
-
-same-length-5 : tie.Need-same-length-5 Inv-loop μ-loop
-same-length-5 c = c .before .loop .inv .2
-
-same-length-6 : tie.Need-same-length-6 Inv-loop μ-loop
-same-length-6 c = c .before .loop .inv .3
-
 returns-2 : tie.Need-returns-2 Inv-loop μ-loop
 returns-2 c =
     let turn = c .before .loop in
@@ -85,4 +75,4 @@ pub reduce-spec : {M : Type 1} → statement M
 reduce-spec =
     tie.close
     (tie.spec Inv-loop μ-loop loop-holds (λ c κs. omega arith) same-length same-length-2 same-length-3 returns (λ c. omega arith) (λ c. omega arith) loop-again
-    same-length-4 same-length-5 same-length-6 returns-2)
+    (λ c. c .before .loop .inv .1) (λ c. c .before .loop .inv .2) (λ c. c .before .loop .inv .3) returns-2)

@@ -30,9 +30,8 @@ returns-2 c =
     let after-step = c .before .before .before .before in
     let after-swap-norms = after-step .before .before .before .before .before in
     let else1 = after-swap-norms .before .before in
-    let after-is-taken = else1 .before in
-    let after-choose = after-is-taken .before in (
-      sym (met (after-is-taken .is-taken .ensures ∙ ap taken (after-choose .choose .ensures)) (else1 .if1 .left)),
+    let after-choose = else1 .before .before in (
+      sym (met (else1 .before .is-taken .ensures ∙ ap taken (after-choose .choose .ensures)) (else1 .if1 .left)),
       λ e. columned _ _ _ _ _ _ _ _ (after-choose .choose .ensures) (after-step .step .ensures) (after-swap-norms .swap-norms .ensures),
     )
 

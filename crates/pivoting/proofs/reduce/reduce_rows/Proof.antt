@@ -60,9 +60,8 @@ loop-again : tie.Need-loop-again Inv-loop μ-loop
 loop-again c =
     let after-reduce-row = c .before .before in
     let in-loop = after-reduce-row .before .before in
-    let at-loop = in-loop .before in
-    let start = at-loop .before .before .before in
-    let turn = at-loop .loop in (
+    let start = in-loop .before .before .before .before in
+    let turn = in-loop .before .loop in (
       omega arith,
       rewritten-more _ (start .args .w) (turn .i) (within (in-loop))
           (after-reduce-row .reduce-row .ensures

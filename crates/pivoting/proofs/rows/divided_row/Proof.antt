@@ -16,9 +16,7 @@ abbrev μ-loop : tie.MeasureT-loop
 μ-loop m n w p k y₀ d j₀ y j = w - j
 
 entry-requires : tie.Need-entry-requires Inv-loop μ-loop
-entry-requires c κs =
-    let start = c .before .before in
-    omega (arith, cell (start .args .n) (start .args .w) {i = start .args .p} {j = start .args .k} (omega arith) (omega arith))
+entry-requires c κs = let start = c .before .before in omega (arith, cell (start .args .n) (start .args .w) {i = start .args .p} {j = start .args .k} (omega arith) (omega arith))
 
 loop-holds : tie.Need-loop-holds Inv-loop μ-loop
 loop-holds c = (omega arith, c .entry .ensures, filled-none _ _)
@@ -29,9 +27,7 @@ entry-requires-2 c κs =
     omega (arith, cell (start .args .n) (start .args .w) {i = start .args .p} {j = c .before .loop .j} (omega arith) (omega arith))
 
 loop-again : tie.Need-loop-again Inv-loop μ-loop
-loop-again c =
-    let turn = c .before .before .loop in
-    (omega arith, turn .inv .1, filled-more _ (turn .j) (omega arith) (rw (turn .inv .1, c .entry2 .ensures)) (turn .inv .2))
+loop-again c = let turn = c .before .before .loop in (omega arith, turn .inv .1, filled-more _ (turn .j) (omega arith) (rw (turn .inv .1, c .entry2 .ensures)) (turn .inv .2))
 
 same-length : tie.Need-same-length Inv-loop μ-loop
 same-length c = c .before .loop .inv .2 .size

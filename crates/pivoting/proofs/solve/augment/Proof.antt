@@ -43,9 +43,8 @@ loop-again : tie.Need-loop-again Inv-loop μ-loop
 loop-again c =
     let after-augmented-row = c .before .before in
     let in-loop = after-augmented-row .before .before in
-    let at-loop = in-loop .before in
-    let start = at-loop .before .before .before .before in
-    (omega arith, rows-more _ (start .args .w) (at-loop .loop .i) (within (in-loop)) (after-augmented-row .augmented-row .ensures) (at-loop .loop .inv .1))
+    let start = in-loop .before .before .before .before .before in
+    (omega arith, rows-more _ (start .args .w) (in-loop .before .loop .i) (within (in-loop)) (after-augmented-row .augmented-row .ensures) (in-loop .before .loop .inv .1))
 
 same-length : tie.Need-same-length Inv-loop μ-loop
 same-length c = c .before .loop .inv .1 .size

@@ -28,14 +28,10 @@ array-borrow-prefix-inv : tie.Need-array-borrow-prefix-inv
 array-borrow-prefix-inv c = omega (arith, square-size (c .before .before .before .args .n) (c .before .before .before .pre .1))
 
 slice-aggregate-inverse : tie.Need-slice-aggregate-inverse
-slice-aggregate-inverse c =
-    let start = c .before .before .before .before in
-    sym (length-take-le _ _ (omega (arith, square-size (start .args .n) (start .pre .1))))
+slice-aggregate-inverse c = let start = c .before .before .before .before in sym (length-take-le _ _ (omega (arith, square-size (start .args .n) (start .pre .1))))
 
 inverse-requires : tie.Need-inverse-requires
-inverse-requires c κs =
-    let start = c .before .before .before .before in
-    (start .pre .1, start .pre .4, length-take-le _ _ (omega (arith, square-size (start .args .n) (start .pre .1))))
+inverse-requires c κs = let start = c .before .before .before .before in (start .pre .1, start .pre .4, length-take-le _ _ (omega (arith, square-size (start .args .n) (start .pre .1))))
 
 array-share-prefix-inv : tie.Need-array-share-prefix-inv
 array-share-prefix-inv c =

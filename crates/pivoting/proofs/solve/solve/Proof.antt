@@ -7,14 +7,10 @@ use Rattle.pivoting.proofs.solve.solve.Statement.{statement}
 use Rattle.pivoting.proofs.solve.solve.Tie as tie
 
 mul-size : tie.Need-mul-size
-mul-size c =
-    let start = c .before .before .before in
-    omega (arith, augmented-size (start .args .n) (start .args .r) (start .pre .0) (start .pre .1))
+mul-size c = let start = c .before .before .before in omega (arith, augmented-size (start .args .n) (start .args .r) (start .pre .0) (start .pre .1))
 
 array-borrow-prefix-m : tie.Need-array-borrow-prefix-m
-array-borrow-prefix-m c =
-    let start = c .before .before .before in
-    omega (arith, augmented-size (start .args .n) (start .args .r) (start .pre .0) (start .pre .1))
+array-borrow-prefix-m c = let start = c .before .before .before in omega (arith, augmented-size (start .args .n) (start .args .r) (start .pre .0) (start .pre .1))
 
 slice-aggregate-solve-in : tie.Need-slice-aggregate-solve-in
 slice-aggregate-solve-in c =

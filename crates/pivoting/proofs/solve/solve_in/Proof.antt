@@ -1,9 +1,11 @@
 -- `solve_in` meets its contract: questions 5 and 6, and the right part of what is reduced.
 use Prim.Native.Nat.{ℕ, _+_}
+use mathlib.Core.Bool.{true}
 use mathlib.Core.List.{List}
 use mathlib.Core.Path.{_≡_, ap, _∙_}
 use borrow.Author.Tests.{not-false}
 use lib.Ieee.{Float}
+use lib.ListN.{length}
 use Rattle.dense.specs.Matrix.{at, matrix}
 use Rattle.dense.proofs.Tests.{met, unmet}
 use Rattle.dense.proofs.Answers.{done}
@@ -22,117 +24,96 @@ right : (a b m s : List Float) (n r w : ℕ) → w ≡ n + r → stage m s ≡ r
 unfolding solution
 right a b m s n r w e f = rw e (ap (λ (t : Stage). matrix n r (λ i j. at (t .rows) (n + r) i (n + j))) f)
 
-some-scale-requires : tie.Need-some-scale-requires
-some-scale-requires c κs =
-    let after-row-norms = c .before .before .before in
-    let start = after-row-norms .before .before .before .before .before .before .before .before in
-    after-row-norms .row-norms .kept .1 .1 .0 ∙ start .pre .4
+-- ---- the places on the way
 
-same-length : tie.Need-same-length
-same-length c = c .before .before .before .before .before .row-norms .kept .1 .1 .0
+abbrev entered : tie.After-row-norms → tie.Start
+entered c = c .before .before .before .before .before .before .before .before
+
+abbrev normed : tie.After-some-scale → tie.After-row-norms
+normed c = c .before .before .before .before
+
+abbrev joined : tie.After-reduce → tie.After-augment
+joined c = c .before .before .before .before .before .before
+
+abbrev scaled : tie.After-augment → tie.Else1
+scaled c = c .before .before
+
+abbrev norms-of : tie.After-reduce → tie.After-row-norms
+norms-of c = normed (scaled (joined c) .before)
+
+abbrev start-of : tie.After-reduce → tie.Start
+start-of c = entered (norms-of c)
+
+abbrev refused-6 : tie.Then2 → tie.After-reduce
+refused-6 c = c .before .before .before .before .before .before .before
+
+abbrev met-6 : tie.After-slice-known10 → tie.Else2
+met-6 c = c .before .before .before .before .before
+
+abbrev answered-at : tie.After-slice-known10 → tie.After-reduce
+answered-at c = met-6 c .before .before .before .before .before .before .before
+
+-- ---- what is known there
+
+size-of : (c : tie.After-reduce) → length (c .reduce .last .0) ≡ length (start-of c .args .m .now)
+size-of c = c .reduce .kept .0 ∙ joined c .augment .kept .1 .1 .1 .1 .1 .0
+
+norms-size : (c : tie.After-reduce) → length (c .reduce .last .1 .0) ≡ length (start-of c .args .s .now)
+norms-size c = c .reduce .kept .1 .0 ∙ norms-of c .row-norms .kept .1 .1 .0
+
+question-5 : (c : tie.After-some-scale) → let x = entered (normed c) .args in c .some-scale .result ≡ someScale (x .n) (rowNorms (x .a .now) (x .n))
+question-5 c = c .some-scale .ensures ∙ ap (someScale (entered (normed c) .args .n)) (normed c .row-norms .ensures)
+
+-- what is reduced is [a | b] with the norms of a
+begun : (c : tie.After-reduce)
+    → let x = start-of c .args in
+    let t = stage (joined c .augment .last .1 .1 .1 .1 .1 .0) (norms-of c .row-norms .last .1 .1 .0) in
+    (pivoted (x .n) (x .w) (reduced (x .n) (x .w) t) (x .n) ≡ pivoted (x .n) (x .n + x .r) (reduced (x .n) (x .n + x .r) (start (x .a .now) (x .b .now) (x .n) (x .r))) (x .n))
+    × (reduced (x .n) (x .w) t (x .n) ≡ reduced (x .n) (x .n + x .r) (start (x .a .now) (x .b .now) (x .n) (x .r)) (x .n))
+begun c = let x = start-of c .args in started (x .a .now) (x .b .now) _ _ (x .n) (x .r) (x .w) (start-of c .pre .0) (joined c .augment .ensures) (norms-of c .row-norms .ensures)
+
+met-5 : (c : tie.After-reduce) → let x = start-of c .args in someScale (x .n) (rowNorms (x .a .now) (x .n)) ≡ true
+met-5 c = let s = scaled (joined c) in met (question-5 (s .before)) (s .if1 .left)
+
+-- ---- the needs
+
+some-scale-requires : tie.Need-some-scale-requires
+some-scale-requires c κs = let n = c .before .before .before in n .row-norms .kept .1 .1 .0 ∙ entered n .pre .4
 
 returns : tie.Need-returns
 unfolding solved
-returns c =
-    let after-row-norms = c .before .before .before .before .before in
-    let start = after-row-norms .before .before .before .before .before .before .before .before in
-    let x = start .args in
-    rw (unmet (c .before .some-scale .ensures ∙ ap (someScale (x .n)) (after-row-norms .row-norms .ensures)) (c .if1 .taken))
+returns c = rw (unmet (question-5 (c .before)) (c .if1 .taken))
 
 reduce-requires : tie.Need-reduce-requires
 reduce-requires c κs =
-    let after-augment = c .before .before .before .before .before in
-    let after-row-norms = after-augment .before .before .before .before .before .before .before in
-    let start = after-row-norms .before .before .before .before .before .before .before .before in
-    (omega (arith, start .pre .0), after-augment .augment .kept .1 .1 .1 .1 .1 .0 ∙ start .pre .3, after-row-norms .row-norms .kept .1 .1 .0 ∙ start .pre .4, start .pre .5)
-
-same-length-2 : tie.Need-same-length-2
-same-length-2 c =
-    let after-reduce = c .before .before .before .before .before .before .before in
-    let after-augment = after-reduce .before .before .before .before .before .before in
-    after-reduce .reduce .kept .0 ∙ after-augment .augment .kept .1 .1 .1 .1 .1 .0
-
-same-length-3 : tie.Need-same-length-3
-same-length-3 c =
-    let after-reduce = c .before .before .before .before .before .before .before in
-    let after-row-norms = after-reduce .before .before .before .before .before .before .before .before .before .before .before .before .before in
-    after-reduce .reduce .kept .1 .0 ∙ after-row-norms .row-norms .kept .1 .1 .0
-
-same-length-4 : tie.Need-same-length-4
-same-length-4 c =
-    let after-reduce = c .before .before .before .before .before .before .before in
-    after-reduce .reduce .kept .1 .1 .0
+    let j = c .before .before .before .before .before in
+    let n = normed (scaled j .before) in
+    let pre = entered n .pre in
+    (omega (arith, pre .0), j .augment .kept .1 .1 .1 .1 .1 .0 ∙ pre .3, n .row-norms .kept .1 .1 .0 ∙ pre .4, pre .5)
 
 returns-2 : tie.Need-returns-2
 unfolding solved
-returns-2 c =
-    let after-reduce = c .before .before .before .before .before .before .before in
-    let after-augment = after-reduce .before .before .before .before .before .before in
-    let else1 = after-augment .before .before in
-    let after-some-scale = else1 .before in
-    let after-row-norms = after-some-scale .before .before .before .before in
-    let start = after-row-norms .before .before .before .before .before .before .before .before in
-    let x = start .args in
-    rw (
-      met (after-some-scale .some-scale .ensures ∙ ap (someScale (x .n)) (after-row-norms .row-norms .ensures)) (else1 .if1 .left),
-      unmet
-          (after-reduce .reduce .ensures .0 ∙ (started (x .a .now) (x .b .now) _ _ (x .n) (x .r) (x .w) (start .pre .0) (after-augment .augment .ensures) (after-row-norms .row-norms .ensures)) .0)
-          (c .if2 .taken),
-    )
+returns-2 c = let t = refused-6 c in rw (met-5 t, unmet (t .reduce .ensures .0 ∙ begun t .0) (c .if2 .taken))
 
 right-part-requires : tie.Need-right-part-requires
 right-part-requires c κs =
-    let after-reduce = c .before .before .before .before .before .before .before .before .before in
-    let after-augment = after-reduce .before .before .before .before .before .before in
-    let start = after-augment .before .before .before .before .before .before .before .before .before .before .before .before .before .before .before in
-    (start .pre .0, after-reduce .reduce .kept .0 ∙ after-augment .augment .kept .1 .1 .1 .1 .1 .0 ∙ start .pre .3, start .pre .6)
-
-same-length-5 : tie.Need-same-length-5
-same-length-5 c =
-    let after-reduce = c .before .before .before .before .before .before .before .before .before .before .before .before in
-    let after-augment = after-reduce .before .before .before .before .before .before in
-    after-reduce .reduce .kept .0 ∙ after-augment .augment .kept .1 .1 .1 .1 .1 .0
-
-same-length-6 : tie.Need-same-length-6
-same-length-6 c =
-    let after-reduce = c .before .before .before .before .before .before .before .before .before .before .before .before in
-    let after-row-norms = after-reduce .before .before .before .before .before .before .before .before .before .before .before .before .before in
-    after-reduce .reduce .kept .1 .0 ∙ after-row-norms .row-norms .kept .1 .1 .0
-
-same-length-7 : tie.Need-same-length-7
-same-length-7 c =
-    let after-reduce = c .before .before .before .before .before .before .before .before .before .before .before .before in
-    after-reduce .reduce .kept .1 .1 .0
-
-same-length-8 : tie.Need-same-length-8
-same-length-8 c = c .before .before .right-part .kept .1 .1 .1 .1 .0
+    let t = c .before .before .before .before .before .before .before .before .before in
+    let pre = start-of t .pre in
+    (pre .0, size-of t ∙ pre .3, pre .6)
 
 returns-3 : tie.Need-returns-3
 unfolding solved
 returns-3 c =
-    let after-right-part = c .before .before in
-    let else2 = after-right-part .before .before .before in
-    let after-reduce = else2 .before .before .before .before .before .before .before in
-    let after-augment = after-reduce .before .before .before .before .before .before in
-    let else1 = after-augment .before .before in
-    let after-some-scale = else1 .before in
-    let after-row-norms = after-some-scale .before .before .before .before in
-    let start = after-row-norms .before .before .before .before .before .before .before .before in
-    let x = start .args in
-    rw (
-      met (after-some-scale .some-scale .ensures ∙ ap (someScale (x .n)) (after-row-norms .row-norms .ensures)) (else1 .if1 .left),
-      met
-          (after-reduce .reduce .ensures .0 ∙ (started (x .a .now) (x .b .now) _ _ (x .n) (x .r) (x .w) (start .pre .0) (after-augment .augment .ensures) (after-row-norms .row-norms .ensures)) .0)
-          (else2 .if2 .left),
-    )
-    (done
-    (after-right-part .right-part .ensures
-    ∙ right (x .a .now) (x .b .now) _ _ (x .n) (x .r) (x .w) (start .pre .0)
-    (after-reduce .reduce .ensures .1 (not-false _ (else2 .if2 .left))
-    ∙ (started (x .a .now) (x .b .now) _ _ (x .n) (x .r) (x .w) (start .pre .0) (after-augment .augment .ensures) (after-row-norms .row-norms .ensures)) .1)))
+    let t = answered-at c in
+    let x = start-of t .args in
+    let reduced-all = t .reduce .ensures .1 (not-false _ (met-6 c .if2 .left)) ∙ begun t .1 in
+    rw (met-5 t, met (t .reduce .ensures .0 ∙ begun t .0) (met-6 c .if2 .left))
+    (done (c .before .before .right-part .ensures ∙ right (x .a .now) (x .b .now) _ _ (x .n) (x .r) (x .w) (start-of t .pre .0) reduced-all))
 
 pub solve-in-spec : {M : Type 1} → statement M
 solve-in-spec =
     tie.close
-    (tie.spec (λ c κs. omega arith) some-scale-requires same-length returns (λ c κs. omega arith) reduce-requires same-length-2 same-length-3 same-length-4
-    returns-2 right-part-requires same-length-5 same-length-6 same-length-7 same-length-8 returns-3)
+    (tie.spec (λ c κs. omega arith) some-scale-requires (λ c. c .before .before .before .before .before .row-norms .kept .1 .1 .0) returns (λ c κs. omega arith)
+    reduce-requires (λ c. size-of (refused-6 c)) (λ c. norms-size (refused-6 c)) (λ c. refused-6 c .reduce .kept .1 .1 .0) returns-2 right-part-requires
+    (λ c. size-of (answered-at c)) (λ c. norms-size (answered-at c)) (λ c. answered-at c .reduce .kept .1 .1 .0)
+    (λ c. c .before .before .right-part .kept .1 .1 .1 .1 .0) returns-3)

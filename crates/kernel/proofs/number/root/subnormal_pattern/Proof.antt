@@ -28,10 +28,10 @@ loop-again c =
 returns : tie.Need-returns Inv-loop μ-loop
 returns c =
     let at-loop = c .before .before in
-    let start-place = at-loop .before in
-    let start = start-place in
-    let l = at-loop .loop in
-    (c .pattern .ensures .root _ (subnormal-argument (start .args .b) (l .m) (l .shift) (start .pre .1) (l .inv .2) (l .inv .0) (c .before .loop-test .left)), c .pattern .ensures .finite)
+    let l = at-loop .loop in (
+      c .pattern .ensures .root _ (subnormal-argument (at-loop .before .args .b) (l .m) (l .shift) (at-loop .before .pre .1) (l .inv .2) (l .inv .0) (c .before .loop-test .left)),
+      c .pattern .ensures .finite,
+    )
 
 pub subnormal-pattern-spec : {M : Type 1} → statement M
 subnormal-pattern-spec =
