@@ -1,6 +1,6 @@
 /* The calls of the static library libcapi.a.
 
-   A call that can refuse answers a number: 0 for answered, or that of the first question of the scope's list that is not
+   A call that can refuse answers a number: 0 for answered, or that of the first of document 01's questions that is not
    met, and a refusal writes nothing. A slice is a pointer and a length; matrices are row by row. */
 #ifndef PELOSUMBA_H
 #define PELOSUMBA_H

@@ -1,4 +1,4 @@
-//! The track lists: a second reader and writer, written from the scope's section "The list record", beside the library's.
+//! The track lists: a second reader and writer, written from document 01, "The list record", beside the library's.
 use crate::ffi;
 use crate::rng::Rng;
 use crate::tally::Tally;

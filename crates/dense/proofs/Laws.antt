@@ -1,7 +1,8 @@
 -- Laws of sums, of vectors and matrices made by a rule, and of slices that are filled in order; all over the order.
 use Prim.Native.Nat.{ℕ, zero, suc, _+_, _*_, _-_, _/_, _%_, _<_, _≤_}
 use native.Mathlib.Omega.{arith}
-use native.Mathlib.Nat.{mul-le-mul-right, suc-mul, zero-mul, le-refl, le-antisymm, eq-or-lt-of-le, le-of-suc-le-suc, ne-of-lt, add-sub-cancel-left, mul-zero, div-lt-iff-lt-mul, zero-lt-suc, mod-lt, div-add-mod'}
+use native.Mathlib.Nat.{mul-le-mul-right, suc-mul, zero-mul, le-refl, le-antisymm, eq-or-lt-of-le, le-of-suc-le-suc, ne-of-lt}
+use native.Mathlib.Nat.{add-sub-cancel-left, mul-zero, div-lt-iff-lt-mul, zero-lt-suc, mod-lt, div-add-mod'}
 use native.Mathlib.Numerals.{add-one}
 use mathlib.Core.Path.{_≡_, refl, sym, ap, _∙_, subst}
 use mathlib.Core.Logic.{_⊎_, ⊎-elim}

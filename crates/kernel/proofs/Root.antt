@@ -1,6 +1,7 @@
 -- The bit pattern of the rounded root: only one meets the condition, `rootPattern` finds it, and the whole-number root gives it.
 use Prim.Native.Nat.{ℕ, zero, suc, _+_, _-_, _*_, _/_, _%_, _^_, _≤_, _<_}
-use native.Mathlib.Nat.{mul-le-mul, mul-le-mul-right, add-le-add, mul-lt-mul-of-pos-right, mul-pos, lt-of-lt-of-le, lt-of-le-of-lt, le-trans, lt-irrefl, eq-or-lt-of-le, le-of-lt, add-sub-cancel, two-pow-succ, mul-assoc}
+use native.Mathlib.Nat.{mul-le-mul, mul-le-mul-right, add-le-add, mul-lt-mul-of-pos-right, mul-pos, lt-of-lt-of-le, lt-of-le-of-lt}
+use native.Mathlib.Nat.{le-trans, lt-irrefl, eq-or-lt-of-le, le-of-lt, add-sub-cancel, two-pow-succ, mul-assoc}
 use native.Mathlib.Omega.{arith}
 use native.Mathlib.Decide.{decLt}
 use mathlib.Core.Path.{_≡_, refl, sym, ap, _∙_, subst}

@@ -1,11 +1,11 @@
--- The square root of document 01, "Number helpers": the condition that the paper states, and an executable `sqrt`.
+-- The square root of document 01, "Number helpers": the condition that it states, and an executable `sqrt`.
 use Prim.Native.Nat.{ℕ, zero, suc, _+_, _-_, _*_, _/_, _%_, _^_, _<_}
 use mathlib.Core.Bool.{Bool, true, false, cond}
 use lib.Dec.{T, ltb}
 use lib.Ieee.{Float, nan, inf, fin, binary64, fits, ofBits, toBits, up, down}
 use lib.Ieee.Positive.{positive}
 
--- ---- the paper's condition
+-- ---- document 01's condition
 
 abbrev pub square : ℕ → ℕ
 square n = n * n

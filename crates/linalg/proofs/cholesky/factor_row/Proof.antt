@@ -35,7 +35,8 @@ pivot-of : (c : tie.After-is-pivot) → let x = entered (made c) .args in
 pivot-of c =
     let m = made c in
     let x = entered m .args in
-    pivot-in (x .a .now) (m .left-entries .last .1 .1 .1 .0) (x .n) (x .i) (size m) (entered m .pre .0) (c .before .before .before .entry .ensures) (c .before .inner .ensures) (m .left-entries .ensures)
+    pivot-in (x .a .now) (m .left-entries .last .1 .1 .1 .0) (x .n) (x .i) (size m) (entered m .pre .0) (c .before .before .before .entry .ensures)
+    (c .before .inner .ensures) (m .left-entries .ensures)
 
 -- ---- the needs
 

@@ -17,42 +17,17 @@ Inv-loop a n i l₀ j₀ l j = (j ≤ i) × (length l ≡ length l₀) × Padded
 abbrev μ-loop : tie.MeasureT-loop
 μ-loop a n i l₀ j₀ l j = i - j
 
+abbrev entered : tie.In-loop Inv-loop μ-loop → tie.Start Inv-loop μ-loop
+entered c = c .before .before .before .before
+
 -- rows i and j lie within the slice
 within : (c : tie.In-loop Inv-loop μ-loop)
-    →
-    (c .before .before .before .before .args .i * c .before .before .before .before .args .n + c .before .before .before .before .args .n ≤ c .before .before
-    .before .before .args .n * c .before .before .before .before .args .n) ×
-    (c .before .loop .j * c .before .before .before .before .args .n + c .before .before .before .before .args .n ≤ c .before .before .before .before .args .n *
-    c .before .before .before .before .args .n)
-within c = (
-  row-within (c .before .before .before .before .args .n) (c .before .before .before .before .args .n) (omega arith),
-  row-within (c .before .before .before .before .args .n) (c .before .before .before .before .args .n) (omega arith),
-)
+    → let x = entered c .args in (x .i * x .n + x .n ≤ x .n * x .n) × (c .before .loop .j * x .n + x .n ≤ x .n * x .n)
+within c = let x = entered c .args in (row-within (x .n) (x .n) (omega arith), row-within (x .n) (x .n) (omega arith))
 
 loop-holds : tie.Need-loop-holds Inv-loop μ-loop
 unfolding withLeft
 loop-holds c = (omega arith, refl, c .before .before .pre .3)
-
-entry-requires : tie.Need-entry-requires Inv-loop μ-loop
-entry-requires c κs = omega (arith, within (c))
-
-inner-requires : tie.Need-inner-requires Inv-loop μ-loop
-inner-requires c κs = omega (arith, within (c .before .before))
-
-entry-requires-2 : tie.Need-entry-requires-2 Inv-loop μ-loop
-entry-requires-2 c κs = omega (arith, within (c .before .before .before .before))
-
-mul-l : tie.Need-mul-l Inv-loop μ-loop
-mul-l c = omega (arith, within (c .before .before .before .before .before))
-
-add-l : tie.Need-add-l Inv-loop μ-loop
-add-l c = omega (arith, within (c .before .before .before .before .before))
-
-mul-l-2 : tie.Need-mul-l-2 Inv-loop μ-loop
-mul-l-2 c = omega (arith, within (c .before .before .before .before .before))
-
-slice-write-l : tie.Need-slice-write-l Inv-loop μ-loop
-slice-write-l c = omega (arith, within (c .before .before .before .before .before))
 
 loop-again : tie.Need-loop-again Inv-loop μ-loop
 loop-again c =
@@ -81,5 +56,8 @@ returns c =
 pub left-entries-spec : {M : Type 1} → statement M
 left-entries-spec =
     tie.close
-    (tie.spec Inv-loop μ-loop loop-holds entry-requires inner-requires entry-requires-2 mul-l add-l mul-l-2 slice-write-l (λ c. omega arith) (λ c. omega arith)
+    (tie.spec Inv-loop μ-loop loop-holds (λ c κs. omega (arith, within c)) (λ c κs. omega (arith, within (c .before .before)))
+    (λ c κs. omega (arith, within (c .before .before .before .before))) (λ c. omega (arith, within (c .before .before .before .before .before)))
+    (λ c. omega (arith, within (c .before .before .before .before .before))) (λ c. omega (arith, within (c .before .before .before .before .before)))
+    (λ c. omega (arith, within (c .before .before .before .before .before))) (λ c. omega arith) (λ c. omega arith)
     loop-again same-length returns)

@@ -48,23 +48,20 @@ slice-aggregate-add-scaled : tie.Need-slice-aggregate-add-scaled Inv-loop μ-loo
 slice-aggregate-add-scaled c =
     let at-loop = c .before .before .before .before in
     let start = at-loop .before .before .before .before in
-    let s = start in
-    sym (lent (s .args .n) (at-loop .loop .sums) (s .pre .0) (at-loop .loop .inv .1))
+    sym (lent (start .args .n) (at-loop .loop .sums) (start .pre .0) (at-loop .loop .inv .1))
 
 add-scaled-requires : tie.Need-add-scaled-requires Inv-loop μ-loop
 add-scaled-requires c κs =
     let at-loop = c .before .before .before .before in
     let start = at-loop .before .before .before .before in
-    let s = start in
-    (c .before .row .ensures .0, lent (s .args .n) (at-loop .loop .sums) (s .pre .0) (at-loop .loop .inv .1))
+    (c .before .row .ensures .0, lent (start .args .n) (at-loop .loop .sums) (start .pre .0) (at-loop .loop .inv .1))
 
 loop-again : tie.Need-loop-again Inv-loop μ-loop
 loop-again c =
     let after-row = c .before .before .before in
     let at-loop = after-row .before .before .before in
     let start = at-loop .before .before .before .before in
-    let s = start in
-    let x = s .args in
+    let x = start .args in
     let turn = at-loop .loop in
     let step =
     sums-more nought (x .n) (turn .l) (term (x .a .now) (x .b .now) (x .k) (x .n) (x .i)) _ (take (x .n) (turn .sums)) (turn .inv .2)
@@ -80,15 +77,13 @@ slice-aggregate-copy : tie.Need-slice-aggregate-copy Inv-loop μ-loop
 slice-aggregate-copy c =
     let at-loop = c .before .before in
     let start = at-loop .before .before .before .before in
-    let s = start in
-    sym (lent (s .args .n) (at-loop .loop .sums) (s .pre .0) (at-loop .loop .inv .1))
+    sym (lent (start .args .n) (at-loop .loop .sums) (start .pre .0) (at-loop .loop .inv .1))
 
 copy-requires : tie.Need-copy-requires Inv-loop μ-loop
 copy-requires c κs =
     let at-loop = c .before .before .before in
     let start = at-loop .before .before .before .before in
-    let s = start in
-    (lent (s .args .n) (at-loop .loop .sums) (s .pre .0) (at-loop .loop .inv .1), s .pre .3)
+    (lent (start .args .n) (at-loop .loop .sums) (start .pre .0) (at-loop .loop .inv .1), start .pre .3)
 
 returns : tie.Need-returns Inv-loop μ-loop
 returns c =

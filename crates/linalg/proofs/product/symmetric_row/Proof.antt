@@ -18,14 +18,10 @@ loop-holds : tie.Need-loop-holds Inv-loop μ-loop
 loop-holds c = (omega arith, filled-none _ _)
 
 entry-requires : tie.Need-entry-requires Inv-loop μ-loop
-entry-requires c κs =
-    let start = c .before .before .before .before in
-    inside (start .args .n) (start .pre .1) (start .pre .0) (c .loop-test .taken)
+entry-requires c κs = let start = c .before .before .before .before in inside (start .args .n) (start .pre .1) (start .pre .0) (c .loop-test .taken)
 
 entry-requires-2 : tie.Need-entry-requires-2 Inv-loop μ-loop
-entry-requires-2 c κs =
-    let start = c .before .before .before .before .before in
-    inside (start .args .n) (start .pre .1) (c .before .loop-test .taken) (start .pre .0)
+entry-requires-2 c κs = let start = c .before .before .before .before .before in inside (start .args .n) (start .pre .1) (c .before .loop-test .taken) (start .pre .0)
 
 loop-again : tie.Need-loop-again Inv-loop μ-loop
 loop-again c =

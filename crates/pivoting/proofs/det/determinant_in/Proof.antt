@@ -26,13 +26,12 @@ returns-2 : tie.Need-returns-2
 unfolding determinant
 returns-2 c =
     let after-product = c .before .before .before .before .before .before in
-    let reduced = after-product in
-    let copied = reduced .before .before .before .before .before .before in
+    let copied = after-product .before .before .before .before .before .before in
     let scaled = copied .before .before in
     let normed = scaled .before .before .before .before .before in
     let x = normed .before .before .before .before .before .before .args in
     rw (met (scaled .before .some-scale .ensures ∙ ap (someScale (x .n)) (normed .row-norms .ensures)) (scaled .if1 .left))
-    (reduced .product .ensures ∙ started (x .a .now) _ _ (x .n) (copied .copy .ensures) (normed .row-norms .ensures))
+    (after-product .product .ensures ∙ started (x .a .now) _ _ (x .n) (copied .copy .ensures) (normed .row-norms .ensures))
 
 pub determinant-in-spec : {M : Type 1} → statement M
 determinant-in-spec =

@@ -113,4 +113,5 @@ pub product-spec : {M : Type 1} → statement M
 product-spec =
     tie.close
     (tie.spec Inv-loop μ-loop loop-holds (λ c κs. omega arith) (λ c κs. search needs) same-length same-length-2 same-length-3 returns (λ c κs. search needs)
-    entry-requires swap-norms-requires lower-requires (λ c. omega arith) (λ c. omega arith) loop-again (λ c. c .before .loop .inv .1) (λ c. c .before .loop .inv .2) (λ c. c .before .loop .inv .3) returns-2)
+    entry-requires swap-norms-requires lower-requires (λ c. omega arith) (λ c. omega arith) loop-again (λ c. c .before .loop .inv .1)
+    (λ c. c .before .loop .inv .2) (λ c. c .before .loop .inv .3) returns-2)

@@ -31,9 +31,8 @@ unfolding matInv
 returns-3 c =
     let after-inverse = c .before .before in
     let else2 = after-inverse .before .before in
-    let shaped = else2 in
-    let sided = shaped .before .before .before in
-    rw (met (sided .before .is-side .ensures) (sided .if1 .left), met (shaped .before .are-matrices .ensures) (shaped .if2 .left)) (after-inverse .inverse .ensures)
+    let sided = else2 .before .before .before in
+    rw (met (sided .before .is-side .ensures) (sided .if1 .left), met (else2 .before .are-matrices .ensures) (else2 .if2 .left)) (after-inverse .inverse .ensures)
 
 pub mat-inv-spec : {M : Type 1} → statement M
 mat-inv-spec =

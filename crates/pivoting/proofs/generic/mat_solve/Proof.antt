@@ -37,9 +37,8 @@ unfolding matSolve
 returns-3 c =
     let after-solve = c .before .before in
     let else2 = after-solve .before .before in
-    let shaped = else2 in
-    let sided = shaped .before .before .before in
-    rw (met (sided .before .is-side .ensures) (sided .if1 .left), met (shaped .before .is-system .ensures) (shaped .if2 .left)) (after-solve .solve .ensures)
+    let sided = else2 .before .before .before in
+    rw (met (sided .before .is-side .ensures) (sided .if1 .left), met (else2 .before .is-system .ensures) (else2 .if2 .left)) (after-solve .solve .ensures)
 
 pub mat-solve-spec : {M : Type 1} → statement M
 mat-solve-spec =
