@@ -1,0 +1,151 @@
+-- Over any candidates with a strict total order there is exactly one stable pairing: `paired-stable` says that `paired` is one, `others-blocked` gives for any
+-- other pairing a pair that blocks it, and `only-stable` says that every stable pairing is `paired`.
+use Prim.Native.Nat.{ℕ}
+use mathlib.Core.Path.{_≡_, refl, sym, subst, fun-ext}
+use mathlib.Core.Logic.{_⊎_, inl, inr}
+use mathlib.Core.Bool.{Bool, true, false, not, Bool·beq, Bool-discrete}
+use mathlib.Core.List.{List, [], _∷_}
+use lib.Dec.{T, T-not}
+use Rattle.pairing.specs.Pairing.{Pair, pair, Pairs, has, Candidates, Ordered, ShareTrack, Pairing, Stable, freeFirst, freeSecond, later, blocking, inOrder, paired}
+use Rattle.pairing.proofs.Tests.{either, both, left, right}
+use Rattle.pairing.proofs.Sorting.{Mem, Candidate, Upto, Sorted, Listed, upto-trans, listed, listed-all}
+use Rattle.pairing.proofs.Pairings.{In, Out, free-first, free-second, held-first, held-second}
+use Rattle.pairing.proofs.Settled.{Preceded, Settled, settled}
+use Rattle.pairing.proofs.Blocking.{Yields, Blocks, blocks-of, of-blocks}
+
+module _ (g : Candidates) (o : Ordered g) where
+  pub asymmetric : (p q : Pair) → T (g .earlier p q) → Upto g q p → ⊥
+  asymmetric p q t u = o .irreflexive p (upto-trans g o p q p t u)
+
+  -- ---- the two facts of `Settled` make a pairing stable
+
+  -- The candidate is outside, so an earlier pair of the set holds one of its tracks, which is then neither free nor in a later pair.
+  pub settled-stable : (s : Pairs) → Settled g s → Stable g s
+  settled-stable s d = record { pairing = d .pairing; unblocked = λ p t. let b = blocks-of g s p t in clash p b (d .preceded p (b .candidate) (b .outside)) }
+    where
+      again : (p : Pair) (w : Preceded g s p) (q : Pair) → ShareTrack (w .by) q → T (later g s p q) → ⊥
+      again p w q h t =
+          let e : w .by ≡ q = d .pairing .apart (w .by) q (w .inside) (left (has s q) (g .earlier p q) t) h in
+          asymmetric p q (right (has s q) (g .earlier p q) t) (inr (subst (λ (x : Pair). T (g .earlier x p)) e (w .earlier)))
+
+      clash : (p : Pair) → Blocks g s p → Preceded g s p → ⊥
+      clash p b w = go (w .shares) (b .first) (b .second)
+        where
+          go : ShareTrack (w .by) p → Yields g s p (freeFirst g s (p .first)) (pair (p .first)) → Yields g s p (freeSecond g s (p .second)) (λ k. pair k (p .second)) → ⊥
+          go (inl e) (inl f) n = free-first g o s (d .pairing) (w .by) (subst (λ (x : ℕ). T (freeFirst g s x)) (sym e) f) (w .inside)
+          go (inl e) (inr v) n = again p w (pair (p .first) (v .0)) (inl e) (v .1)
+          go (inr e) f (inl n) = free-second g o s (d .pairing) (w .by) (subst (λ (x : ℕ). T (freeSecond g s x)) (sym e) n) (w .inside)
+          go (inr e) f (inr v) = again p w (pair (v .0) (p .second)) (inr e) (v .1)
+
+  -- ---- the least pair of a list that passes a test
+
+  record Least (test : Pair → Bool) (l : List Pair) : Type 0 where
+    least : Pair
+    passes : T (test least)
+    inside : Mem least l
+    upto : (q : Pair) → Mem q l → T (test q) → Upto g least q
+
+  find-least : (test : Pair → Bool) (l : List Pair) → Sorted g l → (q : Pair) → Mem q l → T (test q) → Least test l
+  find-least test [] d q m t = absurd m
+  find-least test (p ∷ l) d q m t = go (either (test p)) m (λ k. find-least test l (d .1) q k t)
+    where
+      none : T (not (test p)) → (r : Pair) → r ≡ p → T (test r) → ⊥
+      none h r e u = T-not (test p) h (subst (λ (x : Pair). T (test x)) e u)
+
+      first : T (test p) → (r : Pair) → Mem r (p ∷ l) → Upto g p r
+      first h r (inl e) = inl (sym e)
+      first h r (inr k) = d .0 r k
+
+      beyond : T (not (test p)) → (w : Least test l) → (r : Pair) → Mem r (p ∷ l) → T (test r) → Upto g (w .least) r
+      beyond h w r (inl e) u = absurd (none h r e u)
+      beyond h w r (inr k) u = w .upto r k u
+
+      go : T (test p) ⊎ T (not (test p)) → Mem q (p ∷ l) → (Mem q l → Least test l) → Least test (p ∷ l)
+      go (inl h) m f = record { least = p; passes = h; inside = inl refl; upto = λ r k u. first h r k }
+      go (inr h) (inl e) f = absurd (none h q e t)
+      go (inr h) (inr k) f = let w = f k in record { least = w .least; passes = w .passes; inside = inr (w .inside); upto = beyond h w }
+
+  -- ---- another pairing: the least pair p in which r differs from s is in s, and blocks r
+
+  module _ (s r : Pairs) (d : Settled g s) (y : Pairing g r) (p : Pair) (c : Candidate g p) (below : (q : Pair) → Candidate g q → T (g .earlier q p) → has s q ≡ has r q) where
+    absent : Out s p → In r p → ⊥
+    absent n t =
+        let w = d .preceded p c n in
+        let u : In r (w .by) = subst T (below (w .by) (d .pairing .candidates (w .by) (w .inside)) (w .earlier)) (w .inside) in
+        o .irreflexive p (subst (λ (x : Pair). T (g .earlier x p)) (y .apart (w .by) p u t (w .shares)) (w .earlier))
+
+    -- what r has on a track of p comes later
+    comes-later : In s p → Out r p → (q : Pair) → In r q → ShareTrack q p → T (later g r p q)
+    comes-later t n q u h = both (has r q) (g .earlier p q) u (go (o .total p q c (y .candidates q u)))
+      where
+        distinct : p ≡ q → ⊥
+        distinct e = T-not (has r p) n (subst (In r) (sym e) u)
+
+        go : (p ≡ q) ⊎ (T (g .earlier p q) ⊎ T (g .earlier q p)) → T (g .earlier p q)
+        go (inl e) = absurd (distinct e)
+        go (inr (inl k)) = k
+        go (inr (inr k)) = absurd (distinct (sym (d .pairing .apart q p (subst T (sym (below q (y .candidates q u) k)) u) t h)))
+
+    blocks : In s p → Out r p → Blocks g r p
+    blocks t n = record { candidate = c; outside = n; first = firsts (either (freeFirst g r (p .first))); second = seconds (either (freeSecond g r (p .second))) }
+      where
+        firsts : T (freeFirst g r (p .first)) ⊎ T (not (freeFirst g r (p .first))) → Yields g r p (freeFirst g r (p .first)) (pair (p .first))
+        firsts (inl f) = inl f
+        firsts (inr f) = let w = held-first g r (p .first) f in inr (w .0, comes-later t n (pair (p .first) (w .0)) (w .1) (inl refl))
+
+        seconds : T (freeSecond g r (p .second)) ⊎ T (not (freeSecond g r (p .second))) → Yields g r p (freeSecond g r (p .second)) (λ k. pair k (p .second))
+        seconds (inl f) = inl f
+        seconds (inr f) = let w = held-second g r (p .second) f in inr (w .0, comes-later t n (pair (w .0) (p .second)) (w .1) (inr refl))
+
+    least-blocks : (a b : Bool) → has s p ≡ a → has r p ≡ b → T (not (Bool·beq a b)) → T (has (blocking g r) p)
+    least-blocks true true e f h = absurd h
+    least-blocks true false e f h = of-blocks g r p o y (blocks (subst T (sym e) tt) (subst (λ (x : Bool). T (not x)) (sym f) tt))
+    least-blocks false true e f h = absurd (absent (subst (λ (x : Bool). T (not x)) (sym e) tt) (subst T (sym f) tt))
+    least-blocks false false e f h = absurd h
+
+  differ : (a b : Bool) → (b ≡ a → ⊥) → T (not (Bool·beq a b))
+  differ true true n = absurd (n refl)
+  differ true false n = tt
+  differ false true n = tt
+  differ false false n = absurd (n refl)
+
+  agree : (a b : Bool) → (T (not (Bool·beq a b)) → ⊥) → a ≡ b
+  agree true true n = refl
+  agree true false n = absurd (n tt)
+  agree false true n = absurd (n tt)
+  agree false false n = refl
+
+  pub settled-blocks : (s : Pairs) → Settled g s → (r : Pairs) → Pairing g r → (q : Pair) → (has r q ≡ has s q → ⊥) → (p : Pair) × T (has (blocking g r) p)
+  settled-blocks s d r y q n =
+      let k : Listed g (inOrder g (g .firsts)) = listed g o (g .firsts) in
+      let test : Pair → Bool = λ x. not (Bool·beq (has s x) (has r x)) in
+      let w : Least test (inOrder g (g .firsts)) = find-least test (inOrder g (g .firsts)) (k .sorted) q (listed-all g o q (candidate (has s q) (has r q) refl refl n)) (differ (has s q) (has r q) n) in
+      let p = w .least in (
+        p,
+        least-blocks s r d y p (k .only p (w .inside)) (λ x a h. agree (has s x) (has r x) (λ t. asymmetric x p h (w .upto x (listed-all g o x a) t)))
+            (has s p) (has r p) refl refl (w .passes),
+      )
+    where
+      candidate : (a b : Bool) → has s q ≡ a → has r q ≡ b → (b ≡ a → ⊥) → Candidate g q
+      candidate true b e f z = d .pairing .candidates q (subst T (sym e) tt)
+      candidate false true e f z = y .candidates q (subst T (sym f) tt)
+      candidate false false e f z = absurd (z refl)
+
+  -- ---- the theorems
+
+  pub paired-stable : Stable g (paired g)
+  paired-stable = settled-stable (paired g) (settled g o)
+
+  pub others-blocked : (r : Pairs) → Pairing g r → (q : Pair) → (has r q ≡ has (paired g) q → ⊥) → (p : Pair) × T (has (blocking g r) p)
+  others-blocked = settled-blocks (paired g) (settled g o)
+
+  pub only-stable : (r : Pairs) → Stable g r → r ≡ paired g
+  only-stable r z = fun-ext (λ i. fun-ext (λ j. go i j (Bool-discrete (r i j) (paired g i j))))
+    where
+      go : (i j : ℕ) → Dec (r i j ≡ paired g i j) → r i j ≡ paired g i j
+      go i j (yes e) = e
+      go i j (no n) = let w = others-blocked r (z .pairing) (pair i j) n in absurd (z .unblocked (w .0) (w .1))
+
+  -- a set with the two facts is `paired`
+  pub settled-paired : (s : Pairs) → Settled g s → s ≡ paired g
+  settled-paired s d = only-stable s (settled-stable s d)

@@ -1,0 +1,1 @@
+// The one stable pairing of two lists of tracks, over any candidates and their order.
