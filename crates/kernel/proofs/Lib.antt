@@ -5,5 +5,7 @@ pub mod Doubles
 pub mod Patterns
 pub mod Root
 pub mod Signs
+pub mod Places
+pub mod Order
 pub mod SquareRoot
 pub mod Existence
