@@ -4,3 +4,4 @@ pub mod Pairings
 pub mod Settled
 pub mod Blocking
 pub mod Stable
+pub mod Keys
