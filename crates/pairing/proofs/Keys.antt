@@ -25,9 +25,10 @@ of-index p q t = ⊎-elim (λ h. inl (ltb→lt (p .first) (q .first) h)) same (o
   where
     same : T (eqb (p .first) (q .first) && ltb (p .second) (q .second)) → Index p q
     same h =
-        inr
-        (eqb→eq (p .first) (q .first) (left (eqb (p .first) (q .first)) (ltb (p .second) (q .second)) h),
-         ltb→lt (p .second) (q .second) (right (eqb (p .first) (q .first)) (ltb (p .second) (q .second)) h))
+        inr (
+          eqb→eq (p .first) (q .first) (left (eqb (p .first) (q .first)) (ltb (p .second) (q .second)) h),
+          ltb→lt (p .second) (q .second) (right (eqb (p .first) (q .first)) (ltb (p .second) (q .second)) h),
+        )
 
 pub to-index : (p q : Pair) → Index p q → T (byIndex p q)
 unfolding byIndex

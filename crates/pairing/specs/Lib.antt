@@ -1,2 +1,3 @@
 pub mod Pairing
 pub mod Keys
+pub mod Examples
