@@ -5,3 +5,6 @@ pub mod Settled
 pub mod Blocking
 pub mod Stable
 pub mod Keys
+pub mod Searches
+pub mod Chosen
+pub mod Tables

@@ -1,1 +1,35 @@
-// The one stable pairing of two lists of tracks, over any candidates and their order.
+// The one stable pairing of two lists of tracks, by keys: for the merge alone.
+ghost use mathlib.Core.Path.{_≡_};
+ghost use Prim.Native.Nat.{_*_, _≤_};
+ghost use lib.ListN.{length};
+ghost use Rattle.pairing.specs.Keys.{fromKeys, firstPartners, secondPartners};
+
+mod search;
+mod table;
+
+// The pair that comes first of those looked at, if there is one, and its key.
+pub struct Foremost {
+    pub found: bool,
+    pub key: f64,
+    pub first: usize,
+    pub second: usize,
+}
+
+// Writes the partner of each of m first and n second tracks, or 255. The keys stand in m rows of n, and a NaN marks a pair that is no candidate.
+pub fn pair_tracks(keys: &[f64], m: usize, n: usize, firsts: &mut [u8], seconds: &mut [u8])
+    requires { ⌜ (m ≤ 32) × (n ≤ 32) × (length (now keys) ≡ m * n) × (length (now firsts) ≡ m) × (length (now seconds) ≡ n) ⌝ }
+    ensures { λ _. ⌜ (now (firsts .exit) ≡ firstPartners (fromKeys (now (keys .entry)) m n)) × (now (seconds .exit) ≡ secondPartners (fromKeys (now (keys .entry)) m n)) ⌝ }
+{
+    table::clear(firsts, m);
+    table::clear(seconds, n);
+    loop {
+        let best = search::search(keys, m, n, firsts, seconds);
+        if !best.found {
+            return;
+        }
+        let i = best.first;
+        let j = best.second;
+        firsts[i] = j as u8;
+        seconds[j] = i as u8;
+    }
+}

@@ -1,0 +1,62 @@
+-- `search_row` meets its contract: before turn j the best is that of the first j pairs.
+use Prim.Native.Nat.{ℕ, _-_, _≤_}
+use native.Mathlib.Omega.{arith}
+use borrow.Author.Needs.{needs}
+use mathlib.Core.Path.{_≡_, refl, ap, _∙_}
+use mathlib.Core.Logic.{⊎-elim}
+use Rattle.pairing.specs.Search.{searchRow}
+use Rattle.pairing.proofs.Searches.{row-taken, row-passed}
+use Rattle.pairing.proofs.search.search_row.Statement.{statement}
+use Rattle.pairing.proofs.search.search_row.Tie as tie
+
+abbrev Inv-loop : tie.InvT-loop
+Inv-loop keys n seconds i best₀ j₀ best j = (j ≤ n) × (best ≡ searchRow keys n seconds i j best₀)
+
+abbrev μ-loop : tie.MeasureT-loop
+μ-loop keys n seconds i best₀ j₀ best j = n - j
+
+loop-holds : tie.Need-loop-holds Inv-loop μ-loop
+unfolding searchRow
+loop-holds c = (omega arith, refl)
+
+shared-slice-read-if1 : tie.Need-shared-slice-read-if1 Inv-loop μ-loop
+shared-slice-read-if1 c = omega arith
+
+mul-consider : tie.Need-mul-consider Inv-loop μ-loop
+mul-consider c = omega arith
+
+add-consider : tie.Need-add-consider Inv-loop μ-loop
+add-consider c = omega arith
+
+mul-consider-2 : tie.Need-mul-consider-2 Inv-loop μ-loop
+mul-consider-2 c = omega arith
+
+shared-slice-read-consider : tie.Need-shared-slice-read-consider Inv-loop μ-loop
+shared-slice-read-consider c = omega arith
+
+consider-requires : tie.Need-consider-requires Inv-loop μ-loop
+consider-requires c κs = search needs
+
+add-j : tie.Need-add-j Inv-loop μ-loop
+add-j c = omega arith
+
+loop-less : tie.Need-loop-less Inv-loop μ-loop
+loop-less c = omega arith
+
+loop-again : tie.Need-loop-again Inv-loop μ-loop
+loop-again c =
+    let v = c .before .before .before .loop in (
+      omega arith,
+      ⊎-elim
+          (λ w. row-taken _ _ _ _ _ _ (v .best) (c .if1 .best) (w .0 .taken) (v .inv .1) (w .3 ∙ w .2 .ensures))
+          (λ w. w .1 ∙ row-passed _ _ _ _ _ _ (v .best) (w .0 .left) (v .inv .1))
+          (c .if1 .came),
+    )
+
+returns : tie.Need-returns Inv-loop μ-loop
+returns c =
+    let a = c .before .before .before .before .args in
+    c .before .loop .inv .1 ∙ ap (λ (j : ℕ). searchRow (a .keys .now) (a .n) (a .seconds .now) (a .i) j (a .start)) (omega arith)
+
+pub search-row-spec : {M : Type 1} → statement M
+search-row-spec = tie.close (tie.spec Inv-loop μ-loop loop-holds shared-slice-read-if1 mul-consider add-consider mul-consider-2 shared-slice-read-consider consider-requires add-j loop-less loop-again returns)
