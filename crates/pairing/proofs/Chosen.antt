@@ -13,7 +13,7 @@ use borrow.Author.Tests.{eqb-true, eqb-false}
 use Rattle.kernel.proofs.Order.{lt-numbers, eq-numbers, eq-reflexive, lt-trichotomy}
 use Rattle.pairing.specs.Pairing.{Pair, pair}
 use Rattle.pairing.specs.Keys.{keyOf, byKey, fromKeys, nobody}
-use Rattle.pairing.specs.Search.{isFree, none, found, consider, searchRow, search}
+use Rattle.pairing.specs.Search.{isFree, noneFound, foundAt, lookAt, searchRow, search}
 use Rattle.pairing.specs.declared.Foremost.{Foremost}
 use Rattle.pairing.proofs.Pairings.{pair-path}
 use Rattle.pairing.proofs.Sorting.{Upto, upto-trans}
@@ -29,12 +29,12 @@ module _ (keys : List Float) (m n : ℕ) where
 
   -- of the pairs of A there is none, or b is the one that comes first
   pub record Nothing (A : Pair → Type 0) (b : Foremost) : Type 0 where
-    pub is : b ≡ none
+    pub is : b ≡ noneFound
     pub absent : (p : Pair) → A p → ⊥
 
   pub record Something (A : Pair → Type 0) (b : Foremost) : Type 0 where
     pub best : Pair
-    pub is : b ≡ found (key best) (best .first) (best .second)
+    pub is : b ≡ foundAt (key best) (best .first) (best .second)
     pub inside : A best
     pub least : (q : Pair) → A q → First best q
 
@@ -71,7 +71,7 @@ module _ (keys : List Float) (m n : ℕ) where
 
   module _ (A B : Pair → Type 0) (r : Pair) (h : More A B r) where
     abbrev new : Foremost
-    new = found (key r) (r .first) (r .second)
+    new = foundAt (key r) (r .first) (r .second)
 
     first-of-all : (b : Foremost) → Nothing A b → Best B (cond (eq (key r) (key r)) new b)
     first-of-all b w = go (eq (key r) (key r)) refl
@@ -115,10 +115,10 @@ module _ (keys : List Float) (m n : ℕ) where
               ⊎-elim (w .least q) (λ a. inr (subst (λ (x : Pair). T (byKey keys n p x)) (sym (a .0)) (above (subst (λ (x : Bool). T (not x)) (sym e) tt) (a .1)))) (h .only q t);
         })
 
-    considered : (b : Foremost) → Best A b → Best B (consider b (key r) (r .first) (r .second))
-    unfolding consider
-    considered b (inl w) = rw (w .is) (first-of-all none (record { is = refl; absent = w .absent }))
-    considered b (inr w) = rw (w .is) (against (found (key (w .best)) (w .best .first) (w .best .second)) (record { best = w .best; is = refl; inside = w .inside; least = w .least }))
+    looked : (b : Foremost) → Best A b → Best B (lookAt b (key r) (r .first) (r .second))
+    unfolding lookAt
+    looked b (inl w) = rw (w .is) (first-of-all noneFound (record { is = refl; absent = w .absent }))
+    looked b (inr w) = rw (w .is) (against (foundAt (key (w .best)) (w .best .first) (w .best .second)) (record { best = w .best; is = refl; inside = w .inside; least = w .least }))
 
   -- ---- the pairs that can be taken: candidates whose two tracks are free
 
@@ -173,8 +173,8 @@ module _ (keys : List Float) (m n : ℕ) where
         row : Foremost
         row = searchRow keys n seconds i j b
 
-        go : (t : Bool) → isFree seconds j ≡ t → Best (Seen i j) row → Best (Seen i (suc j)) (cond t (consider row (key (pair i j)) i j) row)
-        go true e v = considered (Seen i j) (Seen i (suc j)) (pair i j) (one-more i j hi (omega arith) f (eqb-true (getD seconds j 0) nobody e)) row v
+        go : (t : Bool) → isFree seconds j ≡ t → Best (Seen i j) row → Best (Seen i (suc j)) (cond t (lookAt row (key (pair i j)) i j) row)
+        go true e v = looked (Seen i j) (Seen i (suc j)) (pair i j) (one-more i j hi (omega arith) f (eqb-true (getD seconds j 0) nobody e)) row v
         go false e v = passed i j row (eqb-false (getD seconds j 0) nobody e) v
 
     -- a row is done, and the next one starts

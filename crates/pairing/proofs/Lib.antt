@@ -8,3 +8,4 @@ pub mod Keys
 pub mod Searches
 pub mod Chosen
 pub mod Tables
+pub mod Struck

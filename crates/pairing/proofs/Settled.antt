@@ -23,13 +23,13 @@ pub record Settled (g : Candidates) (s : Pairs) : Type 0 where
 
 module _ (g : Candidates) (o : Ordered g) where
   -- Where the list l is still to come: each candidate is in l, in the set or preceded, and no pair of the set comes after one of l.
-  record Underway (l : List Pair) (s : Pairs) : Type 0 where
+  record SoFar (l : List Pair) (s : Pairs) : Type 0 where
     pairing : Pairing g s
     met : (q : Pair) → Candidate g q → Mem q l ⊎ (In s q ⊎ Preceded g s q)
     passed : (p q : Pair) → In s p → Mem q l → Upto g p q
 
   taken : (p : Pair) (l : List Pair) (s : Pairs) → Candidate g p → Sorted g (p ∷ l) → T (freeFirst g s (p .first)) → T (freeSecond g s (p .second))
-      → Underway (p ∷ l) s → Underway l (withPair s p)
+      → SoFar (p ∷ l) s → SoFar l (withPair s p)
   taken p l s c d f h u = record {
     pairing = with-pairing g o s p (u .pairing) c f h;
     met = λ q k. now q (u .met q k);
@@ -45,7 +45,7 @@ module _ (g : Candidates) (o : Ordered g) where
       now q (inr (inl t)) = inr (inl (with-keeps s p q t))
       now q (inr (inr w)) = inr (inr (still q w))
 
-  left-out : (p : Pair) (l : List Pair) (s : Pairs) → T (not (freeFirst g s (p .first) && freeSecond g s (p .second))) → Underway (p ∷ l) s → Underway l s
+  left-out : (p : Pair) (l : List Pair) (s : Pairs) → T (not (freeFirst g s (p .first) && freeSecond g s (p .second))) → SoFar (p ∷ l) s → SoFar l s
   left-out p l s n u = record {
     pairing = u .pairing;
     met = λ q k. now q (u .met q k);
@@ -69,17 +69,17 @@ module _ (g : Candidates) (o : Ordered g) where
       now q (inl (inr m)) = inl m
       now q (inr w) = inr w
 
-  all-taken : (l : List Pair) (s : Pairs) → Sorted g l → ((q : Pair) → Mem q l → Candidate g q) → Underway l s → Underway [] (taking g l s)
+  all-taken : (l : List Pair) (s : Pairs) → Sorted g l → ((q : Pair) → Mem q l → Candidate g q) → SoFar l s → SoFar [] (taking g l s)
   unfolding taking
   all-taken [] s d c u = u
   all-taken (p ∷ l) s d c u = all-taken l _ (d .1) (λ q m. c q (inr m)) (go (freeFirst g s (p .first)) (freeSecond g s (p .second)) refl refl)
     where
-      go : (a b : Bool) → freeFirst g s (p .first) ≡ a → freeSecond g s (p .second) ≡ b → Underway l (cond (a && b) (withPair s p) s)
+      go : (a b : Bool) → freeFirst g s (p .first) ≡ a → freeSecond g s (p .second) ≡ b → SoFar l (cond (a && b) (withPair s p) s)
       go true true e f = taken p l s (c p (inl refl)) d (subst T (sym e) tt) (subst T (sym f) tt) u
       go true false e f = left-out p l s (rw (e, f) tt) u
       go false b e f = left-out p l s (rw e tt) u
 
-  start : Underway (inOrder g (g .firsts)) (λ i j. false)
+  start : SoFar (inOrder g (g .firsts)) (λ i j. false)
   start = record {
     pairing = record { candidates = λ p t. absurd t; apart = λ p q t u v. absurd t };
     met = λ q c. inl (listed-all g o q c);
@@ -91,7 +91,7 @@ module _ (g : Candidates) (o : Ordered g) where
   settled =
       let d : Listed g (inOrder g (g .firsts)) = listed g o (g .firsts) in
       let s : Pairs = taking g (inOrder g (g .firsts)) (λ i j. false) in
-      let u : Underway [] s = all-taken (inOrder g (g .firsts)) (λ i j. false) (d .sorted) (d .only) start in
+      let u : SoFar [] s = all-taken (inOrder g (g .firsts)) (λ i j. false) (d .sorted) (d .only) start in
       record { pairing = u .pairing; preceded = λ p c n. outside s p n (u .met p c) }
     where
       outside : (s : Pairs) (p : Pair) → Out s p → Mem p [] ⊎ (In s p ⊎ Preceded g s p) → Preceded g s p

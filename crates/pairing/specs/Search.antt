@@ -21,28 +21,28 @@ nobodies n = tabulate n (λ i. nobody)
 abbrev pub isFree : List ℕ → ℕ → Bool
 isFree table i = eqb (getD table i 0) nobody
 
-abbrev pub none : Foremost
-none = record { found = false; key = ofBits binary64 0; first = 0; second = 0 }
+abbrev pub noneFound : Foremost
+noneFound = record { found = false; key = ofBits binary64 0; first = 0; second = 0 }
 
-abbrev pub found : Float → ℕ → ℕ → Foremost
-found key i j = record { found = true; key = key; first = i; second = j }
+abbrev pub foundAt : Float → ℕ → ℕ → Foremost
+foundAt key i j = record { found = true; key = key; first = i; second = j }
 
 -- The best so far, and then the pair (i, j), which comes after it by index: it is the best where its key is less, or where it is the first with a key.
-unfoldable pub consider : Foremost → Float → ℕ → ℕ → Foremost
-consider best key i j = cond (best .found) (cond (lt key (best .key)) (found key i j) best) (cond (eq key key) (found key i j) best)
+unfoldable pub lookAt : Foremost → Float → ℕ → ℕ → Foremost
+lookAt best key i j = cond (best .found) (cond (lt key (best .key)) (foundAt key i j) best) (cond (eq key key) (foundAt key i j) best)
 
 -- The best so far, and then the pairs of first track i with those of the first j second tracks that are free.
 unfoldable pub searchRow : List Float → ℕ → List ℕ → ℕ → ℕ → Foremost → Foremost
-unfolding consider keyOf
+unfolding lookAt keyOf
 searchRow keys n seconds i zero best = best
 searchRow keys n seconds i (suc j) best =
     let row = searchRow keys n seconds i j best in
-    cond (isFree seconds j) (consider row (keyOf keys n (pair i j)) i j) row
+    cond (isFree seconds j) (lookAt row (keyOf keys n (pair i j)) i j) row
 
 -- The best of the pairs of free tracks, of the first i first tracks and n second ones.
 unfoldable pub search : List Float → ℕ → List ℕ → List ℕ → ℕ → Foremost
 unfolding searchRow
-search keys n firsts seconds zero = none
+search keys n firsts seconds zero = noneFound
 search keys n firsts seconds (suc i) =
     let before = search keys n firsts seconds i in
     cond (isFree firsts i) (searchRow keys n seconds i n before) before

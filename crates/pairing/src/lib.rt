@@ -6,6 +6,7 @@ ghost use Rattle.pairing.specs.Keys.{fromKeys, firstPartners, secondPart
 
 mod search;
 mod table;
+pub mod timed;
 
 // The pair that comes first of those looked at, if there is one, and its key.
 pub struct Foremost {

@@ -2,13 +2,13 @@
 ghost use mathlib.Core.Path.{_≡_};
 ghost use Prim.Native.Nat.{_+_, _*_, _<_, _≤_};
 ghost use lib.ListN.{length};
-ghost use Rattle.pairing.specs.Search.{none, consider, searchRow, search};
+ghost use Rattle.pairing.specs.Search.{lookAt, searchRow, search};
 use crate::Foremost;
 use crate::table::NOBODY;
 
 // The best so far, and then the pair of first track i with second track j, which comes after it by index.
-fn consider(best: Foremost, key: f64, i: usize, j: usize) -> Foremost
-    ensures { λ r. ⌜ r ≡ consider best key i j ⌝ }
+fn look_at(best: Foremost, key: f64, i: usize, j: usize) -> Foremost
+    ensures { λ r. ⌜ r ≡ lookAt best key i j ⌝ }
 {
     if best.found {
         if key < best.key {
@@ -40,7 +40,7 @@ fn search_row(keys: &[f64], n: usize, seconds: &[u8], i: usize, start: Foremost)
     let mut best = start;
     for j in 0..n {
         if seconds[j] == NOBODY {
-            best = consider(best, keys[i * n + j], i, j);
+            best = look_at(best, keys[i * n + j], i, j);
         }
     }
     best

@@ -22,20 +22,20 @@ loop-holds c = (omega arith, refl)
 shared-slice-read-if1 : tie.Need-shared-slice-read-if1 Inv-loop μ-loop
 shared-slice-read-if1 c = omega arith
 
-mul-consider : tie.Need-mul-consider Inv-loop μ-loop
-mul-consider c = omega arith
+mul-look-at : tie.Need-mul-look-at Inv-loop μ-loop
+mul-look-at c = omega arith
 
-add-consider : tie.Need-add-consider Inv-loop μ-loop
-add-consider c = omega arith
+add-look-at : tie.Need-add-look-at Inv-loop μ-loop
+add-look-at c = omega arith
 
-mul-consider-2 : tie.Need-mul-consider-2 Inv-loop μ-loop
-mul-consider-2 c = omega arith
+mul-look-at-2 : tie.Need-mul-look-at-2 Inv-loop μ-loop
+mul-look-at-2 c = omega arith
 
-shared-slice-read-consider : tie.Need-shared-slice-read-consider Inv-loop μ-loop
-shared-slice-read-consider c = omega arith
+shared-slice-read-look-at : tie.Need-shared-slice-read-look-at Inv-loop μ-loop
+shared-slice-read-look-at c = omega arith
 
-consider-requires : tie.Need-consider-requires Inv-loop μ-loop
-consider-requires c κs = search needs
+look-at-requires : tie.Need-look-at-requires Inv-loop μ-loop
+look-at-requires c κs = search needs
 
 add-j : tie.Need-add-j Inv-loop μ-loop
 add-j c = omega arith
@@ -59,4 +59,4 @@ returns c =
     c .before .loop .inv .1 ∙ ap (λ (j : ℕ). searchRow (a .keys .now) (a .n) (a .seconds .now) (a .i) j (a .start)) (omega arith)
 
 pub search-row-spec : {M : Type 1} → statement M
-search-row-spec = tie.close (tie.spec Inv-loop μ-loop loop-holds shared-slice-read-if1 mul-consider add-consider mul-consider-2 shared-slice-read-consider consider-requires add-j loop-less loop-again returns)
+search-row-spec = tie.close (tie.spec Inv-loop μ-loop loop-holds shared-slice-read-if1 mul-look-at add-look-at mul-look-at-2 shared-slice-read-look-at look-at-requires add-j loop-less loop-again returns)
