@@ -6,6 +6,8 @@ pub mod Blocking
 pub mod Stable
 pub mod Keys
 pub mod Searches
+pub mod Best
 pub mod Chosen
+pub mod Entries
 pub mod Tables
 pub mod Struck

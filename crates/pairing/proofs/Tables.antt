@@ -1,87 +1,25 @@
 -- The tables of partners while they are filled: `tables-start` says that they may start with nobody, `tables-next` that the pair which the search finds may be entered,
--- `tables-done` that they are complete where it finds nothing, and `fewer-free` that each entry leaves fewer tracks free.
-use Prim.Native.Nat.{ℕ, zero, suc, _+_, _≤_, _<_}
-use native.Mathlib.Decide.{ℕ-discrete}
+-- `firsts-done` and `seconds-done` that they are complete where it finds nothing.
+use Prim.Native.Nat.{ℕ, _≤_, _<_}
 use native.Mathlib.Omega.{arith}
-use mathlib.Core.Path.{_≡_, refl, sym, ap, subst, _∙_}
+use mathlib.Core.Path.{_≡_, refl, sym, ap, _∙_}
 use mathlib.Core.Logic.{_⊎_, inl, inr, ⊎-elim}
-use mathlib.Core.Bool.{Bool, true, false, not, cond}
-use mathlib.Core.List.{List, [], _∷_}
-use lib.Dec.{T, T-not, eqb}
+use mathlib.Core.List.{List}
+use lib.Dec.{T}
 use lib.ListN.{length, getD, set, length-set}
-use lib.Seq.{getD-set-same, getD-set-other}
 use lib.Ieee.{Float}
-use borrow.Author.Tests.{eq-eqb, ne-eqb}
 use Rattle.kernel.proofs.Lists.{length-tabulate, getD-tabulate, by-elements}
-use Rattle.pairing.specs.Pairing.{Pair, pair, Pairs, has, Candidates, ShareTrack, paired}
+use Rattle.pairing.specs.Pairing.{Pair, pair, has, Candidates, ShareTrack, paired}
 use Rattle.pairing.specs.Keys.{fromKeys, nobody, partner, firstPartners, secondPartners}
-use Rattle.pairing.specs.Search.{nobodies, Entered, Underway, countFree}
+use Rattle.pairing.specs.Search.{nobodies, Underway}
 use Rattle.pairing.proofs.Tests.{either}
 use Rattle.pairing.proofs.Pairings.{In}
 use Rattle.pairing.proofs.Settled.{Preceded, Settled, settled}
 use Rattle.pairing.proofs.Stable.{asymmetric}
 use Rattle.pairing.proofs.Keys.{Keyed, of-candidate, to-candidate, ordered}
-use Rattle.pairing.proofs.Chosen.{First, Open}
-
--- ---- one table and the other
-
-module _ (s : Pairs) (table other : List ℕ) where
-  entered-none : ((x : ℕ) → x < length table → getD table x 0 ≡ nobody) → Entered s table other
-  entered-none h x l = inl (h x l)
-
-  entered-more : (i j : ℕ) → ((x y : ℕ) → T (s x y) → x < nobody) → i < length table → j < length other → T (s i j) → getD other j 0 ≡ nobody → Entered s table other → Entered s (set table i j) (set other j i)
-  entered-more i j small hi hj t f e x l = go (ℕ-discrete x i)
-    where
-      here : getD (set table i j) i 0 ≡ j
-      here = getD-set-same table i j 0 hi
-
-      there : (x ≡ i → ⊥) → getD (set table i j) x 0 ≡ getD table x 0
-      there d = getD-set-other table i x j 0 d
-
-      Entry : ℕ → ℕ → Type 0
-      Entry x y = (y ≡ nobody) ⊎ (T (s x y) × (getD (set other j i) y 0 ≡ x))
-
-      kept : (y : ℕ) → (x ≡ i → ⊥) → (y ≡ nobody) ⊎ (T (s x y) × (getD other y 0 ≡ x)) → Entry x y
-      kept y d (inl n) = inl n
-      kept y d (inr w) = inr (w .0, getD-set-other other j y i 0 (λ q. let a : x ≡ nobody = sym (w .1) ∙ ap (λ (z : ℕ). getD other z 0) q ∙ f in let b = small x y (w .0) in omega arith) ∙ w .1)
-
-      go : Dec (x ≡ i) → Entry x (getD (set table i j) x 0)
-      go (yes q) = subst (λ (z : ℕ). Entry z (getD (set table i j) z 0)) (sym q) (subst (Entry i) (sym here) (inr (t, getD-set-same other j i 0 hj)))
-      go (no d) = subst (Entry x) (sym (there d)) (kept (getD table x 0) d (e x (omega (arith, length-set table i j))))
-
--- ---- partners
-
-partner-none : (n : ℕ) (test : ℕ → Bool) → ((k : ℕ) → k < n → T (test k) → ⊥) → partner n test ≡ nobody
-unfolding partner
-partner-none zero test h = refl
-partner-none (suc n) test h = go (test n) refl (partner-none n test (λ k l. h k (omega arith)))
-  where
-    go : (t : Bool) → test n ≡ t → partner n test ≡ nobody → cond t n (partner n test) ≡ nobody
-    go true e w = absurd (h n (omega arith) (subst T (sym e) tt))
-    go false e w = w
-
-partner-one : (n : ℕ) (test : ℕ → Bool) (k : ℕ) → k < n → T (test k) → ((l : ℕ) → T (test l) → l ≡ k) → partner n test ≡ k
-unfolding partner
-partner-one zero test k h t u = absurd (omega arith)
-partner-one (suc n) test k h t u = go (test n) refl (λ l. partner-one n test k l t u)
-  where
-    go : (b : Bool) → test n ≡ b → (k < n → partner n test ≡ k) → cond b n (partner n test) ≡ k
-    go true e w = u n (subst T (sym e) tt)
-    go false e w = w (other (ℕ-discrete k n))
-      where
-        other : Dec (k ≡ n) → k < n
-        other (yes q) = absurd (subst T e (subst (λ (x : ℕ). T (test x)) q t))
-        other (no q) = omega arith
-
--- ---- free tracks
-
-pub fewer-free : (l : List ℕ) (i j : ℕ) → i < length l → getD l i 0 ≡ nobody → j < nobody → countFree (set l i j) < countFree l
-unfolding countFree
-fewer-free [] i j h e k = absurd (omega arith)
-fewer-free (x ∷ l) zero j h e k = rw (eq-eqb x nobody e, ne-eqb j nobody (λ q. omega arith)) (omega arith)
-fewer-free (x ∷ l) (suc i) j h e k = let w = fewer-free l i j (omega arith) e k in omega arith
-
--- ---- both tables, while they hold some of the pairs of `paired`
+use Rattle.pairing.proofs.Best.{First}
+use Rattle.pairing.proofs.Chosen.{Open}
+use Rattle.pairing.proofs.Entries.{entered-none, entered-more, partner-none, partner-one}
 
 module _ (keys : List Float) (m n : ℕ) (hm : m ≤ 32) (hn : n ≤ 32) where
   abbrev g : Candidates

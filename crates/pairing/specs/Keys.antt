@@ -1,9 +1,10 @@
 -- Candidates by their keys, and each track's partner. The keys are a double for each pair, m rows of n; a NaN marks a pair that is no candidate.
 use Prim.Native.Nat.{ℕ, zero, suc, _+_, _*_}
+use mathlib.Core.Path.{_≡_}
 use mathlib.Core.Bool.{Bool, not, _&&_, _||_, cond}
 use mathlib.Core.List.{List}
 use lib.Dec.{ltb, eqb}
-use lib.ListN.{getD}
+use lib.ListN.{length, getD}
 use lib.Ieee.{Float, nan, isNan, lt, eq}
 use Rattle.kernel.specs.Lists.{tabulate}
 use Rattle.pairing.specs.Pairing.{Pair, pair, Candidates, paired}
@@ -29,6 +30,12 @@ fromKeys keys m n = record {
   candidate = λ i j. ltb i m && ltb j n && not (isNan (keyOf keys n (pair i j)));
   earlier = byKey keys n;
 }
+
+-- The keys stand in m rows of n, and the tables have a place for each track.
+pub record Shape (keys : List Float) (m n : ℕ) (firsts seconds : List ℕ) : Type 0 where
+  pub all-keys : length keys ≡ m * n
+  pub all-firsts : length firsts ≡ m
+  pub all-seconds : length seconds ≡ n
 
 -- ---- partners
 

@@ -1,8 +1,7 @@
 // The one stable pairing of two lists of tracks, by keys: for the merge alone.
 ghost use mathlib.Core.Path.{_≡_};
-ghost use Prim.Native.Nat.{_*_, _≤_};
-ghost use lib.ListN.{length};
-ghost use Rattle.pairing.specs.Keys.{fromKeys, firstPartners, secondPartners};
+ghost use Prim.Native.Nat.{_≤_};
+ghost use Rattle.pairing.specs.Keys.{Shape, fromKeys, firstPartners, secondPartners};
 
 mod search;
 mod table;
@@ -18,7 +17,7 @@ pub struct Foremost {
 
 // Writes the partner of each of m first and n second tracks, or 255. The keys stand in m rows of n, and a NaN marks a pair that is no candidate.
 pub fn pair_tracks(keys: &[f64], m: usize, n: usize, firsts: &mut [u8], seconds: &mut [u8])
-    requires { ⌜ (m ≤ 32) × (n ≤ 32) × (length (now keys) ≡ m * n) × (length (now firsts) ≡ m) × (length (now seconds) ≡ n) ⌝ }
+    requires { ⌜ (m ≤ 32) × (n ≤ 32) × Shape (now keys) m n (now firsts) (now seconds) ⌝ }
     ensures { λ _. ⌜ (now (firsts .exit) ≡ firstPartners (fromKeys (now (keys .entry)) m n)) × (now (seconds .exit) ≡ secondPartners (fromKeys (now (keys .entry)) m n)) ⌝ }
 {
     table::clear(firsts, m);

@@ -1,7 +1,8 @@
 // The search for the candidate that comes first among those whose two tracks are free.
 ghost use mathlib.Core.Path.{_≡_};
-ghost use Prim.Native.Nat.{_+_, _*_, _<_, _≤_};
+ghost use Prim.Native.Nat.{_+_, _*_, _≤_};
 ghost use lib.ListN.{length};
+ghost use Rattle.pairing.specs.Keys.{Shape};
 ghost use Rattle.pairing.specs.Search.{lookAt, searchRow, search};
 use crate::Foremost;
 use crate::table::NOBODY;
@@ -48,7 +49,7 @@ fn search_row(keys: &[f64], n: usize, seconds: &[u8], i: usize, start: Foremost)
 
 // The best of the pairs of free tracks, of m first and n second ones.
 pub(crate) fn search(keys: &[f64], m: usize, n: usize, firsts: &[u8], seconds: &[u8]) -> Foremost
-    requires { ⌜ (length (now keys) ≡ m * n) × (length (now firsts) ≡ m) × (length (now seconds) ≡ n) ⌝ }
+    requires { ⌜ Shape (now keys) m n (now firsts) (now seconds) ⌝ }
     ensures { λ r. ⌜ r ≡ search (now (keys .entry)) n (now (firsts .entry)) (now (seconds .entry)) m ⌝ }
 {
     let mut best = Foremost {

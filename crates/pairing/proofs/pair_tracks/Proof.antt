@@ -5,8 +5,11 @@ use borrow.Author.Tests.{not-true, not-false}
 use Rattle.pairing.specs.Pairing.{Pair, pair}
 use Rattle.pairing.specs.Keys.{fromKeys}
 use Rattle.pairing.specs.Search.{Underway, countFree}
-use Rattle.pairing.proofs.Chosen.{Best, Open, IsFirst, nothing-left, something-first, search-best}
-use Rattle.pairing.proofs.Tables.{tables-start, tables-next, firsts-done, seconds-done, fewer-free}
+use Rattle.pairing.proofs.Keys.{Keyed}
+use Rattle.pairing.proofs.Best.{Best, IsFirst, nothing-left, something-first}
+use Rattle.pairing.proofs.Chosen.{Open, search-best}
+use Rattle.pairing.proofs.Entries.{fewer-free}
+use Rattle.pairing.proofs.Tables.{tables-start, tables-next, firsts-done, seconds-done}
 use Rattle.pairing.proofs.pair_tracks.Statement.{statement}
 use Rattle.pairing.proofs.pair_tracks.Tie as tie
 
@@ -51,12 +54,6 @@ first-of c = something-first _ _ _ _ (one-found c .search .result) (best (one-fo
 none-left : (c : tie.Then1 Inv-loop μ-loop) → (p : Pair) → Left (turned (none-found c)) p → ⊥
 none-left c = nothing-left _ _ _ _ (none-found c .search .result) (best (none-found c)) (not-true _ (c .if1 .taken))
 
-clear-requires : tie.Need-clear-requires Inv-loop μ-loop
-clear-requires c κs = omega arith
-
-clear-requires-2 : tie.Need-clear-requires-2 Inv-loop μ-loop
-clear-requires-2 c κs = omega arith
-
 loop-holds : tie.Need-loop-holds Inv-loop μ-loop
 loop-holds c =
     let a = cleared c .args in
@@ -64,13 +61,15 @@ loop-holds c =
     (tables-start (a .keys .now) (a .m) (a .n) (cleared c .pre .0) (cleared c .pre .1))
 
 search-requires : tie.Need-search-requires Inv-loop μ-loop
-search-requires c κs = (entered (c .before .before) .pre .2, c .before .before .loop .inv .all-firsts, c .before .before .loop .inv .all-seconds)
+search-requires c κs =
+    let u = c .before .before .loop .inv in
+    record { all-keys = entered (c .before .before) .pre .2 .all-keys; all-firsts = u .all-firsts; all-seconds = u .all-seconds }
 
 same-length : tie.Need-same-length Inv-loop μ-loop
-same-length c = let t = turned (none-found c) in t .loop .inv .all-firsts ∙ sym (entered t .pre .3)
+same-length c = let t = turned (none-found c) in t .loop .inv .all-firsts ∙ sym (entered t .pre .2 .all-firsts)
 
 same-length-2 : tie.Need-same-length-2 Inv-loop μ-loop
-same-length-2 c = let t = turned (none-found c) in t .loop .inv .all-seconds ∙ sym (entered t .pre .4)
+same-length-2 c = let t = turned (none-found c) in t .loop .inv .all-seconds ∙ sym (entered t .pre .2 .all-seconds)
 
 returns : tie.Need-returns Inv-loop μ-loop
 returns c =
@@ -81,33 +80,39 @@ returns c =
       seconds-done (a .keys .now) (a .m) (a .n) (h .0) (h .1) (t .loop .firsts) (t .loop .seconds) (t .loop .inv) (none-left c),
     )
 
+-- the pair that was found has its tracks
+fits : (c : tie.Else1 Inv-loop μ-loop) → let a = entered (turned (one-found c)) .args in let r = one-found c .search .result in
+    Keyed (a .keys .now) (a .m) (a .n) (pair (r .first) (r .second))
+fits c = first-of c .inside .keyed
+
 cast-firsts : tie.Need-cast-firsts Inv-loop μ-loop
-cast-firsts c = omega (arith, first-of c .inside .keyed .second, entered (turned (one-found c)) .pre .1)
+cast-firsts c = omega (arith, fits c .second, entered (turned (one-found c)) .pre .1)
 
 slice-write-firsts : tie.Need-slice-write-firsts Inv-loop μ-loop
-slice-write-firsts c = omega (arith, first-of c .inside .keyed .first, turned (one-found c) .loop .inv .all-firsts)
+slice-write-firsts c = omega (arith, fits c .first, turned (one-found c) .loop .inv .all-firsts)
 
 cast-seconds : tie.Need-cast-seconds Inv-loop μ-loop
-cast-seconds c = omega (arith, first-of c .inside .keyed .first, entered (turned (one-found c)) .pre .0)
+cast-seconds c = omega (arith, fits c .first, entered (turned (one-found c)) .pre .0)
 
 slice-write-seconds : tie.Need-slice-write-seconds Inv-loop μ-loop
-slice-write-seconds c = omega (arith, first-of c .inside .keyed .second, turned (one-found c) .loop .inv .all-seconds)
+slice-write-seconds c = omega (arith, fits c .second, turned (one-found c) .loop .inv .all-seconds)
 
 loop-less : tie.Need-loop-less Inv-loop μ-loop
 loop-less c =
     let t = turned (one-found c) in
     let r = one-found c .search .result in
-    fewer-free (t .loop .firsts) (r .first) (r .second) (slice-write-firsts c) (first-of c .inside .first) (omega (arith, first-of c .inside .keyed .second, entered t .pre .1))
+    fewer-free (t .loop .firsts) (r .first) (r .second) (slice-write-firsts c) (first-of c .inside .first) (omega (arith, fits c .second, entered t .pre .1))
 
 loop-again : tie.Need-loop-again Inv-loop μ-loop
 loop-again c =
     let t = turned (one-found c) in
     let a = entered t .args in
-    let r = one-found c .search .result in
-    tables-next (a .keys .now) (a .m) (a .n) (entered t .pre .0) (entered t .pre .1) (t .loop .firsts) (t .loop .seconds) (t .loop .inv) (pair (r .first) (r .second)) (first-of c .inside) (first-of c .least)
+    let h = entered t .pre in
+    let w = first-of c in
+    tables-next (a .keys .now) (a .m) (a .n) (h .0) (h .1) (t .loop .firsts) (t .loop .seconds) (t .loop .inv) _ (w .inside) (w .least)
 
 pub pair-tracks-spec : {M : Type 1} → statement M
 pair-tracks-spec =
     tie.close
-    (tie.spec Inv-loop μ-loop clear-requires clear-requires-2 loop-holds search-requires same-length same-length-2 returns cast-firsts slice-write-firsts cast-seconds slice-write-seconds loop-less
-    loop-again)
+    (tie.spec Inv-loop μ-loop (λ c κs. omega arith) (λ c κs. omega arith) loop-holds search-requires same-length same-length-2 returns cast-firsts slice-write-firsts
+    cast-seconds slice-write-seconds loop-less loop-again)

@@ -18,19 +18,10 @@ loop-holds : tie.Need-loop-holds Inv-loop μ-loop
 unfolding search
 loop-holds c = (omega arith, refl)
 
-shared-slice-read-if1 : tie.Need-shared-slice-read-if1 Inv-loop μ-loop
-shared-slice-read-if1 c = omega arith
-
 search-row-requires : tie.Need-search-row-requires Inv-loop μ-loop
 search-row-requires c κs =
     let a = c .before .before .before .before .before .before .before .args in
     omega (arith, row (a .m) (a .n) (c .before .before .before .loop .i) (omega arith))
-
-add-i : tie.Need-add-i Inv-loop μ-loop
-add-i c = omega arith
-
-loop-less : tie.Need-loop-less Inv-loop μ-loop
-loop-less c = omega arith
 
 loop-again : tie.Need-loop-again Inv-loop μ-loop
 loop-again c =
@@ -48,4 +39,4 @@ returns c =
     c .before .loop .inv .1 ∙ ap (search (a .keys .now) (a .n) (a .firsts .now) (a .seconds .now)) (omega arith)
 
 pub search-spec : {M : Type 1} → statement M
-search-spec = tie.close (tie.spec Inv-loop μ-loop loop-holds shared-slice-read-if1 search-row-requires add-i loop-less loop-again returns)
+search-spec = tie.close (tie.spec Inv-loop μ-loop loop-holds (λ c. omega arith) search-row-requires (λ c. omega arith) (λ c. omega arith) loop-again returns)

@@ -19,30 +19,6 @@ loop-holds : tie.Need-loop-holds Inv-loop μ-loop
 unfolding searchRow
 loop-holds c = (omega arith, refl)
 
-shared-slice-read-if1 : tie.Need-shared-slice-read-if1 Inv-loop μ-loop
-shared-slice-read-if1 c = omega arith
-
-mul-look-at : tie.Need-mul-look-at Inv-loop μ-loop
-mul-look-at c = omega arith
-
-add-look-at : tie.Need-add-look-at Inv-loop μ-loop
-add-look-at c = omega arith
-
-mul-look-at-2 : tie.Need-mul-look-at-2 Inv-loop μ-loop
-mul-look-at-2 c = omega arith
-
-shared-slice-read-look-at : tie.Need-shared-slice-read-look-at Inv-loop μ-loop
-shared-slice-read-look-at c = omega arith
-
-look-at-requires : tie.Need-look-at-requires Inv-loop μ-loop
-look-at-requires c κs = search needs
-
-add-j : tie.Need-add-j Inv-loop μ-loop
-add-j c = omega arith
-
-loop-less : tie.Need-loop-less Inv-loop μ-loop
-loop-less c = omega arith
-
 loop-again : tie.Need-loop-again Inv-loop μ-loop
 loop-again c =
     let v = c .before .before .before .loop in (
@@ -59,4 +35,7 @@ returns c =
     c .before .loop .inv .1 ∙ ap (λ (j : ℕ). searchRow (a .keys .now) (a .n) (a .seconds .now) (a .i) j (a .start)) (omega arith)
 
 pub search-row-spec : {M : Type 1} → statement M
-search-row-spec = tie.close (tie.spec Inv-loop μ-loop loop-holds shared-slice-read-if1 mul-look-at add-look-at mul-look-at-2 shared-slice-read-look-at look-at-requires add-j loop-less loop-again returns)
+search-row-spec =
+    tie.close
+    (tie.spec Inv-loop μ-loop loop-holds (λ c. omega arith) (λ c. omega arith) (λ c. omega arith) (λ c. omega arith) (λ c. omega arith) (λ c κs. search needs) (λ c. omega arith)
+    (λ c. omega arith) loop-again returns)
