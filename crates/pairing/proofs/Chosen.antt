@@ -67,7 +67,10 @@ module _ (keys : List Float) (m n : ℕ) (firsts seconds : List ℕ) where
 
   -- a second track that is held has no such pair
   passed : (i j : ℕ) (b : Foremost) → (getD seconds j 0 ≡ nobody → ⊥) → Best keys m n (Seen i j) b → Best keys m n (Seen i (suc j)) b
-  passed i j b s = moved i j i (suc j) b (λ q o. further q i j) (λ q o l. ⊎-elim (λ k. k) (λ e. absurd (s (subst (λ (x : Pair). getD seconds (x .second) 0 ≡ nobody) e (o .second)))) (at-or-before q i j l))
+  passed i j b s = moved i j i (suc j) b (λ q o. further q i j) (λ q o l. ⊎-elim (λ k. k) (λ e. absurd (at q o e)) (at-or-before q i j l))
+    where
+      at : (q : Pair) → Open q → q ≡ pair i j → ⊥
+      at q o e = s (subst (λ (x : Pair). getD seconds (x .second) 0 ≡ nobody) e (o .second))
 
   row-best : (i j : ℕ) (b : Foremost) → i < m → j ≤ n → getD firsts i 0 ≡ nobody → Best keys m n (Seen i 0) b → Best keys m n (Seen i j) (searchRow keys n seconds i j b)
   unfolding searchRow

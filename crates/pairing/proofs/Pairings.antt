@@ -60,7 +60,8 @@ with-keeps s p q t = or-left (has s q) (samePair q p) t
 pub with-new : (s : Pairs) (p : Pair) → In (withPair s p) p
 with-new s p = or-right (has s p) (samePair p p) (same-itself p)
 
-pub with-pairing : (g : Candidates) → Ordered g → (s : Pairs) (p : Pair) → Pairing g s → T (has (g .candidate) p) → T (freeFirst g s (p .first)) → T (freeSecond g s (p .second)) → Pairing g (withPair s p)
+pub with-pairing : (g : Candidates) → Ordered g → (s : Pairs) (p : Pair) → Pairing g s → T (has (g .candidate) p) → T (freeFirst g s (p .first)) → T (freeSecond g s (p .second))
+    → Pairing g (withPair s p)
 with-pairing g o s p a c f h = record {
   candidates = λ q t. ⊎-elim (a .candidates q) (λ (e : q ≡ p). subst (λ (x : Pair). T (has (g .candidate) x)) (sym e) c) (with-cases s p q t);
   apart = λ q r t u v. go q r (with-cases s p q t) (with-cases s p r u) v;

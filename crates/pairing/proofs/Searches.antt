@@ -12,7 +12,8 @@ use Rattle.pairing.specs.Search.{lookAt, searchRow, search}
 use Rattle.pairing.specs.declared.Foremost.{Foremost}
 
 module _ (keys : List Float) (n : ℕ) (seconds : List ℕ) (i j : ℕ) (start : Foremost) where
-  pub row-taken : (best next : Foremost) → getD seconds j 0 ≡ nobody → best ≡ searchRow keys n seconds i j start → next ≡ lookAt best (getD keys (i * n + j) nan) i j → next ≡ searchRow keys n seconds i (j + 1) start
+  pub row-taken : (best next : Foremost) → getD seconds j 0 ≡ nobody → best ≡ searchRow keys n seconds i j start
+      → next ≡ lookAt best (getD keys (i * n + j) nan) i j → next ≡ searchRow keys n seconds i (j + 1) start
   unfolding searchRow keyOf
   row-taken best next h e f = rw (add-one, eq-eqb (getD seconds j 0) nobody h, f, e)
 

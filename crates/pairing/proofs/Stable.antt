@@ -117,9 +117,11 @@ module _ (g : Candidates) (o : Ordered g) where
 
   pub settled-blocks : (s : Pairs) → Settled g s → (r : Pairs) → Pairing g r → (q : Pair) → (has r q ≡ has s q → ⊥) → (p : Pair) × T (has (blocking g r) p)
   settled-blocks s d r y q n =
-      let k : Listed g (inOrder g (g .firsts)) = listed g o (g .firsts) in
+      let l : List Pair = inOrder g (g .firsts) in
+      let k : Listed g l = listed g o (g .firsts) in
+      let c : Candidate g q = candidate (has s q) (has r q) refl refl n in
       let test : Pair → Bool = λ x. not (Bool·beq (has s x) (has r x)) in
-      let w : Least test (inOrder g (g .firsts)) = find-least test (inOrder g (g .firsts)) (k .sorted) q (listed-all g o q (candidate (has s q) (has r q) refl refl n)) (differ (has s q) (has r q) n) in
+      let w : Least test l = find-least test l (k .sorted) q (listed-all g o q c) (differ (has s q) (has r q) n) in
       let p = w .least in (
         p,
         least-blocks s r d y p (k .only p (w .inside)) (λ x a h. agree (has s x) (has r x) (λ t. asymmetric x p h (w .upto x (listed-all g o x a) t)))

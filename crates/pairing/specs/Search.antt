@@ -21,6 +21,7 @@ nobodies n = tabulate n (λ i. nobody)
 abbrev pub isFree : List ℕ → ℕ → Bool
 isFree table i = eqb (getD table i 0) nobody
 
+-- Nothing found, and a pair found with its key.
 abbrev pub noneFound : Foremost
 noneFound = record { found = false; key = ofBits binary64 0; first = 0; second = 0 }
 
