@@ -11,3 +11,4 @@ pub mod Chosen
 pub mod Entries
 pub mod Tables
 pub mod Struck
+pub mod Rekeyed

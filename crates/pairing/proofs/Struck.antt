@@ -15,7 +15,7 @@ use Rattle.pairing.proofs.Settled.{Preceded, Settled, settled}
 use Rattle.pairing.proofs.Stable.{settled-paired}
 
 -- first track i of h is first track a i of g, and second track j is b j
-abbrev image : (ℕ → ℕ) → (ℕ → ℕ) → Pair → Pair
+abbrev pub image : (ℕ → ℕ) → (ℕ → ℕ) → Pair → Pair
 image a b p = pair (a (p .first)) (b (p .second))
 
 pub record Renamed (g h : Candidates) (a b : ℕ → ℕ) : Type 0 where
@@ -73,7 +73,7 @@ module _ (g h : Candidates) (og : Ordered g) (oh : Ordered h) (a b : ℕ → ℕ
 unfoldable pub past : ℕ → ℕ → ℕ
 past x i = cond (ltb i x) i (suc i)
 
-past-cases : (x i : ℕ) → ((i < x) × (past x i ≡ i)) ⊎ ((x ≤ i) × (past x i ≡ suc i))
+pub past-cases : (x i : ℕ) → ((i < x) × (past x i ≡ i)) ⊎ ((x ≤ i) × (past x i ≡ suc i))
 unfolding past
 past-cases x i = go (decLt i x)
   where
