@@ -38,16 +38,7 @@ fn ours(keys: &[f64], to: &mut Partners) {
     assert!(m <= TRACKS && n <= TRACKS && keys.len() == m * n);
     // The call's contract asks for these lengths and nothing else.
     unsafe {
-        pel_pair_tracks(
-            keys.as_ptr(),
-            keys.len(),
-            m,
-            n,
-            to.firsts.as_mut_ptr(),
-            m,
-            to.seconds.as_mut_ptr(),
-            n,
-        );
+        pel_pair_tracks(keys.as_ptr(), keys.len(), m, n, to.firsts.as_mut_ptr(), m, to.seconds.as_mut_ptr(), n);
     }
 }
 

@@ -5,6 +5,7 @@ pub mod Doubles
 pub mod Patterns
 pub mod Root
 pub mod Signs
+pub mod Sizes
 pub mod Places
 pub mod Order
 pub mod SquareRoot
