@@ -11,8 +11,8 @@ use Rattle.pairing.specs.Pairing.{Pair, pair}
 use Rattle.pairing.specs.Keys.{keyOf, byKey, fromKeys}
 use Rattle.pairing.specs.Search.{noneFound, foundAt, lookAt}
 use Rattle.pairing.specs.declared.Foremost.{Foremost}
-use Rattle.pairing.proofs.Sorting.{Upto, upto-trans}
-use Rattle.pairing.proofs.Keys.{Index, to-key, ordered}
+use Rattle.pairing.proofs.Sorting.{Upto}
+use Rattle.pairing.proofs.Keys.{Index, of-key, to-key, key-transitive}
 
 module _ (keys : List Float) (m n : ℕ) where
   abbrev key : Pair → Float
@@ -90,7 +90,8 @@ module _ (keys : List Float) (m n : ℕ) where
         p = w .best
 
         below : T (lt (key r) (key p)) → (q : Pair) → First p q → First r q
-        below l q u = inr (upto-trans (fromKeys keys m n) (ordered keys m n) r p q (to-key keys n r p (inl l)) u)
+        below l q (inl e) = inr (to-key keys n r q (inl (subst (λ (x : Pair). T (lt (key r) (key x))) e l)))
+        below l q (inr u) = inr (to-key keys n r q (key-transitive keys n r p q (inl l) (of-key keys n p q u)))
 
         above : T (not (lt (key r) (key p))) → Number r → T (byKey keys n p r)
         above l x =

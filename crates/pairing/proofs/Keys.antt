@@ -83,7 +83,7 @@ module _ (keys : List Float) (n : ℕ) where
   key-irreflexive p (inl h) = lt-irreflexive (key p) h
   key-irreflexive p (inr h) = index-irreflexive p (h .1)
 
-  key-transitive : (p q r : Pair) → Key p q → Key q r → Key p r
+  pub key-transitive : (p q r : Pair) → Key p q → Key q r → Key p r
   key-transitive p q r (inl h) (inl k) = inl (lt-transitive (key p) (key q) (key r) h k)
   key-transitive p q r (inl h) (inr k) = inl (lt-eq (key p) (key q) (key r) h (k .0))
   key-transitive p q r (inr h) (inl k) = inl (eq-lt (key p) (key q) (key r) (h .0) k)
@@ -125,8 +125,8 @@ module _ (keys : List Float) (m n : ℕ) where
   pub ordered : Ordered (fromKeys keys m n)
   ordered = record {
     within = λ p c. let h = of-candidate p c in (h .first, h .second);
-    irreflexive = λ p t. key-irreflexive keys n p (of-key keys n p p t);
-    transitive = λ p q r t u. to-key keys n p r (key-transitive keys n p q r (of-key keys n p q t) (of-key keys n q r u));
+    irreflexive = λ p c t. key-irreflexive keys n p (of-key keys n p p t);
+    transitive = λ p q r a b c t u. to-key keys n p r (key-transitive keys n p q r (of-key keys n p q t) (of-key keys n q r u));
     total = λ p q c d. tested p q (key-total keys n p q (of-candidate p c .number) (of-candidate q d .number));
   }
     where

@@ -31,9 +31,9 @@ pub record Listed (g : Candidates) (l : List Pair) : Type 0 where
   pub only : (q : Pair) → Mem q l → Candidate g q
 
 module _ (g : Candidates) (o : Ordered g) where
-  pub upto-trans : (p q r : Pair) → T (g .earlier p q) → Upto g q r → T (g .earlier p r)
-  upto-trans p q r h (inl e) = subst (λ (x : Pair). T (g .earlier p x)) e h
-  upto-trans p q r h (inr k) = o .transitive p q r h k
+  pub upto-trans : (p q r : Pair) → Candidate g p → Candidate g q → Candidate g r → T (g .earlier p q) → Upto g q r → T (g .earlier p r)
+  upto-trans p q r a b c h (inl e) = subst (λ (x : Pair). T (g .earlier p x)) e h
+  upto-trans p q r a b c h (inr k) = o .transitive p q r a b c h k
 
   -- what is not earlier comes after
   pub upto-of-not : (p q : Pair) → Candidate g p → Candidate g q → T (not (g .earlier p q)) → Upto g q p
@@ -82,8 +82,8 @@ module _ (g : Candidates) (o : Ordered g) where
   insert-sorted p (q ∷ l) a b s = go (g .earlier p q) refl (insert-sorted p l a (λ r m. b r (inr m)) (s .1))
     where
       after : T (g .earlier p q) → (r : Pair) → Mem r (q ∷ l) → Upto g p r
-      after h r (inl e) = inr (upto-trans p q r h (inl (sym e)))
-      after h r (inr m) = inr (upto-trans p q r h (s .0 r m))
+      after h r (inl e) = inr (subst (λ (x : Pair). T (g .earlier p x)) (sym e) h)
+      after h r (inr m) = inr (upto-trans p q r a (b q (inl refl)) (b r (inr m)) h (s .0 r m))
 
       before : T (not (g .earlier p q)) → (r : Pair) → (r ≡ p) ⊎ Mem r l → Upto g q r
       before h r (inl e) = subst (λ (x : Pair). Upto g q x) (sym e) (upto-of-not p q a (b q (inl refl)) h)

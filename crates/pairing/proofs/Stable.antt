@@ -1,8 +1,8 @@
 -- Over any candidates with a strict total order there is exactly one stable pairing: `paired-stable` says that `paired` is one, `others-blocked` gives for any
--- other pairing a pair that blocks it, and `only-stable` says that every stable pairing is `paired`.
+-- other pairing a pair that blocks it, `only-stable` says that every stable pairing is `paired`, and `exactly-one` says both.
 use Prim.Native.Nat.{ℕ}
 use mathlib.Core.Path.{_≡_, refl, sym, subst, fun-ext}
-use mathlib.Core.Logic.{_⊎_, inl, inr}
+use mathlib.Core.Logic.{_↔_, _⊎_, inl, inr}
 use mathlib.Core.Bool.{Bool, true, false, not, Bool·beq, Bool-discrete}
 use mathlib.Core.List.{List, [], _∷_}
 use lib.Dec.{T, T-not}
@@ -14,8 +14,8 @@ use Rattle.pairing.proofs.Settled.{Preceded, Settled, settled}
 use Rattle.pairing.proofs.Blocking.{Yields, Blocks, blocks-of, of-blocks}
 
 module _ (g : Candidates) (o : Ordered g) where
-  pub asymmetric : (p q : Pair) → T (g .earlier p q) → Upto g q p → ⊥
-  asymmetric p q t u = o .irreflexive p (upto-trans g o p q p t u)
+  pub asymmetric : (p q : Pair) → Candidate g p → Candidate g q → T (g .earlier p q) → Upto g q p → ⊥
+  asymmetric p q a b t u = o .irreflexive p a (upto-trans g o p q p a b a t u)
 
   -- ---- the two facts of `Settled` make a pairing stable
 
@@ -23,19 +23,20 @@ module _ (g : Candidates) (o : Ordered g) where
   pub settled-stable : (s : Pairs) → Settled g s → Stable g s
   settled-stable s d = record { pairing = d .pairing; unblocked = λ p t. let b = blocks-of g s p t in clash p b (d .preceded p (b .candidate) (b .outside)) }
     where
-      again : (p : Pair) (w : Preceded g s p) (q : Pair) → ShareTrack (w .by) q → T (later g s p q) → ⊥
-      again p w q h t =
-          let e : w .by ≡ q = d .pairing .apart (w .by) q (w .inside) (left (has s q) (g .earlier p q) t) h in
-          asymmetric p q (right (has s q) (g .earlier p q) t) (inr (subst (λ (x : Pair). T (g .earlier x p)) e (w .earlier)))
+      again : (p : Pair) → Candidate g p → (w : Preceded g s p) (q : Pair) → ShareTrack (w .by) q → T (later g s p q) → ⊥
+      again p c w q h t =
+          let u : In s q = left (has s q) (g .earlier p q) t in
+          let e : w .by ≡ q = d .pairing .apart (w .by) q (w .inside) u h in
+          asymmetric p q c (d .pairing .candidates q u) (right (has s q) (g .earlier p q) t) (inr (subst (λ (x : Pair). T (g .earlier x p)) e (w .earlier)))
 
       clash : (p : Pair) → Blocks g s p → Preceded g s p → ⊥
       clash p b w = go (w .shares) (b .first) (b .second)
         where
           go : ShareTrack (w .by) p → Yields g s p (freeFirst g s (p .first)) (pair (p .first)) → Yields g s p (freeSecond g s (p .second)) (λ k. pair k (p .second)) → ⊥
           go (inl e) (inl f) n = free-first g o s (d .pairing) (w .by) (subst (λ (x : ℕ). T (freeFirst g s x)) (sym e) f) (w .inside)
-          go (inl e) (inr v) n = again p w (pair (p .first) (v .0)) (inl e) (v .1)
+          go (inl e) (inr v) n = again p (b .candidate) w (pair (p .first) (v .0)) (inl e) (v .1)
           go (inr e) f (inl n) = free-second g o s (d .pairing) (w .by) (subst (λ (x : ℕ). T (freeSecond g s x)) (sym e) n) (w .inside)
-          go (inr e) f (inr v) = again p w (pair (v .0) (p .second)) (inr e) (v .1)
+          go (inr e) f (inr v) = again p (b .candidate) w (pair (v .0) (p .second)) (inr e) (v .1)
 
   -- ---- the least pair of a list that passes a test
 
@@ -72,7 +73,7 @@ module _ (g : Candidates) (o : Ordered g) where
     absent n t =
         let w = d .preceded p c n in
         let u : In r (w .by) = subst T (below (w .by) (d .pairing .candidates (w .by) (w .inside)) (w .earlier)) (w .inside) in
-        o .irreflexive p (subst (λ (x : Pair). T (g .earlier x p)) (y .apart (w .by) p u t (w .shares)) (w .earlier))
+        o .irreflexive p c (subst (λ (x : Pair). T (g .earlier x p)) (y .apart (w .by) p u t (w .shares)) (w .earlier))
 
     -- what r has on a track of p comes later
     comes-later : In s p → Out r p → (q : Pair) → In r q → ShareTrack q p → T (later g r p q)
@@ -124,7 +125,7 @@ module _ (g : Candidates) (o : Ordered g) where
       let w : Least test l = find-least test l (k .sorted) q (listed-all g o q c) (differ (has s q) (has r q) n) in
       let p = w .least in (
         p,
-        least-blocks s r d y p (k .only p (w .inside)) (λ x a h. agree (has s x) (has r x) (λ t. asymmetric x p h (w .upto x (listed-all g o x a) t)))
+        least-blocks s r d y p (k .only p (w .inside)) (λ x a h. agree (has s x) (has r x) (λ t. asymmetric x p a (k .only p (w .inside)) h (w .upto x (listed-all g o x a) t)))
             (has s p) (has r p) refl refl (w .passes),
       )
     where
@@ -147,6 +148,9 @@ module _ (g : Candidates) (o : Ordered g) where
       go : (i j : ℕ) → Dec (r i j ≡ paired g i j) → r i j ≡ paired g i j
       go i j (yes e) = e
       go i j (no n) = let w = others-blocked r (z .pairing) (pair i j) n in absurd (z .unblocked (w .0) (w .1))
+
+  pub exactly-one : (r : Pairs) → Stable g r ↔ (r ≡ paired g)
+  exactly-one r = (only-stable r, λ e. subst (Stable g) (sym e) paired-stable)
 
   -- a set with the two facts is `paired`
   pub settled-paired : (s : Pairs) → Settled g s → s ≡ paired g

@@ -81,7 +81,8 @@ module _ (keys : List Float) (m n : ℕ) (hm : m ≤ 32) (hn : n ≤ 32) where
             k = keyed (w .by) (w .inside)
 
             go : Free (w .by) ⊎ Held (w .by) → ShareTrack (w .by) p → ⊥
-            go (inl f) s = asymmetric g (ordered keys m n) (w .by) p (w .earlier) (least (w .by) (record { keyed = k; first = f .0; second = f .1 }))
+            go (inl f) s = asymmetric g (ordered keys m n) (w .by) p (to-candidate keys m n (w .by) k) (to-candidate keys m n p (o .keyed)) (w .earlier)
+                (least (w .by) (record { keyed = k; first = f .0; second = f .1 }))
             go (inr f) (inl e) = let a : w .by .second ≡ nobody = sym (f .0) ∙ ap (λ (z : ℕ). getD firsts z 0) e ∙ o .first in omega (arith, k .second)
             go (inr f) (inr e) = let a : w .by .first ≡ nobody = sym (f .1) ∙ ap (λ (z : ℕ). getD seconds z 0) e ∙ o .second in omega (arith, k .first)
 

@@ -29,11 +29,11 @@ pub record Candidates : Type 0 where
   pub candidate : Pairs
   pub earlier : Pair → Pair → Bool
 
--- What is asked of them: candidates pair tracks that there are, and their order is strict and total.
+-- What is asked of them: candidates pair tracks that there are, and the order is strict and total on the candidates.
 pub record Ordered (g : Candidates) : Type 0 where
   pub within : (p : Pair) → T (has (g .candidate) p) → (p .first < g .firsts) × (p .second < g .seconds)
-  pub irreflexive : (p : Pair) → T (g .earlier p p) → ⊥
-  pub transitive : (p q r : Pair) → T (g .earlier p q) → T (g .earlier q r) → T (g .earlier p r)
+  pub irreflexive : (p : Pair) → T (has (g .candidate) p) → T (g .earlier p p) → ⊥
+  pub transitive : (p q r : Pair) → T (has (g .candidate) p) → T (has (g .candidate) q) → T (has (g .candidate) r) → T (g .earlier p q) → T (g .earlier q r) → T (g .earlier p r)
   pub total : (p q : Pair) → T (has (g .candidate) p) → T (has (g .candidate) q) → (p ≡ q) ⊎ (T (g .earlier p q) ⊎ T (g .earlier q p))
 
 -- ---- pairings
