@@ -1,5 +1,5 @@
 -- Sizes of finite doubles over a common denominator 2 ^ n: `lt-sized` and `eq-sized` say that doubles compare as these whole numbers do, with their signs.
-use Prim.Native.Nat.{ℕ, zero, suc, _+_, _-_, _*_, _^_, _<_, _≤_}
+use Prim.Native.Nat.{ℕ, suc, _+_, _-_, _*_, _^_, _<_, _≤_}
 use native.Mathlib.Nat.{zero-mul, add-mul, mul-pos, mul-assoc, mul-comm, mul-left-comm, mul-lt-mul-of-pos-right, lt-of-mul-lt-mul-right}
 use native.Mathlib.Decide.{decLt, ℕ-discrete}
 use native.Mathlib.Omega.{arith}

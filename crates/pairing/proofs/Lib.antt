@@ -1,5 +1,6 @@
 pub mod Tests
 pub mod Sorting
+pub mod Least
 pub mod Pairings
 pub mod Settled
 pub mod Blocking
@@ -11,4 +12,5 @@ pub mod Chosen
 pub mod Entries
 pub mod Tables
 pub mod Struck
+pub mod Restricted
 pub mod Rekeyed

@@ -1,9 +1,9 @@
 -- Laws of pairings: what is known of a free track (`free-first`, `free-second`) and of one that is not (`held-first`, `held-second`), and `with-pairing`, that
 -- a candidate whose tracks are free makes a pairing with the pairs of a pairing.
 use Prim.Native.Nat.{ℕ}
-use mathlib.Core.Path.{_≡_, refl, sym, ap, subst, _∙_}
+use mathlib.Core.Path.{_≡_, sym, subst, _∙_}
 use mathlib.Core.Logic.{_⊎_, inl, inr, ⊎-elim}
-use mathlib.Core.Bool.{Bool, true, false, not, _&&_, _||_}
+use mathlib.Core.Bool.{Bool, true, false, not}
 use lib.Dec.{T, eqb, eqb→eq, eqb-refl}
 use Rattle.pairing.specs.Pairing.{Pair, pair, Pairs, has, Candidates, Ordered, ShareTrack, Pairing, some, freeFirst, freeSecond, samePair, withPair}
 use Rattle.pairing.proofs.Tests.{both, left, right, or-left, or-right, or-cases, some-where, none-at}

@@ -1,57 +1,19 @@
--- Other keys for the same tracks. Where a NaN stands in for the keys of some pairs, the other candidates are left, in their order (`restricted-candidate`, `restricted-order`): so the
--- tracks that are free of another pairing are paired. Where the row or the column of a free track is struck, everybody keeps his partner (`struck-row`, `struck-column`).
+-- Keys without a row or a column: where the first or the second track that it belongs to is free, everybody keeps his partner (`struck-row`, `struck-column`).
 use Prim.Native.Nat.{ℕ, suc, _<_, _≤_}
 use native.Mathlib.Decide.{decLt}
 use native.Mathlib.Omega.{arith}
-use mathlib.Core.Path.{_≡_, refl, sym, ap, subst}
+use mathlib.Core.Path.{_≡_, sym, ap, subst}
 use mathlib.Core.Logic.{_⊎_, inl, inr}
-use mathlib.Core.Bool.{Bool, true, false, not, _&&_, cond}
+use mathlib.Core.Bool.{not}
 use mathlib.Core.List.{List}
 use lib.Dec.{T}
-use lib.Ieee.{Float, nan, isNan}
-use Rattle.pairing.specs.Pairing.{Pair, pair, has, freeFirst, freeSecond, paired}
+use lib.Ieee.{Float, isNan}
+use Rattle.pairing.specs.Pairing.{Pair, pair, freeFirst, freeSecond, paired}
 use Rattle.pairing.specs.Keys.{keyOf, byIndex, byKey, fromKeys}
-use Rattle.pairing.proofs.Tests.{both, left, right, alike, is-true}
-use Rattle.pairing.proofs.Keys.{Index, of-index, to-index, Keyed, of-candidate, to-candidate, ordered}
+use Rattle.pairing.proofs.Tests.{alike}
+use Rattle.pairing.proofs.Keys.{Index, of-index, to-index, of-candidate, to-candidate, ordered}
+use Rattle.pairing.proofs.Restricted.{IsCandidate}
 use Rattle.pairing.proofs.Struck.{image, past, past-cases, struck-first, struck-second}
-
-abbrev Candidate : List Float → ℕ → ℕ → Pair → Bool
-Candidate keys m n p = has (fromKeys keys m n .candidate) p
-
--- ---- fewer candidates
-
-module _ (keys others : List Float) (m n : ℕ) (kept : Pair → Bool)
-    (h : (p : Pair) → p .first < m → p .second < n → keyOf others n p ≡ cond (kept p) (keyOf keys n p) nan) where
-  chosen : (p : Pair) → Keyed others m n p → T (kept p) × (keyOf others n p ≡ keyOf keys n p)
-  unfolding isNan
-  chosen p k = go (kept p) refl (h p (k .first) (k .second))
-    where
-      go : (t : Bool) → kept p ≡ t → keyOf others n p ≡ cond t (keyOf keys n p) nan → T (kept p) × (keyOf others n p ≡ keyOf keys n p)
-      go true e f = (subst T (sym e) tt, f)
-      go false e f = absurd (subst (λ (x : Float). T (not (isNan x))) f (k .number))
-
-  pub restricted-candidate : (p : Pair) → Candidate others m n p ≡ (Candidate keys m n p && kept p)
-  restricted-candidate p = alike (Candidate others m n p) (Candidate keys m n p && kept p) forth back
-    where
-      forth : T (Candidate others m n p) → T (Candidate keys m n p && kept p)
-      forth t =
-          let k = of-candidate others m n p t in
-          let c = chosen p k in
-          let number : T (not (isNan (keyOf keys n p))) = subst (λ (x : Float). T (not (isNan x))) (c .1) (k .number) in
-          both (Candidate keys m n p) (kept p) (to-candidate keys m n p (record { first = k .first; second = k .second; number = number })) (c .0)
-
-      back : T (Candidate keys m n p && kept p) → T (Candidate others m n p)
-      back t =
-          let k = of-candidate keys m n p (left (Candidate keys m n p) (kept p) t) in
-          let e : kept p ≡ true = is-true (kept p) (right (Candidate keys m n p) (kept p) t) in
-          let f : keyOf others n p ≡ keyOf keys n p = subst (λ (b : Bool). keyOf others n p ≡ cond b (keyOf keys n p) nan) e (h p (k .first) (k .second)) in
-          to-candidate others m n p (record { first = k .first; second = k .second; number = subst (λ (x : Float). T (not (isNan x))) (sym f) (k .number) })
-
-  pub restricted-order : (p q : Pair) → T (Candidate others m n p) → T (Candidate others m n q) → byKey others n p q ≡ byKey keys n p q
-  unfolding byKey
-  restricted-order p q a b = rw (chosen p (of-candidate others m n p a) .1, chosen q (of-candidate others m n q b) .1)
-
--- ---- fewer tracks
 
 -- the tracks of the shortened lists in the longer ones, in the same order
 record Placed (a : ℕ → ℕ) (few many : ℕ) : Type 0 where
@@ -77,10 +39,10 @@ rising-one a f i k e = go (decLt i k) (decLt k i)
 
 module _ (keys fewer : List Float) (m n m' n' : ℕ) (a b : ℕ → ℕ) (pa : Placed a m' m) (pb : Placed b n' n)
     (h : (p : Pair) → p .first < m' → p .second < n' → keyOf fewer n' p ≡ keyOf keys n (image a b p)) where
-  placed-candidate : (p : Pair) → Candidate fewer m' n' p ≡ Candidate keys m n (image a b p)
-  placed-candidate p = alike (Candidate fewer m' n' p) (Candidate keys m n (image a b p)) forth back
+  placed-candidate : (p : Pair) → IsCandidate fewer m' n' p ≡ IsCandidate keys m n (image a b p)
+  placed-candidate p = alike (IsCandidate fewer m' n' p) (IsCandidate keys m n (image a b p)) forth back
     where
-      forth : T (Candidate fewer m' n' p) → T (Candidate keys m n (image a b p))
+      forth : T (IsCandidate fewer m' n' p) → T (IsCandidate keys m n (image a b p))
       forth t =
           let k = of-candidate fewer m' n' p t in
           to-candidate keys m n (image a b p) (record {
@@ -89,7 +51,7 @@ module _ (keys fewer : List Float) (m n m' n' : ℕ) (a b : ℕ → ℕ) (pa : P
             number = subst (λ (x : Float). T (not (isNan x))) (h p (k .first) (k .second)) (k .number);
           })
 
-      back : T (Candidate keys m n (image a b p)) → T (Candidate fewer m' n' p)
+      back : T (IsCandidate keys m n (image a b p)) → T (IsCandidate fewer m' n' p)
       back t =
           let k = of-candidate keys m n (image a b p) t in
           let f = pa .only (p .first) (k .first) in
@@ -110,7 +72,7 @@ module _ (keys fewer : List Float) (m n m' n' : ℕ) (a b : ℕ → ℕ) (pa : P
       back (inl l) = inl (rising-back a (pa .rising) (p .first) (q .first) l)
       back (inr l) = inr (rising-one a (pa .rising) (p .first) (q .first) (l .0), rising-back b (pb .rising) (p .second) (q .second) (l .1))
 
-  placed-order : (p q : Pair) → T (Candidate fewer m' n' p) → T (Candidate fewer m' n' q) → byKey fewer n' p q ≡ byKey keys n (image a b p) (image a b q)
+  placed-order : (p q : Pair) → T (IsCandidate fewer m' n' p) → T (IsCandidate fewer m' n' q) → byKey fewer n' p q ≡ byKey keys n (image a b p) (image a b q)
   unfolding byKey
   placed-order p q s t =
       let k = of-candidate fewer m' n' p s in

@@ -4,11 +4,12 @@ use Prim.Native.Nat.{ℕ}
 use mathlib.Core.Path.{_≡_, refl, sym, subst, fun-ext}
 use mathlib.Core.Logic.{_↔_, _⊎_, inl, inr}
 use mathlib.Core.Bool.{Bool, true, false, not, Bool·beq, Bool-discrete}
-use mathlib.Core.List.{List, [], _∷_}
+use mathlib.Core.List.{List}
 use lib.Dec.{T, T-not}
 use Rattle.pairing.specs.Pairing.{Pair, pair, Pairs, has, Candidates, Ordered, ShareTrack, Pairing, Stable, freeFirst, freeSecond, later, blocking, inOrder, paired}
 use Rattle.pairing.proofs.Tests.{either, both, left, right}
-use Rattle.pairing.proofs.Sorting.{Mem, Candidate, Upto, Sorted, Listed, upto-trans, listed, listed-all}
+use Rattle.pairing.proofs.Sorting.{Candidate, Upto, Listed, upto-trans, listed, listed-all}
+use Rattle.pairing.proofs.Least.{Least, find-least}
 use Rattle.pairing.proofs.Pairings.{In, Out, free-first, free-second, held-first, held-second}
 use Rattle.pairing.proofs.Settled.{Preceded, Settled, settled}
 use Rattle.pairing.proofs.Blocking.{Yields, Blocks, blocks-of, of-blocks}
@@ -37,34 +38,6 @@ module _ (g : Candidates) (o : Ordered g) where
           go (inl e) (inr v) n = again p (b .candidate) w (pair (p .first) (v .0)) (inl e) (v .1)
           go (inr e) f (inl n) = free-second g o s (d .pairing) (w .by) (subst (λ (x : ℕ). T (freeSecond g s x)) (sym e) n) (w .inside)
           go (inr e) f (inr v) = again p (b .candidate) w (pair (v .0) (p .second)) (inr e) (v .1)
-
-  -- ---- the least pair of a list that passes a test
-
-  record Least (test : Pair → Bool) (l : List Pair) : Type 0 where
-    least : Pair
-    passes : T (test least)
-    inside : Mem least l
-    upto : (q : Pair) → Mem q l → T (test q) → Upto g least q
-
-  find-least : (test : Pair → Bool) (l : List Pair) → Sorted g l → (q : Pair) → Mem q l → T (test q) → Least test l
-  find-least test [] d q m t = absurd m
-  find-least test (p ∷ l) d q m t = go (either (test p)) m (λ k. find-least test l (d .1) q k t)
-    where
-      none : T (not (test p)) → (r : Pair) → r ≡ p → T (test r) → ⊥
-      none h r e u = T-not (test p) h (subst (λ (x : Pair). T (test x)) e u)
-
-      first : T (test p) → (r : Pair) → Mem r (p ∷ l) → Upto g p r
-      first h r (inl e) = inl (sym e)
-      first h r (inr k) = d .0 r k
-
-      beyond : T (not (test p)) → (w : Least test l) → (r : Pair) → Mem r (p ∷ l) → T (test r) → Upto g (w .least) r
-      beyond h w r (inl e) u = absurd (none h r e u)
-      beyond h w r (inr k) u = w .upto r k u
-
-      go : T (test p) ⊎ T (not (test p)) → Mem q (p ∷ l) → (Mem q l → Least test l) → Least test (p ∷ l)
-      go (inl h) m f = record { least = p; passes = h; inside = inl refl; upto = λ r k u. first h r k }
-      go (inr h) (inl e) f = absurd (none h q e t)
-      go (inr h) (inr k) f = let w = f k in record { least = w .least; passes = w .passes; inside = inr (w .inside); upto = beyond h w }
 
   -- ---- another pairing: the least pair p in which r differs from s is in s, and blocks r
 
@@ -122,7 +95,7 @@ module _ (g : Candidates) (o : Ordered g) where
       let k : Listed g l = listed g o (g .firsts) in
       let c : Candidate g q = candidate (has s q) (has r q) refl refl n in
       let test : Pair → Bool = λ x. not (Bool·beq (has s x) (has r x)) in
-      let w : Least test l = find-least test l (k .sorted) q (listed-all g o q c) (differ (has s q) (has r q) n) in
+      let w : Least g test l = find-least g test l (k .sorted) q (listed-all g o q c) (differ (has s q) (has r q) n) in
       let p = w .least in (
         p,
         least-blocks s r d y p (k .only p (w .inside)) (λ x a h. agree (has s x) (has r x) (λ t. asymmetric x p a (k .only p (w .inside)) h (w .upto x (listed-all g o x a) t)))

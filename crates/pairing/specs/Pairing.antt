@@ -3,7 +3,7 @@
 use Prim.Native.Nat.{ℕ, zero, suc, _<_}
 use mathlib.Core.Path.{_≡_}
 use mathlib.Core.Logic.{_⊎_}
-use mathlib.Core.Bool.{Bool, true, false, not, _&&_, _||_, cond}
+use mathlib.Core.Bool.{Bool, false, not, _&&_, _||_, cond}
 use mathlib.Core.List.{List, [], _∷_}
 use lib.Dec.{T, eqb}
 
