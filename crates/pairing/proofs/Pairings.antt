@@ -5,13 +5,10 @@ use mathlib.Core.Path.{_≡_, sym, subst, _∙_}
 use mathlib.Core.Logic.{_⊎_, inl, inr, ⊎-elim}
 use mathlib.Core.Bool.{Bool, true, false, not}
 use lib.Dec.{T, eqb, eqb→eq, eqb-refl}
-use Rattle.pairing.specs.Pairing.{Pair, pair, Pairs, has, Candidates, Ordered, ShareTrack, Pairing, some, freeFirst, freeSecond, samePair, withPair}
+use Rattle.pairing.specs.Pairing.{Pair, pair, Pairs, has, In, Candidates, Ordered, ShareTrack, Pairing, some, freeFirst, freeSecond, samePair, withPair}
 use Rattle.pairing.proofs.Tests.{both, left, right, or-left, or-right, or-cases, some-where, none-at}
 
--- p is in the set
-abbrev pub In : Pairs → Pair → Type 0
-In s p = T (has s p)
-
+-- p is not in the set
 abbrev pub Out : Pairs → Pair → Type 0
 Out s p = T (not (has s p))
 

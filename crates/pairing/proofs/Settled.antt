@@ -5,10 +5,10 @@ use mathlib.Core.Logic.{_⊎_, inl, inr, ⊎-elim}
 use mathlib.Core.Bool.{Bool, true, false, not, _&&_, cond}
 use mathlib.Core.List.{List, [], _∷_}
 use lib.Dec.{T, T-not, not-T}
-use Rattle.pairing.specs.Pairing.{Pair, pair, Pairs, Candidates, Ordered, ShareTrack, Pairing, freeFirst, freeSecond, withPair, taking, inOrder, paired}
+use Rattle.pairing.specs.Pairing.{Pair, pair, Pairs, In, Candidates, Ordered, ShareTrack, Pairing, freeFirst, freeSecond, withPair, taking, inOrder, paired}
 use Rattle.pairing.proofs.Tests.{either, both}
 use Rattle.pairing.proofs.Sorting.{Mem, Candidate, Upto, Sorted, Listed, listed, listed-all}
-use Rattle.pairing.proofs.Pairings.{In, Out, held-first, held-second, with-cases, with-keeps, with-new, with-pairing}
+use Rattle.pairing.proofs.Pairings.{Out, held-first, held-second, with-cases, with-keeps, with-new, with-pairing}
 
 -- a pair of the set that shares a track with p and comes earlier
 pub record Preceded (g : Candidates) (s : Pairs) (p : Pair) : Type 0 where

@@ -7,7 +7,7 @@ use mathlib.Core.Logic.{_⊎_, inl, inr, ⊎-elim}
 use mathlib.Core.Bool.{Bool, true, false, not, cond}
 use mathlib.Core.List.{List, [], _∷_}
 use lib.Dec.{T, T-not}
-use Rattle.pairing.specs.Pairing.{Pair, pair, has, Candidates, Ordered, insert, insertRow, inOrder}
+use Rattle.pairing.specs.Pairing.{Pair, pair, In, Candidates, Ordered, insert, insertRow, inOrder}
 
 -- q is in the list
 abbrev pub Mem : Pair → List Pair → Type 0
@@ -15,7 +15,7 @@ Mem q [] = ⊥
 Mem q (p ∷ l) = (q ≡ p) ⊎ Mem q l
 
 abbrev pub Candidate : Candidates → Pair → Type 0
-Candidate g p = T (has (g .candidate) p)
+Candidate g p = In (g .candidate) p
 
 -- p is q, or comes earlier
 abbrev pub Upto : Candidates → Pair → Pair → Type 0

@@ -6,11 +6,11 @@ use mathlib.Core.Logic.{_↔_, _⊎_, inl, inr}
 use mathlib.Core.Bool.{Bool, true, false, not, Bool·beq, Bool-discrete}
 use mathlib.Core.List.{List}
 use lib.Dec.{T, T-not}
-use Rattle.pairing.specs.Pairing.{Pair, pair, Pairs, has, Candidates, Ordered, ShareTrack, Pairing, Stable, freeFirst, freeSecond, later, blocking, inOrder, paired}
+use Rattle.pairing.specs.Pairing.{Pair, pair, Pairs, has, In, Candidates, Ordered, ShareTrack, Pairing, Stable, freeFirst, freeSecond, later, blocking, inOrder, paired}
 use Rattle.pairing.proofs.Tests.{either, both, left, right}
 use Rattle.pairing.proofs.Sorting.{Candidate, Upto, Listed, upto-trans, listed, listed-all}
 use Rattle.pairing.proofs.Least.{Least, find-least}
-use Rattle.pairing.proofs.Pairings.{In, Out, free-first, free-second, held-first, held-second}
+use Rattle.pairing.proofs.Pairings.{Out, free-first, free-second, held-first, held-second}
 use Rattle.pairing.proofs.Settled.{Preceded, Settled, settled}
 use Rattle.pairing.proofs.Blocking.{Yields, Blocks, blocks-of, of-blocks}
 
@@ -89,7 +89,7 @@ module _ (g : Candidates) (o : Ordered g) where
   agree false true n = absurd (n tt)
   agree false false n = refl
 
-  pub settled-blocks : (s : Pairs) → Settled g s → (r : Pairs) → Pairing g r → (q : Pair) → (has r q ≡ has s q → ⊥) → (p : Pair) × T (has (blocking g r) p)
+  pub settled-blocks : (s : Pairs) → Settled g s → (r : Pairs) → Pairing g r → (q : Pair) → (has r q ≡ has s q → ⊥) → (p : Pair) × In (blocking g r) p
   settled-blocks s d r y q n =
       let l : List Pair = inOrder g (g .firsts) in
       let k : Listed g l = listed g o (g .firsts) in
@@ -112,7 +112,7 @@ module _ (g : Candidates) (o : Ordered g) where
   pub paired-stable : Stable g (paired g)
   paired-stable = settled-stable (paired g) (settled g o)
 
-  pub others-blocked : (r : Pairs) → Pairing g r → (q : Pair) → (has r q ≡ has (paired g) q → ⊥) → (p : Pair) × T (has (blocking g r) p)
+  pub others-blocked : (r : Pairs) → Pairing g r → (q : Pair) → (has r q ≡ has (paired g) q → ⊥) → (p : Pair) × In (blocking g r) p
   others-blocked = settled-blocks (paired g) (settled g o)
 
   pub only-stable : (r : Pairs) → Stable g r → r ≡ paired g

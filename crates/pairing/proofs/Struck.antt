@@ -9,8 +9,8 @@ use mathlib.Core.Logic.{_⊎_, inl, inr}
 use mathlib.Core.Bool.{cond}
 use lib.Dec.{T, ltb}
 use borrow.Author.Tests.{lt-ltb, le-ltb}
-use Rattle.pairing.specs.Pairing.{Pair, pair, Pairs, has, Candidates, Ordered, ShareTrack, freeFirst, freeSecond, paired}
-use Rattle.pairing.proofs.Pairings.{In, pair-path, free-first, free-second}
+use Rattle.pairing.specs.Pairing.{Pair, pair, Pairs, has, In, Candidates, Ordered, ShareTrack, freeFirst, freeSecond, paired}
+use Rattle.pairing.proofs.Pairings.{pair-path, free-first, free-second}
 use Rattle.pairing.proofs.Settled.{Preceded, Settled, settled}
 use Rattle.pairing.proofs.Stable.{settled-paired}
 

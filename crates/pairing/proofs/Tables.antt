@@ -9,11 +9,10 @@ use lib.Dec.{T}
 use lib.ListN.{length, getD, set, length-set}
 use lib.Ieee.{Float}
 use Rattle.kernel.proofs.Lists.{length-tabulate, getD-tabulate, by-elements}
-use Rattle.pairing.specs.Pairing.{Pair, pair, has, Candidates, ShareTrack, paired}
+use Rattle.pairing.specs.Pairing.{Pair, pair, has, In, Candidates, ShareTrack, paired}
 use Rattle.pairing.specs.Keys.{fromKeys, nobody, partner, firstPartners, secondPartners}
 use Rattle.pairing.specs.Search.{nobodies, Underway}
 use Rattle.pairing.proofs.Tests.{either}
-use Rattle.pairing.proofs.Pairings.{In}
 use Rattle.pairing.proofs.Settled.{Preceded, Settled, settled}
 use Rattle.pairing.proofs.Stable.{asymmetric}
 use Rattle.pairing.proofs.Keys.{Keyed, of-candidate, to-candidate, ordered}

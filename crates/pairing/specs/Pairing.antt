@@ -15,12 +15,16 @@ pub record Pair : Type 0 where
 abbrev pub pair : ℕ → ℕ → Pair
 pair i j = record { first = i; second = j }
 
--- A set of pairs, by its characteristic function: two sets are equal where they hold the samePair pairs.
+-- A set of pairs, by its characteristic function: two sets are equal where they hold the same pairs.
 abbrev pub Pairs : Type 0
 Pairs = ℕ → ℕ → Bool
 
 abbrev pub has : Pairs → Pair → Bool
 has s p = s (p .first) (p .second)
+
+-- The pair is in the set.
+abbrev pub In : Pairs → Pair → Type 0
+In s p = T (has s p)
 
 -- How many first and second tracks there are, which of their pairs are candidates, and which of two candidates comes earlier.
 pub record Candidates : Type 0 where
@@ -31,20 +35,21 @@ pub record Candidates : Type 0 where
 
 -- What is asked of them: candidates pair tracks that there are, and the order is strict and total on the candidates.
 pub record Ordered (g : Candidates) : Type 0 where
-  pub within : (p : Pair) → T (has (g .candidate) p) → (p .first < g .firsts) × (p .second < g .seconds)
-  pub irreflexive : (p : Pair) → T (has (g .candidate) p) → T (g .earlier p p) → ⊥
-  pub transitive : (p q r : Pair) → T (has (g .candidate) p) → T (has (g .candidate) q) → T (has (g .candidate) r) → T (g .earlier p q) → T (g .earlier q r) → T (g .earlier p r)
-  pub total : (p q : Pair) → T (has (g .candidate) p) → T (has (g .candidate) q) → (p ≡ q) ⊎ (T (g .earlier p q) ⊎ T (g .earlier q p))
+  pub within : (p : Pair) → In (g .candidate) p → (p .first < g .firsts) × (p .second < g .seconds)
+  pub irreflexive : (p : Pair) → In (g .candidate) p → T (g .earlier p p) → ⊥
+  pub transitive : (p q r : Pair) → In (g .candidate) p → In (g .candidate) q → In (g .candidate) r → T (g .earlier p q) → T (g .earlier q r) → T (g .earlier p r)
+  pub total : (p q : Pair) → In (g .candidate) p → In (g .candidate) q → (p ≡ q) ⊎ (T (g .earlier p q) ⊎ T (g .earlier q p))
 
 -- ---- pairings
 
+-- Two pairs share a track where their first or their second one is the same.
 abbrev pub ShareTrack : Pair → Pair → Type 0
 ShareTrack p q = (p .first ≡ q .first) ⊎ (p .second ≡ q .second)
 
 -- A set of candidates that share no track.
 pub record Pairing (g : Candidates) (s : Pairs) : Type 0 where
-  pub candidates : (p : Pair) → T (has s p) → T (has (g .candidate) p)
-  pub apart : (p q : Pair) → T (has s p) → T (has s q) → ShareTrack p q → p ≡ q
+  pub candidates : (p : Pair) → In s p → In (g .candidate) p
+  pub apart : (p q : Pair) → In s p → In s q → ShareTrack p q → p ≡ q
 
 -- Whether a test passes for some number below n.
 unfoldable pub some : ℕ → (ℕ → Bool) → Bool
@@ -60,7 +65,7 @@ unfoldable pub freeSecond : Candidates → Pairs → ℕ → Bool
 unfolding some
 freeSecond g s j = not (some (g .firsts) (λ i. s i j))
 
--- Whether a pair of the set comes later than the pair p.
+-- Whether q is a pair of the set that comes later than p.
 abbrev pub later : Candidates → Pairs → Pair → Pair → Bool
 later g s p q = has s q && g .earlier p q
 
@@ -76,7 +81,7 @@ blocking g s i j =
 -- A pairing that no pair blocks.
 pub record Stable (g : Candidates) (s : Pairs) : Type 0 where
   pub pairing : Pairing g s
-  pub unblocked : (p : Pair) → T (has (blocking g s) p) → ⊥
+  pub unblocked : (p : Pair) → In (blocking g s) p → ⊥
 
 -- ---- the pairing that takes the candidates in their order
 
@@ -97,6 +102,7 @@ unfolding insertRow
 inOrder g zero = []
 inOrder g (suc i) = insertRow g i (g .seconds) (inOrder g i)
 
+-- Whether two pairs are the same.
 abbrev pub samePair : Pair → Pair → Bool
 samePair p q = eqb (p .first) (q .first) && eqb (p .second) (q .second)
 
