@@ -86,13 +86,13 @@ fits : (c : tie.Else1 Inv-loop μ-loop) → let a = entered (turned (one-found c
 fits c = first-of c .inside .keyed
 
 cast-firsts : tie.Need-cast-firsts Inv-loop μ-loop
-cast-firsts c = omega (arith, fits c .second, entered (turned (one-found c)) .pre .1)
+cast-firsts c = omega (arith, fits c, entered (turned (one-found c)) .pre)
 
 slice-write-firsts : tie.Need-slice-write-firsts Inv-loop μ-loop
 slice-write-firsts c = omega (arith, fits c .first, turned (one-found c) .loop .inv .all-firsts)
 
 cast-seconds : tie.Need-cast-seconds Inv-loop μ-loop
-cast-seconds c = omega (arith, fits c .first, entered (turned (one-found c)) .pre .0)
+cast-seconds c = omega (arith, fits c, entered (turned (one-found c)) .pre)
 
 slice-write-seconds : tie.Need-slice-write-seconds Inv-loop μ-loop
 slice-write-seconds c = omega (arith, fits c .second, turned (one-found c) .loop .inv .all-seconds)
