@@ -42,8 +42,9 @@ vectors: capi
 	$(cargo) oracle/Cargo.toml -- vectors
 
 bench: capi
+	rt staticlib pairing
 	$(cargo) bench/Cargo.toml
 
-# The static library that the runs above link.
+# The static library that the runs above link. The bench links that of the pairing too.
 capi:
 	rt staticlib capi

@@ -1,6 +1,7 @@
 //! Times of the library's calls beside the Rust's, in one run: the ratio is what counts.
 mod lists;
 mod matrix;
+mod pairing;
 mod root;
 mod timer;
 
@@ -13,4 +14,5 @@ fn main() {
     root::run();
     matrix::run();
     lists::run();
+    pairing::run();
 }

@@ -6,5 +6,8 @@ pub mod Doubles
 pub mod Patterns
 pub mod Root
 pub mod Signs
+pub mod Sizes
+pub mod Places
+pub mod Order
 pub mod SquareRoot
 pub mod Existence

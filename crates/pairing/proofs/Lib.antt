@@ -1,0 +1,16 @@
+pub mod Tests
+pub mod Sorting
+pub mod Least
+pub mod Pairings
+pub mod Settled
+pub mod Blocking
+pub mod Stable
+pub mod Keys
+pub mod Searches
+pub mod Best
+pub mod Chosen
+pub mod Entries
+pub mod Tables
+pub mod Struck
+pub mod Restricted
+pub mod Rekeyed
