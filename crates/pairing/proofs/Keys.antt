@@ -127,7 +127,7 @@ module _ (keys : List Float) (m n : ℕ) where
     within = λ p c. let h = of-candidate p c in (h .first, h .second);
     irreflexive = λ p c t. key-irreflexive keys n p (of-key keys n p p t);
     transitive = λ p q r a b c t u. to-key keys n p r (key-transitive keys n p q r (of-key keys n p q t) (of-key keys n q r u));
-    total = λ p q c d. tested p q (key-total keys n p q (of-candidate p c .number) (of-candidate q d .number));
+    comparable = λ p q c d. tested p q (key-total keys n p q (of-candidate p c .number) (of-candidate q d .number));
   }
     where
       tested : (p q : Pair) → (p ≡ q) ⊎ (Key keys n p q ⊎ Key keys n q p) → (p ≡ q) ⊎ (T (byKey keys n p q) ⊎ T (byKey keys n q p))

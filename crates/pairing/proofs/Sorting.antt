@@ -37,7 +37,7 @@ module _ (g : Candidates) (o : Ordered g) where
 
   -- what is not earlier comes after
   pub upto-of-not : (p q : Pair) → Candidate g p → Candidate g q → T (not (g .earlier p q)) → Upto g q p
-  upto-of-not p q a b h = go (o .total p q a b)
+  upto-of-not p q a b h = go (o .comparable p q a b)
     where
       go : (p ≡ q) ⊎ (T (g .earlier p q) ⊎ T (g .earlier q p)) → Upto g q p
       go (inl e) = inl (sym e)

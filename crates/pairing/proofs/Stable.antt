@@ -50,7 +50,7 @@ module _ (g : Candidates) (o : Ordered g) where
 
     -- what r has on a track of p comes later
     comes-later : In s p → Out r p → (q : Pair) → In r q → ShareTrack q p → T (later g r p q)
-    comes-later t n q u h = both (has r q) (g .earlier p q) u (go (o .total p q c (y .candidates q u)))
+    comes-later t n q u h = both (has r q) (g .earlier p q) u (go (o .comparable p q c (y .candidates q u)))
       where
         distinct : p ≡ q → ⊥
         distinct e = T-not (has r p) n (subst (In r) (sym e) u)

@@ -38,7 +38,7 @@ pub record Ordered (g : Candidates) : Type 0 where
   pub within : (p : Pair) → In (g .candidate) p → (p .first < g .firsts) × (p .second < g .seconds)
   pub irreflexive : (p : Pair) → In (g .candidate) p → T (g .earlier p p) → ⊥
   pub transitive : (p q r : Pair) → In (g .candidate) p → In (g .candidate) q → In (g .candidate) r → T (g .earlier p q) → T (g .earlier q r) → T (g .earlier p r)
-  pub total : (p q : Pair) → In (g .candidate) p → In (g .candidate) q → (p ≡ q) ⊎ (T (g .earlier p q) ⊎ T (g .earlier q p))
+  pub comparable : (p q : Pair) → In (g .candidate) p → In (g .candidate) q → (p ≡ q) ⊎ (T (g .earlier p q) ⊎ T (g .earlier q p))
 
 -- ---- pairings
 
