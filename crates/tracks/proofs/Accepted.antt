@@ -10,18 +10,19 @@ use lib.Ieee.{binary64, nanBits}
 use lib.Ieee.Bits.{nanBits-above}
 use lib.ListN.{length}
 use borrow.Author.Tests.{leb-true, eqb-true, not-true, ltb-true, le-ltb, le-leb, lt-leb}
-use Rattle.kernel.specs.Answer.{Outcome, refused, answered, ask}
-use Rattle.tracks.specs.Format.{fields, mapBytes, stands, word, finite, spare}
-use Rattle.tracks.specs.Read.{Item, stored, storedIf, field, items, track, tracks, count, dimension, countMet, dimensionMet, whole, contents, fitting, reading}
+use Rattle.kernel.specs.Answer.{Outcome, refused, answered, ask, andThen}
+use Rattle.tracks.specs.Format.{fields, mapBytes, stands, word, spare, finiteBits}
+use Rattle.tracks.specs.Read.{Item, stored, storedIf, field, items, track, tracks, count, dimension, countMet, dimensionMet, nothingAfter, contents, reading}
 use Rattle.tracks.specs.Calls.{ends, readAnswer}
 use Rattle.tracks.specs.declared.format.ReadList.the-variants as ReadList
 use Rattle.tracks.specs.declared.format.Checked.the-variants.{End, Refused}
-use Rattle.tracks.proofs.Items.{ended, stopped, answered-inj, ask-met, items-ind, items-length}
+use Rattle.tracks.proofs.Items.{ended, stopped, items-ind, items-length}
+use Rattle.kernel.proofs.Answers.{answered-inj, ask-met, and-then-met}
 
 -- a stored field: it is all there, finite, and not all zero bits
 pub record Stored (l : List ℕ) (at : ℕ) (x : Item ℕ) : Type 0 where
   pub there : at + 8 ≤ length l
-  pub finite : finite (word l at) ≡ true
+  pub finite : finiteBits (word l at) ≡ true
   pub nonzero : eqb (word l at) 0 ≡ false
   pub value : x .value ≡ word l at
   pub next : x .next ≡ at + 8
@@ -30,7 +31,7 @@ pub stored-met : (l : List ℕ) (at : ℕ) {x : Item ℕ} → stored l at ≡ an
 unfolding stored
 stored-met l at e =
     let a = ask-met 12 (leb (at + 8) (length l)) _ e in
-    let b = ask-met 14 (finite (word l at)) _ (a .1) in
+    let b = ask-met 14 (finiteBits (word l at)) _ (a .1) in
     let d = ask-met 15 (not (eqb (word l at) 0)) _ (b .1) in
     record { there = leb-true _ _ (a .0); finite = b .0; nonzero = not-true _ (d .0); value = cc; next = cc }
 
@@ -92,11 +93,12 @@ unfolding field
 field-absent l map k at b e = sym (answered-inj (rw b at e))
 
 -- a finite double is no NaN
-pub finite-no-nan : (b : ℕ) → finite b ≡ true → T (not (nanBits binary64 b))
+pub finite-no-nan : (b : ℕ) → finiteBits b ≡ true → T (not (nanBits binary64 b))
 finite-no-nan b h = rw (nanBits-above binary64 b ∙ le-ltb (2047 * 2 ^ 52) (b % 2 ^ 63) (omega (arith, ltb-true (b % 2 ^ 63) (2047 * 2 ^ 52) h))) tt
 
 -- a list whose first two bytes are accepted, by its tracks
-pub contents-head : (l : List ℕ) → 2 ≤ length l → countMet (count l) ≡ true → dimensionMet (dimension l) ≡ true → contents l ≡ whole (length l) (tracks l (fields (dimension l)) (count l))
+pub contents-head : (l : List ℕ) → 2 ≤ length l → countMet (count l) ≡ true → dimensionMet (dimension l) ≡ true
+    → contents l ≡ andThen (tracks l (fields (dimension l)) (count l)) (nothingAfter (length l))
 unfolding contents
 contents-head l h n d = simp (le-leb 2 (length l) h, n, d)
 
@@ -109,18 +111,16 @@ dimension-small d h = leb-true d 9 (and-right (leb 1 d) (leb d 9) h)
     and-right false b e = let z : _≡_ {A = ℕ} 0 1 = cc in absurd (omega arith)
 
 -- question 16, after tracks that end, and after a refusal
-pub whole-ended : (l : List ℕ) (n : ℕ) (o : Outcome (Item (List (List ℕ)))) {e : ℕ} → ends o ≡ End e → (b : Bool) → eqb e n ≡ b → readAnswer l (whole n o) ≡ readAnswer l (ask 16 b (answered []))
-unfolding whole
-whole-ended l n (refused q) p b e = let z : _≡_ {A = ℕ} 0 1 = cc in absurd (omega arith)
-whole-ended l n (answered x) {e = k} p b e = let s : x .next ≡ k = cc in rw (ap (λ (i : ℕ). eqb i n) s ∙ e) (by b)
+pub tracks-ended : (l : List ℕ) (n : ℕ) (o : Outcome (Item (List (List ℕ)))) {e : ℕ} → ends o ≡ End e → (b : Bool) → eqb e n ≡ b
+    → readAnswer l (andThen o (nothingAfter n)) ≡ readAnswer l (ask 16 b (answered []))
+tracks-ended l n o {e} p b q = let x = ended o e p in rw (x .1, ap (λ (i : ℕ). eqb i n) (x .2) ∙ q) (by b (x .0 .value))
   where
-    by : (b : Bool) → readAnswer l (ask 16 b (answered (x .value))) ≡ readAnswer l (ask 16 b (answered []))
-    by true = refl
-    by false = refl
+    by : (b : Bool) (ts : List (List ℕ)) → readAnswer l (ask 16 b (answered ts)) ≡ readAnswer l (ask 16 b (answered []))
+    by true ts = refl
+    by false ts = refl
 
-pub whole-stopped : (l : List ℕ) (n : ℕ) (o : Outcome (Item (List (List ℕ)))) {q : ℕ} → ends o ≡ Refused q → readAnswer l (whole n o) ≡ ReadList.Refused q
-unfolding whole
-whole-stopped l n o {q} p = rw (stopped o q p) refl
+pub tracks-stopped : (l : List ℕ) (n : ℕ) (o : Outcome (Item (List (List ℕ)))) {q : ℕ} → ends o ≡ Refused q → readAnswer l (andThen o (nothingAfter n)) ≡ ReadList.Refused q
+tracks-stopped l n o {q} p = rw (stopped o q p) refl
 
 -- an accepted list
 pub record Whole (l : List ℕ) (ts : List (List ℕ)) : Type 0 where
@@ -130,17 +130,21 @@ pub record Whole (l : List ℕ) (ts : List (List ℕ)) : Type 0 where
   pub read : tracks l (fields (dimension l)) (count l) ≡ answered (record { value = ts; next = length l })
 
 pub contents-met : (l : List ℕ) {ts : List (List ℕ)} → contents l ≡ answered ts → Whole l ts
-unfolding contents whole
+unfolding contents
 contents-met l {ts} e =
     let a = ask-met 9 (leb 2 (length l)) _ e in
     let b = ask-met 10 (countMet (count l)) _ (a .1) in
     let d = ask-met 11 (dimensionMet (dimension l)) _ (b .1) in
-    record { two = leb-true _ _ (a .0); few = b .0; sized = d .0; read = last _ (d .1) }
-  where
-    last : (o : Outcome (Item (List (List ℕ)))) → whole (length l) o ≡ answered ts → o ≡ answered (record { value = ts; next = length l })
-    last (refused q) e = let z : _≡_ {A = ℕ} 0 1 = cc in absurd (omega arith)
-    last (answered x) e = let a = ask-met 16 (eqb (x .next) (length l)) _ e in let n : x .next ≡ length l = eqb-true _ _ (a .0) in
-        ap (λ (v : List (List ℕ)). answered (record { value = v; next = x .next })) (answered-inj (a .1)) ∙ ap (λ (k : ℕ). answered (record { value = ts; next = k })) n
+    let t = and-then-met (tracks l (fields (dimension l)) (count l)) (nothingAfter (length l)) (d .1) in
+    let last = ask-met 16 (eqb (t .0 .next) (length l)) _ (t .2) in
+    let n : t .0 .next ≡ length l = eqb-true _ _ (last .0) in
+    let v : t .0 .value ≡ ts = answered-inj (last .1) in
+    record {
+      two = leb-true _ _ (a .0);
+      few = b .0;
+      sized = d .0;
+      read = t .1 ∙ ap (λ (u : List (List ℕ)). answered (record { value = u; next = t .0 .next })) v ∙ ap (λ (k : ℕ). answered (record { value = ts; next = k })) n;
+    }
 
 -- a list is accepted exactly if its answer is its first two bytes
 pub read-accepted : (l : List ℕ) {n d : ℕ} (o : Outcome (List (List ℕ))) → readAnswer l o ≡ ReadList.Read n d → (ts : List (List ℕ)) × (o ≡ answered ts) × (n ≡ count l) × (d ≡ dimension l)
@@ -153,13 +157,13 @@ read-refused l (answered ts) e = let z : _≡_ {A = ℕ} 0 1 = cc in absurd (ome
 
 -- question 2 after the others
 pub reading-fits : (l : List ℕ) (room : ℕ) {ts : List (List ℕ)} → contents l ≡ answered ts → count l * fields (dimension l) ≤ room → reading l room ≡ answered ts
-unfolding reading fitting
+unfolding reading
 reading-fits l room e h = rw e (simp (le-leb (count l * fields (dimension l)) room h))
 
 pub reading-short : (l : List ℕ) (room : ℕ) {ts : List (List ℕ)} → contents l ≡ answered ts → room < count l * fields (dimension l) → reading l room ≡ refused 2
-unfolding reading fitting
+unfolding reading
 reading-short l room e h = rw e (simp (lt-leb (count l * fields (dimension l)) room h))
 
 pub reading-refused : (l : List ℕ) (room : ℕ) {q : ℕ} → contents l ≡ refused q → reading l room ≡ refused q
-unfolding reading fitting
+unfolding reading
 reading-refused l room e = rw e refl

@@ -5,12 +5,12 @@ use native.Mathlib.Nat.{add-zero, add-suc, eq-or-lt-of-le}
 use mathlib.Core.Logic.{⊎-elim}
 use native.Mathlib.Numerals.{add-one}
 use mathlib.Core.Path.{_≡_, refl, sym, ap, _∙_, subst}
-use mathlib.Core.Bool.{Bool, true, false}
-use mathlib.Core.List.{List, [], _∷_, _++_}
+use mathlib.Core.List.{List, [], _∷_}
 use lib.ListN.{length, getD, length-append, List·getD-append}
 use lib.Seq.{getD-at}
-use Rattle.kernel.specs.Answer.{Outcome, refused, answered, ask}
-use Rattle.tracks.specs.Read.{Item, oneMore, followed, items}
+use Rattle.kernel.specs.Answer.{Outcome, refused, answered}
+use Rattle.kernel.proofs.Answers.{answered-inj, never-both}
+use Rattle.tracks.specs.Read.{Item, push, items}
 use Rattle.tracks.specs.Calls.{ends}
 use Rattle.tracks.specs.declared.format.Checked.the-variants.{End, Refused}
 
@@ -24,30 +24,18 @@ pub stopped : {A : Type 0} (o : Outcome (Item A)) (q : ℕ) → ends o ≡ Refus
 stopped (refused n) q p = cc
 stopped (answered x) q p = let z : _≡_ {A = ℕ} 0 1 = cc in absurd (omega arith)
 
-pub answered-inj : {A : Type 0} {x y : A} → answered x ≡ answered y → x ≡ y
-answered-inj e = cc
-
--- a question that was met
-pub ask-met : {A : Type 0} (q : ℕ) (b : Bool) (o : Outcome A) {x : A} → ask q b o ≡ answered x → (b ≡ true) × (o ≡ answered x)
-ask-met q true o e = (refl, e)
-ask-met q false o e = let z : _≡_ {A = ℕ} 0 1 = cc in absurd (omega arith)
-
--- the items so far, and one more
-abbrev pub push : {A : Type 0} → Item (List A) → Item A → Item (List A)
-push xs x = record { value = xs .value ++ (x .value ∷ []); next = x .next }
-
 module _ {A : Type 0} (read : ℕ → ℕ → Outcome (Item A)) (start : ℕ) where
   pub items-more : (k : ℕ) (xs : Item (List A)) (x : Item A) → items read start k ≡ answered xs → read k (xs .next) ≡ answered x → items read start (k + 1) ≡ answered (push xs x)
-  unfolding items followed oneMore
+  unfolding items
   items-more k xs x p q = rw (add-one, p, q) refl
 
   stays : (m i q : ℕ) → items read start m ≡ refused q → items read start (m + i) ≡ refused q
-  unfolding items followed
+  unfolding items
   stays m zero q p = rw add-zero p
   stays m (suc i) q p = rw (add-suc, stays m i q p) refl
 
   pub items-stop : (k n q : ℕ) (xs : Item (List A)) → k < n → items read start k ≡ answered xs → read k (xs .next) ≡ refused q → items read start n ≡ refused q
-  unfolding items followed oneMore
+  unfolding items
   items-stop k n q xs h p r =
       let m : suc k + (n - suc k) ≡ n = omega arith in
       let s : items read start (suc k) ≡ refused q = rw (p, r) refl in
@@ -72,14 +60,13 @@ module _ {A : Type 0} (read : ℕ → ℕ → Outcome (Item A)) (start : ℕ) wh
     where
       one : (xs : Item (List A)) (o : Outcome (Item A)) → items read start k ≡ answered xs → read k (xs .next) ≡ o → (xs : Item (List A)) × (x : Item A) × (items read start k ≡ answered xs) × (read k (xs .next) ≡ answered x)
       one xs (answered x) p q = (xs, x, p, q)
-      one xs (refused r) p q = let z : answered ys ≡ refused r = sym e ∙ items-stop k n r xs h p q in let y : _≡_ {A = ℕ} 0 1 = cc in absurd (omega arith)
+      one xs (refused r) p q = never-both (sym e ∙ items-stop k n r xs h p q)
 
       split : (o : Outcome (Item (List A))) → items read start k ≡ o → (xs : Item (List A)) × (x : Item A) × (items read start k ≡ answered xs) × (read k (xs .next) ≡ answered x)
       split (answered xs) p = one xs (read k (xs .next)) p refl
       split (refused r) p =
           let m : k + (n - k) ≡ n = omega arith in
-          let z : answered ys ≡ refused r = sym e ∙ subst (λ (i : ℕ). items read start i ≡ refused r) m (stays k (n - k) r p) in
-          let y : _≡_ {A = ℕ} 0 1 = cc in absurd (omega arith)
+          never-both (sym e ∙ subst (λ (i : ℕ). items read start i ≡ refused r) m (stays k (n - k) r p))
 
   -- the next item of an accepted run
   pub items-at : (k n : ℕ) (xs ys : Item (List A)) → k < n → items read start n ≡ answered ys → items read start k ≡ answered xs → (x : Item A) × (read k (xs .next) ≡ answered x)
@@ -91,7 +78,7 @@ module _ {A : Type 0} (read : ℕ → ℕ → Outcome (Item A)) (start : ℕ) wh
   pub items-ind : (P : ℕ → Item (List A) → Type 0) → P 0 (record { value = []; next = start })
       → ((k : ℕ) (xs : Item (List A)) (x : Item A) → P k xs → read k (xs .next) ≡ answered x → P (k + 1) (push xs x))
       → (n : ℕ) (ys : Item (List A)) → items read start n ≡ answered ys → P n ys
-  unfolding items followed oneMore
+  unfolding items
   items-ind P none more zero ys e = subst (P 0) (answered-inj e) none
   items-ind P none more (suc n) ys e =
       let b = items-back n (suc n) ys (omega arith) e in

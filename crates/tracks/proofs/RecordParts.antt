@@ -13,12 +13,14 @@ use lib.Dec.{eqb}
 use lib.Seq.{length-take-le, take-suc, take-length}
 use Rattle.kernel.specs.Answer.{answered}
 use Rattle.tracks.specs.Format.{Bytes, part, fields}
-use Rattle.tracks.specs.Read.{Item, items, track, tracks, count, dimension, contents}
-use Rattle.tracks.specs.Write.{tabulate, recordOf, recordsOf}
+use Rattle.tracks.specs.Read.{Item, items, track, tracks, count, dimension, contents, push}
+use Rattle.tracks.specs.Write.{recordOf, recordsOf}
+use Rattle.kernel.specs.Lists.{tabulate}
 use Rattle.tracks.specs.Calls.{ends, joined}
 use Rattle.tracks.specs.Record.{offset, recordEnd, recordIn, recordAt, nextOffset, atEnd, sameBytes}
 use Rattle.tracks.specs.declared.format.Checked.the-variants.{End}
-use Rattle.tracks.proofs.Items.{push, answered-inj, items-back, items-get, items-more}
+use Rattle.tracks.proofs.Items.{items-back, items-get, items-more}
+use Rattle.kernel.proofs.Answers.{answered-inj}
 use Rattle.tracks.proofs.Accepted.{Whole, contents-met, track-met}
 use Rattle.tracks.proofs.Lists.{flatMap-more, joined-more}
 use Rattle.tracks.proofs.Records.{end-here, end-later, same-refl, same-equal}

@@ -10,14 +10,16 @@ use borrow.Author.Tests.{le-leb, eq-eqb, leb-true}
 use lib.ListN.{length, getD, take, drop, length-append, length-drop, List·getD-append}
 use lib.Seq.{take-all, getD-at, length-take-le}
 use lib.Ieee.{Float}
-use Rattle.kernel.specs.Answer.{answered}
+use Rattle.kernel.specs.Answer.{Outcome, answered, andThen}
 use Rattle.tracks.specs.Format.{Bytes, Words, fields, mapBytes}
-use Rattle.tracks.specs.Read.{Item, track, tracks, count, dimension, countMet, dimensionMet, whole, contents}
-use Rattle.tracks.specs.Write.{tabulate, allFinite, recordOf, recordsOf, listOf, tracksOf, written}
+use Rattle.tracks.specs.Read.{Item, track, tracks, count, dimension, countMet, dimensionMet, nothingAfter, contents}
+use Rattle.tracks.specs.Write.{allFinite, recordOf, recordsOf, listOf, tracksOf, written}
+use Rattle.kernel.specs.Lists.{tabulate}
 use Rattle.tracks.specs.Calls.{doubles, patterns, Doubles, joined}
 use Rattle.tracks.proofs.Items.{items-ind, items-length}
 use Rattle.tracks.proofs.Accepted.{contents-met, contents-head, dimension-small}
-use Rattle.tracks.proofs.Lists.{length-tabulate, getD-tabulate, row}
+use Rattle.tracks.proofs.Lists.{row}
+use Rattle.kernel.proofs.Lists.{length-tabulate, getD-tabulate}
 use Rattle.tracks.proofs.Stream.{Part, read-bytes, bytes-read}
 use Rattle.tracks.proofs.Track.{Fit, track-read, track-of}
 use Rattle.tracks.proofs.Written.{record-length, stored-size, written-met}
@@ -96,13 +98,13 @@ some-fields zero h = let z : _≡_ {A = ℕ} 0 1 = cc in absurd (omega arith)
 some-fields (suc d) h = omega arith
 
 pub list-accepted : (d : ℕ) (ts : List (List ℕ)) → countMet (length ts) ≡ true → dimensionMet d ≡ true → Fits (fields d) ts → contents (listOf d ts) ≡ answered ts
-unfolding listOf recordsOf tracks whole
+unfolding listOf recordsOf tracks
 list-accepted d ts few sized fit =
     let l = listOf d ts in
     let f = fields d in
     let run : tracks l f (length ts) ≡ answered (record { value = ts; next = 2 + length (recordsOf ts) }) =
     bytes-read recordOf l (λ _. track l f) 2 [] ts (λ k at rest lt e. track-of l f at (getD ts k []) rest (some-fields d sized) (fit k lt) e) [] (sym (append-nil (recordsOf ts))) in
-    contents-head l (omega arith) few sized ∙ ap (whole (length l)) run ∙ simp (eq-eqb (2 + length (recordsOf ts)) (length l) (omega arith))
+    contents-head l (omega arith) few sized ∙ ap (λ (o : Outcome (Item (List (List ℕ)))). andThen o (nothingAfter (length l))) run ∙ simp (eq-eqb (2 + length (recordsOf ts)) (length l) (omega arith))
 
 -- ---- values of tracks one after another
 

@@ -12,14 +12,15 @@ use lib.Dec.{eqb}
 use lib.ListN.{length, getD, take, drop, length-append, length-drop, List·getD-append, List·getD-eq-default}
 use lib.Seq.{getD-take, getD-drop, getD-at, length-take-le, ext-getD, take-at, drop-drop, drop-at}
 use Rattle.kernel.specs.Answer.{answered}
-use Rattle.tracks.specs.Format.{Bytes, Words, part, mapBytes, stands, number, bytes, word, finite, spare}
-use Rattle.tracks.specs.Read.{Item, stored, storedIf, field, items, track}
+use Rattle.tracks.specs.Format.{Bytes, Words, part, mapBytes, stands, number, bytes, word, spare, finiteBits}
+use Rattle.tracks.specs.Read.{Item, stored, storedIf, field, items, track, push}
 use Rattle.tracks.specs.Write.{nonzero, mapByte, mapOf, fieldBytes, storedBytes, recordOf, allFinite}
-use Rattle.tracks.proofs.Items.{push, items-ind}
+use Rattle.tracks.proofs.Items.{items-ind}
 use Rattle.tracks.proofs.Accepted.{Stored, field-met, track-met}
 use Rattle.tracks.proofs.Bytes.{none-each, none-all, bytes-take, bytes-drop, word-lt}
 use Rattle.tracks.proofs.Bits.{bytes-number, number-bytes, byte-packed, packed-same, packed-bit}
-use Rattle.tracks.proofs.Lists.{length-tabulate, getD-tabulate, getD-more}
+use Rattle.tracks.proofs.Lists.{getD-more}
+use Rattle.kernel.proofs.Lists.{length-tabulate, getD-tabulate}
 use Rattle.tracks.proofs.Written.{all-more, all-at, length-bytes, field-none, field-some, record-length}
 use Rattle.tracks.proofs.Stream.{Part, parts-join, read-bytes, bytes-read}
 
@@ -63,7 +64,7 @@ pub record Fields (l : List ℕ) (map k : ℕ) (v : List ℕ) : Type 0 where
 -- one field more
 field-more : (l : List ℕ) (map : ℕ) → Bytes l → (k : ℕ) (xs : Item (List ℕ)) (x : Item ℕ) → Fields l map k (xs .value) → field l map k (xs .next) ≡ answered x → Fields l map (k + 1) (push xs x .value)
 field-more l map h k xs x p e =
-    let one : (finite (x .value) ≡ true) × (x .value < 2 ^ 64) × (stands l map k ≡ nonzero (x .value)) = ⊎-elim
+    let one : (finiteBits (x .value) ≡ true) × (x .value < 2 ^ 64) × (stands l map k ≡ nonzero (x .value)) = ⊎-elim
     (λ (s : (stands l map k ≡ true) × Stored l (xs .next) x).
     let v = s .1 .value in
     (rw v (s .1 .finite), rw v (word-lt l (xs .next) h (s .1 .there)), s .0 ∙ sym (ap not (ap (λ (y : ℕ). eqb y 0) v ∙ s .1 .nonzero))))
@@ -148,7 +149,7 @@ pub record Fit (f : ℕ) (v : List ℕ) : Type 0 where
   pub words : Words v
 
 -- a field of which the list has the bytes
-field-of : (l : List ℕ) (map k at x : ℕ) (rest : List ℕ) → stands l map k ≡ nonzero x → finite x ≡ true → x < 2 ^ 64 → drop at l ≡ fieldBytes x ++ rest
+field-of : (l : List ℕ) (map k at x : ℕ) (rest : List ℕ) → stands l map k ≡ nonzero x → finiteBits x ≡ true → x < 2 ^ 64 → drop at l ≡ fieldBytes x ++ rest
     → field l map k at ≡ answered (record { value = x; next = at + length (fieldBytes x) })
 unfolding field stored word
 field-of l map k at x rest s fin small e = split (eqb x 0) refl

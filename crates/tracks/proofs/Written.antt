@@ -12,14 +12,16 @@ use lib.ListN.{length, getD, take, drop, set, length-append, length-map, take-ap
 use lib.Seq.{sets-eq, take-add, take-all, length-take-le}
 use lib.Ieee.{Float, nan, inf, fin, binary64, toBits, isNan, ne}
 use lib.Ieee.Compare.{differs-from-itself, nan-differs}
-use Rattle.tracks.specs.Format.{fields, mapBytes, bytes, finite}
-use Rattle.tracks.specs.Write.{tabulate, packed, mapByte, mapOf, fieldBytes, storedBytes, recordOf, recordsOf, listOf, tracksOf, allFinite, written}
+use Rattle.tracks.specs.Format.{fields, mapBytes, bytes, finiteBits}
+use Rattle.tracks.specs.Write.{packed, mapByte, mapOf, fieldBytes, storedBytes, recordOf, recordsOf, listOf, tracksOf, allFinite, written}
+use Rattle.kernel.specs.Lists.{tabulate, over}
 use Rattle.kernel.specs.Answer.{Outcome, refused, answered}
 use Rattle.tracks.specs.Read.{countMet, dimensionMet}
-use Rattle.tracks.specs.Calls.{over, patterns, writeAnswer}
+use Rattle.tracks.specs.Calls.{patterns, writeAnswer}
 use Rattle.tracks.specs.declared.format.WrittenList.the-variants as WrittenList
-use Rattle.tracks.proofs.Items.{answered-inj, ask-met}
-use Rattle.tracks.proofs.Lists.{flatMap-append, flatMap-more, flatMap-part, getD-any, take-more, length-tabulate, tabulate-more, map-take, map-drop}
+use Rattle.kernel.proofs.Answers.{answered-inj, ask-met}
+use Rattle.tracks.proofs.Lists.{flatMap-append, flatMap-more, flatMap-part, getD-any, take-more, map-take, map-drop}
+use Rattle.kernel.proofs.Lists.{length-tabulate, tabulate-more}
 
 -- ---- the bits of values
 
@@ -43,29 +45,29 @@ nan-bits x e = ap (toBits binary64) (differs-from-itself x (rw e tt))
 
 -- ---- question 14
 
-pub all-more : (v : List ℕ) (x : ℕ) → allFinite v ≡ true → finite x ≡ true → allFinite (v ++ (x ∷ [])) ≡ true
+pub all-more : (v : List ℕ) (x : ℕ) → allFinite v ≡ true → finiteBits x ≡ true → allFinite (v ++ (x ∷ [])) ≡ true
 unfolding allFinite
 all-more [] x p q = rw q refl
-all-more (y ∷ v) x p q = both (finite y) p (λ r. all-more v x r q)
+all-more (y ∷ v) x p q = both (finiteBits y) p (λ r. all-more v x r q)
   where
     both : (b : Bool) → b && allFinite v ≡ true → (allFinite v ≡ true → allFinite (v ++ (x ∷ [])) ≡ true) → b && allFinite (v ++ (x ∷ [])) ≡ true
     both true p r = r p
     both false p r = p
 
-pub all-not : (v : List ℕ) (i : ℕ) → i < length v → finite (getD v i 0) ≡ false → allFinite v ≡ false
+pub all-not : (v : List ℕ) (i : ℕ) → i < length v → finiteBits (getD v i 0) ≡ false → allFinite v ≡ false
 unfolding allFinite
 all-not [] i h e = absurd (omega arith)
 all-not (y ∷ v) zero h e = rw e refl
-all-not (y ∷ v) (suc i) h e = later (finite y) (all-not v i (le-of-suc-le-suc h) e)
+all-not (y ∷ v) (suc i) h e = later (finiteBits y) (all-not v i (le-of-suc-le-suc h) e)
   where
     later : (b : Bool) {d : Bool} → d ≡ false → b && d ≡ false
     later true p = p
     later false p = refl
 
-pub all-at : (v : List ℕ) (i : ℕ) → allFinite v ≡ true → i < length v → finite (getD v i 0) ≡ true
-all-at v i e h = split (finite (getD v i 0)) refl
+pub all-at : (v : List ℕ) (i : ℕ) → allFinite v ≡ true → i < length v → finiteBits (getD v i 0) ≡ true
+all-at v i e h = split (finiteBits (getD v i 0)) refl
   where
-    split : (b : Bool) → finite (getD v i 0) ≡ b → finite (getD v i 0) ≡ true
+    split : (b : Bool) → finiteBits (getD v i 0) ≡ b → finiteBits (getD v i 0) ≡ true
     split true p = p
     split false p = let z : true ≡ false = sym e ∙ all-not v i h p in let y : _≡_ {A = ℕ} 0 1 = cc in absurd (omega arith)
 

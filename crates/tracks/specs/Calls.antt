@@ -1,11 +1,12 @@
 -- What the calls answer, and what they leave in lent memory.
 use Prim.Native.Nat.{ℕ, _+_}
 use mathlib.Core.Path.{_≡_}
-use mathlib.Core.List.{List, _++_, map, flatMap}
+use mathlib.Core.List.{List, map, flatMap}
 use lib.Dec.{T}
-use lib.ListN.{length, getD, take, drop}
+use lib.ListN.{length, getD}
 use lib.Ieee.{Float, nan, binary64, fits, ofBits, toBits}
 use Rattle.kernel.specs.Answer.{Outcome, refused, answered}
+use Rattle.kernel.specs.Lists.{over}
 use Rattle.tracks.specs.Read.{Item, count, dimension}
 use Rattle.tracks.specs.declared.format.Checked.{Checked}
 use Rattle.tracks.specs.declared.format.Checked.the-variants.{End, Refused}
@@ -13,10 +14,6 @@ use Rattle.tracks.specs.declared.format.ReadList.{ReadList}
 use Rattle.tracks.specs.declared.format.ReadList.the-variants as ReadList
 use Rattle.tracks.specs.declared.format.WrittenList.{WrittenList}
 use Rattle.tracks.specs.declared.format.WrittenList.the-variants as WrittenList
-
--- A list with other elements from an index on.
-unfoldable pub over : {A : Type 0} → List A → ℕ → List A → List A
-over old i new = take i old ++ (new ++ drop (i + length new) old)
 
 -- The doubles that 64 bits stand for, and their bits.
 abbrev pub doubles : List ℕ → List Float

@@ -45,8 +45,8 @@ unfolding number
 word l at = number (take 8 (drop at l))
 
 -- Whether 64 bits are those of a finite double: the exponent's bits are not all ones.
-abbrev pub finite : ℕ → Bool
-finite b = ltb (b % 2 ^ 63) (2047 * 2 ^ 52)
+abbrev pub finiteBits : ℕ → Bool
+finiteBits b = ltb (b % 2 ^ 63) (2047 * 2 ^ 52)
 
 -- Whether the test fails at each number below n.
 unfoldable pub none : (ℕ → Bool) → ℕ → Bool

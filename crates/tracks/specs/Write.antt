@@ -5,13 +5,9 @@ use mathlib.Core.List.{List, [], _∷_, _++_, flatMap}
 use lib.Dec.{eqb, leb}
 use lib.ListN.{length, getD, take, drop}
 use Rattle.kernel.specs.Answer.{Outcome, answered, ask}
-use Rattle.tracks.specs.Format.{fields, mapBytes, bytes, finite}
+use Rattle.kernel.specs.Lists.{tabulate}
+use Rattle.tracks.specs.Format.{fields, mapBytes, bytes, finiteBits}
 use Rattle.tracks.specs.Read.{countMet, dimensionMet}
-
--- f 0, f 1, .. f (n - 1)
-unfoldable pub tabulate : {A : Type 0} → ℕ → (ℕ → A) → List A
-tabulate zero f = []
-tabulate (suc n) f = tabulate n f ++ (f n ∷ [])
 
 -- A field's bit stands exactly when its 64 bits are not all zero.
 abbrev pub nonzero : ℕ → Bool
@@ -57,7 +53,7 @@ listOf d ts = length ts ∷ d ∷ recordsOf ts
 -- Whether each field is finite: question 14.
 unfoldable pub allFinite : List ℕ → Bool
 allFinite [] = true
-allFinite (x ∷ v) = finite x && allFinite v
+allFinite (x ∷ v) = finiteBits x && allFinite v
 
 -- n tracks of f fields each, out of their fields one after another.
 unfoldable pub tracksOf : ℕ → ℕ → List ℕ → List (List ℕ)

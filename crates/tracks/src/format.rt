@@ -3,9 +3,10 @@ ghost use mathlib.Core.Path.{_≡_};
 ghost use Prim.Native.Nat.{_+_, _*_, _/_, _<_, _≤_};
 ghost use mathlib.Core.List.{[], _∷_};
 ghost use lib.ListN.{length, getD};
-ghost use Rattle.tracks.specs.Format.{fields, mapBytes, stands, word, finite, spare, bytes};
+ghost use Rattle.tracks.specs.Format.{fields, mapBytes, stands, word, spare, bytes, finiteBits};
 ghost use Rattle.tracks.specs.Read.{countMet, dimensionMet, stored, field, items, track, tracks, contents, reading};
-ghost use Rattle.tracks.specs.Calls.{ends, over, joined, patterns, Accepted, Puts, readAnswer, readValues, Writes, writeAnswer, writeBytes};
+ghost use Rattle.tracks.specs.Calls.{ends, joined, patterns, Accepted, Puts, readAnswer, readValues, Writes, writeAnswer, writeBytes};
+ghost use Rattle.kernel.specs.Lists.{over};
 ghost use Rattle.tracks.specs.Write.{allFinite, nonzero, mapByte, mapOf, fieldBytes, storedBytes, recordOf, recordsOf, tracksOf, written};
 use kernel::question;
 
@@ -85,7 +86,7 @@ fn word(list: &[u8], at: usize) -> u64
 
 // Question 14, of 64 bits.
 fn finite(bits: u64) -> bool
-    ensures { λ r. ⌜ r ≡ finite bits ⌝ }
+    ensures { λ r. ⌜ r ≡ finiteBits bits ⌝ }
 {
     bits % 0x8000_0000_0000_0000 < 0x7FF0_0000_0000_0000
 }

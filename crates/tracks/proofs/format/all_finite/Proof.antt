@@ -7,7 +7,7 @@ use borrow.Author.Tests.{not-true, not-false}
 use denote.Ref.{now}
 use lib.ListN.{length, take}
 use lib.Seq.{take-all}
-use Rattle.tracks.specs.Format.{finite}
+use Rattle.tracks.specs.Format.{finiteBits}
 use Rattle.tracks.specs.Write.{allFinite}
 use Rattle.tracks.specs.Calls.{patterns}
 use Rattle.tracks.proofs.Lists.{take-more}
@@ -35,7 +35,7 @@ returns : tie.Need-returns Inv-loop μ-loop
 returns c =
     let x = c .before .before .before .before .before .before .args in
     let i = c .before .before .before .before .loop in
-    sym (all-not (patterns (now (x .v))) (i .i) (omega arith) (ap finite (sym (c .before .before .bits-at .ensures)) ∙ sym (c .before .finite .ensures) ∙ not-true _ (c .if1 .taken)))
+    sym (all-not (patterns (now (x .v))) (i .i) (omega arith) (ap finiteBits (sym (c .before .before .bits-at .ensures)) ∙ sym (c .before .finite .ensures) ∙ not-true _ (c .if1 .taken)))
 
 add-i : tie.Need-add-i Inv-loop μ-loop
 add-i c = omega arith
@@ -50,7 +50,7 @@ loop-again c =
       omega arith,
       i .inv .1,
       ap allFinite (take-more (patterns (now (x .v))) (i .i) (omega arith))
-          ∙ all-more (take (i .i) (patterns (now (x .v)))) _ (i .inv .2) (ap finite (sym (c .before .before .bits-at .ensures)) ∙ sym (c .before .finite .ensures) ∙ not-false _ (c .if1 .left)),
+          ∙ all-more (take (i .i) (patterns (now (x .v)))) _ (i .inv .2) (ap finiteBits (sym (c .before .before .bits-at .ensures)) ∙ sym (c .before .finite .ensures) ∙ not-false _ (c .if1 .left)),
     )
 
 returns-2 : tie.Need-returns-2 Inv-loop μ-loop

@@ -9,7 +9,7 @@ use borrow.Author.Tests.{le-leb, lt-leb, eq-eqb, ne-eqb, not-true, not-false}
 use denote.Ref.{now}
 use lib.Dec.{eqb}
 use lib.ListN.{length}
-use Rattle.tracks.specs.Format.{word, finite}
+use Rattle.tracks.specs.Format.{word, finiteBits}
 use Rattle.tracks.specs.Read.{stored}
 use borrow.Author.Needs.{needs}
 use Rattle.tracks.proofs.format.check_stored.Statement.{statement}
@@ -32,7 +32,7 @@ returns-2 : tie.Need-returns-2
 unfolding stored
 returns-2 c =
     let x = c .before .before .before .before .before .args in
-    let e : finite (word (now (x .list)) (x .at)) ≡ false = ap finite (sym (c .before .before .word .ensures)) ∙ sym (c .before .finite .ensures) ∙ not-true _ (c .if2 .taken) in
+    let e : finiteBits (word (now (x .list)) (x .at)) ≡ false = ap finiteBits (sym (c .before .before .word .ensures)) ∙ sym (c .before .finite .ensures) ∙ not-true _ (c .if2 .taken) in
     simp (le-leb (x .at + 8) (length (now (x .list))) (omega arith), e)
 
 -- where 12 and 14 are met, 15 decides
@@ -42,7 +42,7 @@ met : (c : tie.Else2) {b : Bool} → eqb (word (now (c .before .before .before .
 unfolding stored
 met c e =
     let x = c .before .before .before .before .before .args in
-    let g : finite (word (now (x .list)) (x .at)) ≡ true = ap finite (sym (c .before .before .word .ensures)) ∙ sym (c .before .finite .ensures) ∙ not-false _ (c .if2 .left) in
+    let g : finiteBits (word (now (x .list)) (x .at)) ≡ true = ap finiteBits (sym (c .before .before .word .ensures)) ∙ sym (c .before .finite .ensures) ∙ not-false _ (c .if2 .left) in
     simp (le-leb (x .at + 8) (length (now (x .list))) (omega arith), g, e)
 
 returns-3 : tie.Need-returns-3

@@ -37,8 +37,8 @@ needed c = ap (λ (f : ℕ). c .before .before .before .before .before .before .
 long : (c : tie.Else3) → let x = c .before .before .before .before .before .before .before .args in length (patterns (now (x .v))) ≡ x .n * fields (x .d)
 long c = length-patterns (now (c .before .before .before .before .before .before .before .args .v)) ∙ c .if3 .left ∙ needed (c .before)
 
-finite : (c : tie.Else4) → allFinite (patterns (now (c .before .before .before .before .before .before .before .before .before .args .v))) ≡ true
-finite c = sym (c .before .all-finite .ensures) ∙ not-false _ (c .if4 .left)
+all-met : (c : tie.Else4) → allFinite (patterns (now (c .before .before .before .before .before .before .before .before .before .args .v))) ≡ true
+all-met c = sym (c .before .all-finite .ensures) ∙ not-false _ (c .if4 .left)
 
 -- the length that is computed is the list's
 whole : (c : tie.After-stored-length) → let x = c .before .before .before .before .before .before .before .before .before .before .args in
@@ -96,12 +96,12 @@ add-length-3 c = let n = few (c .before .before .before .before .before .before 
 returns-5 : tie.Need-returns-5
 unfolding written
 returns-5 c =
-    simp (counted (c .before .before .before .before .before .before .before .before), sized (c .before .before .before .before .before .before), eq-eqb _ _ (long (c .before .before .before .before)), finite (c .before .before), lt-leb _ _ (rw (whole (c .before)) at (c .if5 .taken)))
+    simp (counted (c .before .before .before .before .before .before .before .before), sized (c .before .before .before .before .before .before), eq-eqb _ _ (long (c .before .before .before .before)), all-met (c .before .before), lt-leb _ _ (rw (whole (c .before)) at (c .if5 .taken)))
 
 returns-6 : tie.Need-returns-6
 unfolding written
 returns-6 c =
-    simp (counted (c .before .before .before .before .before .before .before .before), sized (c .before .before .before .before .before .before), eq-eqb _ _ (long (c .before .before .before .before)), finite (c .before .before), le-leb _ _ (rw (whole (c .before)) at (c .if5 .left))) (ap WrittenList.Length (whole (c .before)))
+    simp (counted (c .before .before .before .before .before .before .before .before), sized (c .before .before .before .before .before .before), eq-eqb _ _ (long (c .before .before .before .before)), all-met (c .before .before), le-leb _ _ (rw (whole (c .before)) at (c .if5 .left))) (ap WrittenList.Length (whole (c .before)))
 
 pub check-write-spec : {M : Type 1} → statement M
 check-write-spec =

@@ -7,9 +7,9 @@ use denote.Ref.{now}
 use lib.Ieee.{binary64, ofBits}
 use Rattle.kernel.specs.Answer.{answered}
 use Rattle.tracks.specs.Read.{Item, field}
-use Rattle.tracks.specs.Calls.{over}
+use Rattle.kernel.specs.Lists.{over}
 use Rattle.tracks.proofs.Accepted.{Stored, field-stored, field-absent, finite-no-nan}
-use Rattle.tracks.proofs.Over.{over-set}
+use Rattle.kernel.proofs.Lists.{over-set}
 use borrow.Author.Needs.{needs}
 use Rattle.tracks.proofs.format.put_field.Statement.{statement}
 use Rattle.tracks.proofs.format.put_field.Tie as tie

@@ -9,11 +9,14 @@ use lib.ListN.{length}
 use lib.Ieee.{Float}
 use Rattle.kernel.specs.Answer.{answered}
 use Rattle.tracks.specs.Format.{mapBytes}
-use Rattle.tracks.specs.Read.{Item, field, items}
-use Rattle.tracks.specs.Calls.{over, doubles}
-use Rattle.tracks.proofs.Items.{push, answered-inj, items-at, items-more, items-length}
+use Rattle.tracks.specs.Read.{Item, field, items, push}
+use Rattle.tracks.specs.Calls.{doubles}
+use Rattle.kernel.specs.Lists.{over}
+use Rattle.tracks.proofs.Items.{items-at, items-more, items-length}
+use Rattle.kernel.proofs.Answers.{answered-inj}
 use Rattle.tracks.proofs.Accepted.{Track, track-met}
-use Rattle.tracks.proofs.Over.{over-none, over-doubles}
+use Rattle.kernel.proofs.Lists.{over-none}
+use Rattle.tracks.proofs.Values.{over-doubles}
 use Rattle.tracks.proofs.format.put_track.Statement.{statement}
 use Rattle.tracks.proofs.format.put_track.Tie as tie
 

@@ -8,11 +8,14 @@ use denote.Ref.{now}
 use lib.ListN.{length, length-append}
 use lib.Ieee.{Float}
 use Rattle.kernel.specs.Answer.{answered}
-use Rattle.tracks.specs.Read.{Item, items, track, tracks}
-use Rattle.tracks.specs.Calls.{over, doubles, joined}
-use Rattle.tracks.proofs.Items.{push, answered-inj, items-at, items-more}
+use Rattle.tracks.specs.Read.{Item, items, track, tracks, push}
+use Rattle.tracks.specs.Calls.{doubles, joined}
+use Rattle.kernel.specs.Lists.{over}
+use Rattle.tracks.proofs.Items.{items-at, items-more}
+use Rattle.kernel.proofs.Answers.{answered-inj}
 use Rattle.tracks.proofs.Accepted.{track-met}
-use Rattle.tracks.proofs.Over.{over-none, over-doubles}
+use Rattle.kernel.proofs.Lists.{over-none}
+use Rattle.tracks.proofs.Values.{over-doubles}
 use Rattle.tracks.proofs.Lists.{row, row-next, joined-more}
 use Rattle.tracks.proofs.format.put_tracks.Statement.{statement}
 use Rattle.tracks.proofs.format.put_tracks.Tie as tie

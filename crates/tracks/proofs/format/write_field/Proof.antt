@@ -3,8 +3,8 @@ use mathlib.Core.Path.{sym, ap, _∙_}
 use native.Mathlib.Omega.{arith}
 use denote.Ref.{now}
 use lib.ListN.{length}
-use Rattle.tracks.specs.Calls.{over}
-use Rattle.tracks.proofs.Over.{over-none}
+use Rattle.kernel.specs.Lists.{over}
+use Rattle.kernel.proofs.Lists.{over-none}
 use Rattle.tracks.proofs.Written.{field-none, field-some, length-bytes}
 use borrow.Author.Needs.{needs}
 use Rattle.tracks.proofs.format.write_field.Statement.{statement}

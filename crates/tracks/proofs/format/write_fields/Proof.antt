@@ -7,8 +7,9 @@ use denote.Ref.{now}
 use lib.ListN.{length, take, length-append}
 use lib.Seq.{take-all}
 use Rattle.tracks.specs.Write.{fieldBytes, storedBytes}
-use Rattle.tracks.specs.Calls.{over, patterns}
-use Rattle.tracks.proofs.Over.{over-none, over-over}
+use Rattle.tracks.specs.Calls.{patterns}
+use Rattle.kernel.specs.Lists.{over}
+use Rattle.kernel.proofs.Lists.{over-none, over-over}
 use Rattle.tracks.proofs.Written.{length-patterns, stored-more, stored-part}
 use Rattle.tracks.proofs.format.write_fields.Statement.{statement}
 use Rattle.tracks.proofs.format.write_fields.Tie as tie

@@ -9,11 +9,12 @@ use lib.ListN.{length, length-set}
 use Rattle.kernel.specs.Answer.{Outcome, answered}
 use Rattle.tracks.specs.Format.{fields}
 use Rattle.tracks.specs.Write.{listOf, recordsOf, tracksOf, written}
-use Rattle.tracks.specs.Calls.{over, patterns, writeAnswer, writeBytes}
+use Rattle.tracks.specs.Calls.{patterns, writeAnswer, writeBytes}
+use Rattle.kernel.specs.Lists.{over}
 use Rattle.tracks.specs.declared.format.WrittenList.the-variants as WrittenList
 use Rattle.tracks.proofs.Accepted.{dimension-small}
-use Rattle.tracks.proofs.Lists.{length-tabulate}
-use Rattle.tracks.proofs.Over.{over-two}
+use Rattle.tracks.proofs.Lists.{over-two}
+use Rattle.kernel.proofs.Lists.{length-tabulate}
 use Rattle.tracks.proofs.Written.{Listed, written-met, write-accepted, write-refused, length-patterns}
 use borrow.Author.Needs.{needs}
 use Rattle.tracks.proofs.format.write_list.Statement.{statement}

@@ -6,10 +6,10 @@ use mathlib.Core.List.{List, [], _∷_, _++_}
 use denote.Ref.{now}
 use lib.ListN.{length, set, length-set}
 use Rattle.tracks.specs.Format.{mapBytes}
-use Rattle.tracks.specs.Write.{tabulate, mapByte, mapOf}
-use Rattle.tracks.specs.Calls.{over, patterns}
-use Rattle.tracks.proofs.Over.{over-none, over-more}
-use Rattle.tracks.proofs.Lists.{length-tabulate, tabulate-more}
+use Rattle.tracks.specs.Write.{mapByte, mapOf}
+use Rattle.kernel.specs.Lists.{tabulate, over}
+use Rattle.tracks.specs.Calls.{patterns}
+use Rattle.kernel.proofs.Lists.{length-tabulate, tabulate-more, over-none, over-more}
 use Rattle.tracks.proofs.Written.{length-patterns}
 use Rattle.tracks.proofs.format.write_map.Statement.{statement}
 use Rattle.tracks.proofs.format.write_map.Tie as tie

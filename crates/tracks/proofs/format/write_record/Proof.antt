@@ -6,8 +6,9 @@ use mathlib.Core.List.{List}
 use denote.Ref.{now}
 use lib.ListN.{length-append}
 use Rattle.tracks.specs.Write.{mapOf, storedBytes, recordOf}
-use Rattle.tracks.specs.Calls.{over, patterns}
-use Rattle.tracks.proofs.Over.{over-over}
+use Rattle.tracks.specs.Calls.{patterns}
+use Rattle.kernel.specs.Lists.{over}
+use Rattle.kernel.proofs.Lists.{over-over}
 use Rattle.tracks.proofs.Written.{length-patterns, record-length}
 use borrow.Author.Needs.{needs}
 use Rattle.tracks.proofs.format.write_record.Statement.{statement}

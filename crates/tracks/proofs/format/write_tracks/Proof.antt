@@ -7,9 +7,10 @@ use mathlib.Core.List.{List, _++_, flatMap}
 use denote.Ref.{now}
 use lib.ListN.{length, take, drop, length-append, length-take}
 use lib.Ieee.{Float}
-use Rattle.tracks.specs.Write.{tabulate, recordOf, recordsOf, tracksOf}
-use Rattle.tracks.specs.Calls.{over, patterns}
-use Rattle.tracks.proofs.Over.{over-none, over-over}
+use Rattle.tracks.specs.Write.{recordOf, recordsOf, tracksOf}
+use Rattle.kernel.specs.Lists.{tabulate, over}
+use Rattle.tracks.specs.Calls.{patterns}
+use Rattle.kernel.proofs.Lists.{over-none, over-over}
 use Rattle.tracks.proofs.Lists.{row, row-next}
 use Rattle.tracks.proofs.Written.{patterns-part, records-more, records-part}
 use Rattle.tracks.proofs.format.write_tracks.Statement.{statement}

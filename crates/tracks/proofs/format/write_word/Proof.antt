@@ -3,7 +3,7 @@ use mathlib.Core.Path.{ap, sym, _∙_}
 use native.Mathlib.Omega.{arith}
 use denote.Ref.{now}
 use lib.ListN.{length-set}
-use Rattle.tracks.specs.Calls.{over}
+use Rattle.kernel.specs.Lists.{over}
 use Rattle.tracks.proofs.Written.{stores, bytes-8}
 use borrow.Author.Needs.{needs}
 use Rattle.tracks.proofs.format.write_word.Statement.{statement}
