@@ -1,4 +1,5 @@
 pub mod Answers
+pub mod Words
 pub mod Lists
 pub mod Whole
 pub mod Doubles

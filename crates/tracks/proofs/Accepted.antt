@@ -11,7 +11,8 @@ use lib.Ieee.Bits.{nanBits-above}
 use lib.ListN.{length}
 use borrow.Author.Tests.{leb-true, eqb-true, not-true, ltb-true, le-ltb, le-leb, lt-leb}
 use Rattle.kernel.specs.Answer.{Outcome, refused, answered, ask, andThen}
-use Rattle.tracks.specs.Format.{fields, mapBytes, stands, word, spare, finiteBits}
+use Rattle.tracks.specs.Format.{fields, mapBytes, stands, spare, finiteBits}
+use Rattle.kernel.specs.Bytes.{word}
 use Rattle.tracks.specs.Read.{Item, stored, storedIf, field, items, track, tracks, count, dimension, countMet, dimensionMet, nothingAfter, contents, reading}
 use Rattle.tracks.specs.Calls.{ends, readAnswer}
 use Rattle.tracks.specs.declared.format.ReadList.the-variants as ReadList

@@ -1,5 +1,4 @@
 pub mod Items
-pub mod Bytes
 pub mod Accepted
 pub mod Lists
 pub mod Written

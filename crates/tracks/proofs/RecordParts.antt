@@ -12,7 +12,8 @@ use borrow.Author.Tests.{ne-eqb}
 use lib.Dec.{eqb}
 use lib.Seq.{length-take-le, take-suc, take-length}
 use Rattle.kernel.specs.Answer.{answered}
-use Rattle.tracks.specs.Format.{Bytes, part, fields}
+use Rattle.tracks.specs.Format.{part, fields}
+use Rattle.kernel.specs.Bytes.{Bytes}
 use Rattle.tracks.specs.Read.{Item, items, track, tracks, count, dimension, contents, push}
 use Rattle.tracks.specs.Write.{recordOf, recordsOf}
 use Rattle.kernel.specs.Lists.{tabulate}

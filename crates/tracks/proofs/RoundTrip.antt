@@ -11,7 +11,8 @@ use lib.ListN.{length, getD, take, drop, length-append, length-drop, List·getD-
 use lib.Seq.{take-all, getD-at, length-take-le}
 use lib.Ieee.{Float}
 use Rattle.kernel.specs.Answer.{Outcome, answered, andThen}
-use Rattle.tracks.specs.Format.{Bytes, Words, fields, mapBytes}
+use Rattle.tracks.specs.Format.{Words, fields, mapBytes}
+use Rattle.kernel.specs.Bytes.{Bytes}
 use Rattle.tracks.specs.Read.{Item, track, tracks, count, dimension, countMet, dimensionMet, nothingAfter, contents}
 use Rattle.tracks.specs.Write.{allFinite, recordOf, recordsOf, listOf, tracksOf, written}
 use Rattle.kernel.specs.Lists.{tabulate}

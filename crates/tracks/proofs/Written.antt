@@ -1,7 +1,7 @@
 -- Laws of the bytes of fields and of maps, as a loop writes them.
-use Prim.Native.Nat.{ℕ, zero, suc, _+_, _*_, _/_, _%_, _^_, _<_, _≤_}
+use Prim.Native.Nat.{ℕ, zero, suc, _+_, _*_, _^_, _<_, _≤_}
 use native.Mathlib.Omega.{arith}
-use native.Mathlib.Nat.{zero-mul, suc-mul, le-of-suc-le-suc, pow-suc, div-div-eq-div-mul}
+use native.Mathlib.Nat.{zero-mul, suc-mul, le-of-suc-le-suc, pow-suc}
 use native.Mathlib.Numerals.{add-one}
 use mathlib.Core.Path.{_≡_, refl, sym, ap, _∙_}
 use mathlib.Core.Bool.{Bool, true, false, not, _&&_, cond}
@@ -12,7 +12,8 @@ use lib.ListN.{length, getD, take, drop, set, length-append, length-map, take-ap
 use lib.Seq.{sets-eq, take-add, take-all, length-take-le}
 use lib.Ieee.{Float, nan, inf, fin, binary64, toBits, isNan, ne}
 use lib.Ieee.Compare.{differs-from-itself, nan-differs}
-use Rattle.tracks.specs.Format.{fields, mapBytes, bytes, finiteBits}
+use Rattle.tracks.specs.Format.{fields, mapBytes, finiteBits}
+use Rattle.kernel.specs.Bytes.{bytes}
 use Rattle.tracks.specs.Write.{packed, mapByte, mapOf, fieldBytes, storedBytes, recordOf, recordsOf, listOf, tracksOf, allFinite, written}
 use Rattle.kernel.specs.Lists.{tabulate, over}
 use Rattle.kernel.specs.Answer.{Outcome, refused, answered}
@@ -20,6 +21,7 @@ use Rattle.tracks.specs.Read.{countMet, dimensionMet}
 use Rattle.tracks.specs.Calls.{patterns, writeAnswer}
 use Rattle.tracks.specs.declared.format.WrittenList.the-variants as WrittenList
 use Rattle.kernel.proofs.Answers.{answered-inj, ask-met}
+use Rattle.kernel.proofs.Words.{length-bytes}
 use Rattle.tracks.proofs.Lists.{flatMap-append, flatMap-more, flatMap-part, getD-any, take-more, map-take, map-drop}
 use Rattle.kernel.proofs.Lists.{length-tabulate, tabulate-more}
 
@@ -81,11 +83,6 @@ pub field-some : (x : ℕ) → (x ≡ 0 → ⊥) → fieldBytes x ≡ bytes 8 x
 unfolding fieldBytes
 field-some x e = rw (ne-eqb x 0 e) refl
 
-pub length-bytes : (n x : ℕ) → length (bytes n x) ≡ n
-unfolding bytes
-length-bytes zero x = refl
-length-bytes (suc n) x = ap suc (length-bytes n (x / 256))
-
 -- ---- the stored fields
 
 pub stored-more : (v : List ℕ) (k : ℕ) → k < length v → storedBytes (take (k + 1) v) ≡ storedBytes (take k v) ++ fieldBytes (getD v k 0)
@@ -122,11 +119,6 @@ stores l at a b c d e f g h le =
     let n6 : at + 6 ≡ suc (suc (suc (suc (suc (suc at))))) = omega arith in
     let n7 : at + 7 ≡ suc (suc (suc (suc (suc (suc (suc at)))))) = omega arith in
     rw (n1, n2, n3, n4, n5, n6, n7) (sets-eq (a ∷ b ∷ c ∷ d ∷ e ∷ f ∷ g ∷ h ∷ []) l at le ∙ append-assoc (take at l) (a ∷ b ∷ c ∷ d ∷ e ∷ f ∷ g ∷ h ∷ []) (drop (at + 8) l))
-
-pub bytes-8 : (x : ℕ) → bytes 8 x
-    ≡ x % 256 ∷ x / 0x100 % 256 ∷ x / 0x1_0000 % 256 ∷ x / 0x100_0000 % 256 ∷ x / 0x1_0000_0000 % 256 ∷ x / 0x100_0000_0000 % 256 ∷ x / 0x1_0000_0000_0000 % 256 ∷ x / 0x100_0000_0000_0000 % 256 ∷ []
-unfolding bytes
-bytes-8 x = simp div-div-eq-div-mul
 
 -- ---- a map's bits
 

@@ -1,7 +1,7 @@
 -- The list record of document 01: its layout, its bits and its numbers.
 use Prim.Native.Nat.{ℕ, zero, suc, _+_, _-_, _*_, _/_, _%_, _^_, _<_}
 use mathlib.Core.Bool.{Bool, true, not, _&&_}
-use mathlib.Core.List.{List, [], _∷_}
+use mathlib.Core.List.{List}
 use lib.Dec.{eqb, ltb}
 use lib.ListN.{getD, take, drop}
 
@@ -9,11 +9,7 @@ use lib.ListN.{getD, take, drop}
 abbrev pub part : List ℕ → ℕ → ℕ → List ℕ
 part l from to = take (to - from) (drop from l)
 
--- That the elements of a list are bytes.
-abbrev pub Bytes : List ℕ → Type 0
-Bytes l = (i : ℕ) → getD l i 0 < 256
-
--- That they are patterns of 64 bits.
+-- That the elements of a list are patterns of 64 bits.
 abbrev pub Words : List ℕ → Type 0
 Words v = (i : ℕ) → getD v i 0 < 2 ^ 64
 
@@ -28,21 +24,6 @@ mapBytes f = (f + 7) / 8
 -- Bit k of the map that starts at an offset of the list: bit k mod 8 of byte k div 8.
 unfoldable pub stands : List ℕ → ℕ → ℕ → Bool
 stands l map k = eqb (getD l (map + k / 8) 0 / 2 ^ (k % 8) % 2) 1
-
--- The number that bytes stand for, low byte first.
-unfoldable pub number : List ℕ → ℕ
-number [] = 0
-number (b ∷ bs) = b + 256 * number bs
-
--- The n low bytes of a number, low byte first.
-unfoldable pub bytes : ℕ → ℕ → List ℕ
-bytes zero x = []
-bytes (suc n) x = x % 256 ∷ bytes n (x / 256)
-
--- The 64 bits of the eight bytes at an offset.
-unfoldable pub word : List ℕ → ℕ → ℕ
-unfolding number
-word l at = number (take 8 (drop at l))
 
 -- Whether 64 bits are those of a finite double: the exponent's bits are not all ones.
 abbrev pub finiteBits : ℕ → Bool

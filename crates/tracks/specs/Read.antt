@@ -5,7 +5,8 @@ use mathlib.Core.List.{List, [], _∷_, _++_}
 use lib.Dec.{eqb, leb}
 use lib.ListN.{length, getD}
 use Rattle.kernel.specs.Answer.{Outcome, answered, ask, andThen, through}
-use Rattle.tracks.specs.Format.{fields, mapBytes, stands, word, spare, finiteBits}
+use Rattle.tracks.specs.Format.{fields, mapBytes, stands, spare, finiteBits}
+use Rattle.kernel.specs.Bytes.{word}
 
 -- What stands at an offset, and the offset after it.
 pub record Item (A : Type 0) : Type 0 where
@@ -23,7 +24,6 @@ items read at (suc n) = andThen (items read at n) (λ xs. through (push xs) (rea
 
 -- A field whose bit stands, as its 64 bits: questions 12, 14 and 15.
 unfoldable pub stored : List ℕ → ℕ → Outcome (Item ℕ)
-unfolding word
 stored l at =
     ask 12 (leb (at + 8) (length l))
     (ask 14 (finiteBits (word l at))

@@ -6,7 +6,8 @@ use lib.Dec.{eqb, leb}
 use lib.ListN.{length, getD, take, drop}
 use Rattle.kernel.specs.Answer.{Outcome, answered, ask}
 use Rattle.kernel.specs.Lists.{tabulate}
-use Rattle.tracks.specs.Format.{fields, mapBytes, bytes, finiteBits}
+use Rattle.tracks.specs.Format.{fields, mapBytes, finiteBits}
+use Rattle.kernel.specs.Bytes.{bytes}
 use Rattle.tracks.specs.Read.{countMet, dimensionMet}
 
 -- A field's bit stands exactly when its 64 bits are not all zero.

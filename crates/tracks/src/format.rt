@@ -3,11 +3,13 @@ ghost use mathlib.Core.Path.{_≡_};
 ghost use Prim.Native.Nat.{_+_, _*_, _/_, _<_, _≤_};
 ghost use mathlib.Core.List.{[], _∷_};
 ghost use lib.ListN.{length, getD};
-ghost use Rattle.tracks.specs.Format.{fields, mapBytes, stands, word, spare, bytes, finiteBits};
+ghost use Rattle.tracks.specs.Format.{fields, mapBytes, stands, spare, finiteBits};
+ghost use Rattle.kernel.specs.Bytes.{bytes, word};
 ghost use Rattle.tracks.specs.Read.{countMet, dimensionMet, stored, field, items, track, tracks, contents, reading};
 ghost use Rattle.tracks.specs.Calls.{ends, joined, patterns, Accepted, Puts, readAnswer, readValues, Writes, writeAnswer, writeBytes};
 ghost use Rattle.kernel.specs.Lists.{over};
 ghost use Rattle.tracks.specs.Write.{allFinite, nonzero, mapByte, mapOf, fieldBytes, storedBytes, recordOf, recordsOf, tracksOf, written};
+use kernel::bytes;
 use kernel::question;
 
 // Where an item of a list ends, or the number of the first question that it does not meet.
@@ -61,29 +63,6 @@ fn stands(list: &[u8], map: usize, k: usize) -> bool
     (list[map + k / 8] >> (k % 8)) % 2 == 1
 }
 
-// The byte at an offset.
-fn byte(list: &[u8], at: usize) -> u64
-    requires { ⌜ at < length (now list) ⌝ }
-    ensures { λ r. ⌜ (r ≡ getD (now (list .entry)) at 0) × (r < 256) ⌝ }
-{
-    list[at] as u64
-}
-
-// The eight bytes at an offset, low byte first.
-fn word(list: &[u8], at: usize) -> u64
-    requires { ⌜ at + 8 ≤ length (now list) ⌝ }
-    ensures { λ r. ⌜ r ≡ word (now (list .entry)) at ⌝ }
-{
-    byte(list, at)
-        + 0x100 * byte(list, at + 1)
-        + 0x1_0000 * byte(list, at + 2)
-        + 0x100_0000 * byte(list, at + 3)
-        + 0x1_0000_0000 * byte(list, at + 4)
-        + 0x100_0000_0000 * byte(list, at + 5)
-        + 0x1_0000_0000_0000 * byte(list, at + 6)
-        + 0x100_0000_0000_0000 * byte(list, at + 7)
-}
-
 // Question 14, of 64 bits.
 fn finite(bits: u64) -> bool
     ensures { λ r. ⌜ r ≡ finiteBits bits ⌝ }
@@ -112,7 +91,7 @@ fn check_stored(list: &[u8], at: usize) -> Checked
     if list.len() - at < 8 {
         return Checked::Refused(question::PRESENT);
     }
-    let bits = word(list, at);
+    let bits = bytes::word(list, at);
     if !finite(bits) {
         return Checked::Refused(question::FINITE_FIELD);
     }
@@ -224,7 +203,7 @@ fn put_field(list: &[u8], map: usize, k: usize, at: usize, values: &mut [f64], i
     ensures { λ r. ⌜ Puts (λ x. x ∷ []) (field (now (list .entry)) map k at) (now (values .entry)) i r (now (values .exit)) ⌝ }
 {
     if stands(list, map, k) {
-        values[i] = f64::from_bits(word(list, at));
+        values[i] = f64::from_bits(bytes::word(list, at));
         return at + 8;
     }
     values[i] = 0.0;

@@ -9,7 +9,8 @@ use borrow.Author.Tests.{le-leb, lt-leb, eq-eqb, ne-eqb, not-true, not-false}
 use denote.Ref.{now}
 use lib.Dec.{eqb}
 use lib.ListN.{length}
-use Rattle.tracks.specs.Format.{word, finiteBits}
+use Rattle.tracks.specs.Format.{finiteBits}
+use Rattle.kernel.specs.Bytes.{word}
 use Rattle.tracks.specs.Read.{stored}
 use borrow.Author.Needs.{needs}
 use Rattle.tracks.proofs.format.check_stored.Statement.{statement}

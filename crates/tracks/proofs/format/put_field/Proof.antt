@@ -23,7 +23,7 @@ held : (c : tie.Then1) {y : Item ℕ} → field (now (c .before .before .before 
 held c e = let x = c .before .before .before .before .args in field-stored (now (x .list)) (x .map) (x .k) (x .at) (sym (c .before .stands .ensures) ∙ c .if1 .taken) e
 
 word-requires : tie.Need-word-requires
-word-requires c κs = held c (c .before .before .before .before .pre .2 .1) .there
+word-requires c κs = tt
 
 float-from-bits-values : tie.Need-float-from-bits-values
 float-from-bits-values c = finite-no-nan _ (rw (c .word .ensures) (held (c .before) (c .before .before .before .before .before .pre .2 .1) .finite))

@@ -6,7 +6,7 @@ use native.Mathlib.Nat.{le-antisymm}
 use denote.Ref.{now}
 use native.Mathlib.Omega.{arith}
 use Rattle.tracks.specs.Format.{mapBytes, stands, none, spare}
-use Rattle.tracks.proofs.Bytes.{none-more, none-not}
+use Rattle.tracks.proofs.Bits.{none-more, none-not}
 use Rattle.tracks.proofs.format.spare_clear.Statement.{statement}
 use Rattle.tracks.proofs.format.spare_clear.Tie as tie
 

@@ -5,7 +5,8 @@ use denote.Ref.{now}
 use lib.ListN.{length}
 use Rattle.kernel.specs.Lists.{over}
 use Rattle.kernel.proofs.Lists.{over-none}
-use Rattle.tracks.proofs.Written.{field-none, field-some, length-bytes}
+use Rattle.tracks.proofs.Written.{field-none, field-some}
+use Rattle.kernel.proofs.Words.{length-bytes}
 use borrow.Author.Needs.{needs}
 use Rattle.tracks.proofs.format.write_field.Statement.{statement}
 use Rattle.tracks.proofs.format.write_field.Tie as tie

@@ -4,7 +4,8 @@ use native.Mathlib.Omega.{arith}
 use denote.Ref.{now}
 use lib.ListN.{length-set}
 use Rattle.kernel.specs.Lists.{over}
-use Rattle.tracks.proofs.Written.{stores, bytes-8}
+use Rattle.tracks.proofs.Written.{stores}
+use Rattle.kernel.proofs.Words.{bytes-8}
 use borrow.Author.Needs.{needs}
 use Rattle.tracks.proofs.format.write_word.Statement.{statement}
 use Rattle.tracks.proofs.format.write_word.Tie as tie

@@ -2,8 +2,8 @@
 use mathlib.Core.Path.{refl}
 use native.Mathlib.Omega.{arith}
 use borrow.Author.Needs.{needs}
-use Rattle.tracks.proofs.format.byte.Statement.{statement}
-use Rattle.tracks.proofs.format.byte.Tie as tie
+use Rattle.kernel.proofs.bytes.byte.Statement.{statement}
+use Rattle.kernel.proofs.bytes.byte.Tie as tie
 
 shared-slice-read-result : tie.Need-shared-slice-read-result
 shared-slice-read-result c = search needs
