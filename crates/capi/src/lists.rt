@@ -19,7 +19,7 @@ pub extern "C" fn pel_read_list(
     count: &mut usize,
     dimension: &mut usize,
 ) -> u32
-    ensures { λ r. ⌜ (r, (now (count .exit), now (dimension .exit))) ≡ toldRead (now (list .entry)) (Read.reading (now (list .entry)) (ListN.length (now (values .entry)))) (now (count .entry)) (now (dimension .entry)) ⌝ }
+    ensures { λ r. ⌜ (r, (now (count .exit), now (dimension .exit))) ≡ toldRead (Read.reading (now (list .entry)) (ListN.length (now (values .entry)))) (now (count .entry)) (now (dimension .entry)) ⌝ }
     ensures { λ _. ⌜ now (values .exit) ≡ Calls.readValues (Read.reading (now (list .entry)) (ListN.length (now (values .entry)))) (now (values .entry)) ⌝ }
 {
     enter_read(format::read_list(list, values), count, dimension)

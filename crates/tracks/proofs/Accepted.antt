@@ -1,19 +1,19 @@
 -- What an accepted field, and an accepted track, says of its bytes.
 use Prim.Native.Nat.{ℕ, _+_, _*_, _%_, _^_, _<_, _≤_}
 use native.Mathlib.Omega.{arith}
-use mathlib.Core.Path.{_≡_, refl, sym, ap, _∙_}
+use mathlib.Core.Path.{_≡_, refl, sym, ap, _∙_, subst}
 use mathlib.Core.Logic.{_⊎_, inl, inr, ⊎-elim}
 use mathlib.Core.Bool.{Bool, true, false, not, _&&_}
-use mathlib.Core.List.{List, []}
+use mathlib.Core.List.{List}
 use lib.Dec.{T, leb, eqb}
 use lib.Ieee.{binary64, nanBits}
 use lib.Ieee.Bits.{nanBits-above}
 use lib.ListN.{length}
-use borrow.Author.Tests.{leb-true, eqb-true, not-true, ltb-true, le-ltb, le-leb, lt-leb}
-use Rattle.kernel.specs.Answer.{Outcome, refused, answered, ask, andThen}
+use borrow.Author.Tests.{leb-true, eqb-true, not-true, ltb-true, le-ltb, le-leb, lt-leb, eq-eqb, ne-eqb}
+use Rattle.kernel.specs.Answer.{Outcome, refused, answered, andThen}
 use Rattle.tracks.specs.Format.{fields, mapBytes, stands, spare, finiteBits}
 use Rattle.kernel.specs.Bytes.{word}
-use Rattle.tracks.specs.Read.{Item, stored, storedIf, field, items, track, tracks, count, dimension, countMet, dimensionMet, nothingAfter, contents, reading}
+use Rattle.tracks.specs.Read.{Item, TrackList, stored, storedIf, field, items, track, tracks, count, dimension, countMet, dimensionMet, nothingAfter, contents, reading}
 use Rattle.tracks.specs.Calls.{ends, readAnswer}
 use Rattle.tracks.specs.declared.format.ReadList.the-variants as ReadList
 use Rattle.tracks.specs.declared.format.Checked.the-variants.{End, Refused}
@@ -97,11 +97,18 @@ field-absent l map k at b e = sym (answered-inj (rw b at e))
 pub finite-no-nan : (b : ℕ) → finiteBits b ≡ true → T (not (nanBits binary64 b))
 finite-no-nan b h = rw (nanBits-above binary64 b ∙ le-ltb (2047 * 2 ^ 52) (b % 2 ^ 63) (omega (arith, ltb-true (b % 2 ^ 63) (2047 * 2 ^ 52) h))) tt
 
+-- the tracks that a list's first two bytes tell
+abbrev pub tracked : List ℕ → Outcome (Item (List (List ℕ)))
+tracked l = tracks l (fields (dimension l)) (count l)
+
 -- a list whose first two bytes are accepted, by its tracks
-pub contents-head : (l : List ℕ) → 2 ≤ length l → countMet (count l) ≡ true → dimensionMet (dimension l) ≡ true
-    → contents l ≡ andThen (tracks l (fields (dimension l)) (count l)) (nothingAfter (length l))
+pub contents-head : (l : List ℕ) → 2 ≤ length l → countMet (count l) ≡ true → dimensionMet (dimension l) ≡ true → contents l ≡ andThen (tracked l) (nothingAfter l)
 unfolding contents
 contents-head l h n d = simp (le-leb 2 (length l) h, n, d)
+
+tracked-length : (l : List ℕ) (x : Item (List (List ℕ))) → tracked l ≡ answered x → length (x .value) ≡ count l
+unfolding tracks
+tracked-length l = items-length (λ _. track l (fields (dimension l))) 2 (count l)
 
 -- a dimension that is accepted is at most 9
 pub dimension-small : (d : ℕ) → dimensionMet d ≡ true → d ≤ 9
@@ -112,58 +119,61 @@ dimension-small d h = leb-true d 9 (and-right (leb 1 d) (leb d 9) h)
     and-right false b e = let z : _≡_ {A = ℕ} 0 1 = cc in absurd (omega arith)
 
 -- question 16, after tracks that end, and after a refusal
-pub tracks-ended : (l : List ℕ) (n : ℕ) (o : Outcome (Item (List (List ℕ)))) {e : ℕ} → ends o ≡ End e → (b : Bool) → eqb e n ≡ b
-    → readAnswer l (andThen o (nothingAfter n)) ≡ readAnswer l (ask 16 b (answered []))
-tracks-ended l n o {e} p b q = let x = ended o e p in rw (x .1, ap (λ (i : ℕ). eqb i n) (x .2) ∙ q) (by b (x .0 .value))
-  where
-    by : (b : Bool) (ts : List (List ℕ)) → readAnswer l (ask 16 b (answered ts)) ≡ readAnswer l (ask 16 b (answered []))
-    by true ts = refl
-    by false ts = refl
+pub tracks-ended : (l : List ℕ) {e : ℕ} → ends (tracked l) ≡ End e → e ≡ length l → readAnswer (andThen (tracked l) (nothingAfter l)) ≡ ReadList.Read (count l) (dimension l)
+tracks-ended l {e} p q =
+    let x = ended (tracked l) e p in
+    rw (x .1, eq-eqb (x .0 .next) (length l) (x .2 ∙ q)) (ap (λ (n : ℕ). ReadList.Read n (dimension l)) (tracked-length l (x .0) (x .1)))
 
-pub tracks-stopped : (l : List ℕ) (n : ℕ) (o : Outcome (Item (List (List ℕ)))) {q : ℕ} → ends o ≡ Refused q → readAnswer l (andThen o (nothingAfter n)) ≡ ReadList.Refused q
-tracks-stopped l n o {q} p = rw (stopped o q p) refl
+pub tracks-followed : (l : List ℕ) {e : ℕ} → ends (tracked l) ≡ End e → (e ≡ length l → ⊥) → readAnswer (andThen (tracked l) (nothingAfter l)) ≡ ReadList.Refused 16
+tracks-followed l {e} p q = let x = ended (tracked l) e p in rw (x .1, ne-eqb (x .0 .next) (length l) (λ s. q (sym (x .2) ∙ s))) refl
 
--- an accepted list
-pub record Whole (l : List ℕ) (ts : List (List ℕ)) : Type 0 where
+pub tracks-stopped : (l : List ℕ) {q : ℕ} → ends (tracked l) ≡ Refused q → readAnswer (andThen (tracked l) (nothingAfter l)) ≡ ReadList.Refused q
+tracks-stopped l {q} p = rw (stopped (tracked l) q p) refl
+
+-- an accepted list: it holds what its first two bytes tell, and ends with its last track
+pub record Whole (l : List ℕ) (c : TrackList) : Type 0 where
   pub two : 2 ≤ length l
-  pub few : countMet (count l) ≡ true
-  pub sized : dimensionMet (dimension l) ≡ true
-  pub read : tracks l (fields (dimension l)) (count l) ≡ answered (record { value = ts; next = length l })
+  pub few : countMet (length (c .tracks)) ≡ true
+  pub sized : dimensionMet (c .dimension) ≡ true
+  pub read : tracks l (fields (c .dimension)) (length (c .tracks)) ≡ answered (record { value = c .tracks; next = length l })
+  pub count : length (c .tracks) ≡ count l
+  pub dimension : c .dimension ≡ dimension l
 
-pub contents-met : (l : List ℕ) {ts : List (List ℕ)} → contents l ≡ answered ts → Whole l ts
+pub contents-met : (l : List ℕ) {c : TrackList} → contents l ≡ answered c → Whole l c
 unfolding contents
-contents-met l {ts} e =
+contents-met l e =
     let a = ask-met 9 (leb 2 (length l)) _ e in
     let b = ask-met 10 (countMet (count l)) _ (a .1) in
     let d = ask-met 11 (dimensionMet (dimension l)) _ (b .1) in
-    let t = and-then-met (tracks l (fields (dimension l)) (count l)) (nothingAfter (length l)) (d .1) in
+    let t = and-then-met (tracked l) (nothingAfter l) (d .1) in
     let last = ask-met 16 (eqb (t .0 .next) (length l)) _ (t .2) in
-    let n : t .0 .next ≡ length l = eqb-true _ _ (last .0) in
-    let v : t .0 .value ≡ ts = answered-inj (last .1) in
-    record {
+    let n = tracked-length l (t .0) (t .1) in
+    subst (Whole l) (answered-inj (last .1)) (record {
       two = leb-true _ _ (a .0);
-      few = b .0;
+      few = rw n (b .0);
       sized = d .0;
-      read = t .1 ∙ ap (λ (u : List (List ℕ)). answered (record { value = u; next = t .0 .next })) v ∙ ap (λ (k : ℕ). answered (record { value = ts; next = k })) n;
-    }
+      read = ap (tracks l (fields (dimension l))) n ∙ t .1 ∙ ap (λ (k : ℕ). answered (record { value = t .0 .value; next = k })) (eqb-true _ _ (last .0));
+      count = n;
+      dimension = refl;
+    })
 
--- a list is accepted exactly if its answer is its first two bytes
-pub read-accepted : (l : List ℕ) {n d : ℕ} (o : Outcome (List (List ℕ))) → readAnswer l o ≡ ReadList.Read n d → (ts : List (List ℕ)) × (o ≡ answered ts) × (n ≡ count l) × (d ≡ dimension l)
-read-accepted l (refused q) e = let z : _≡_ {A = ℕ} 0 1 = cc in absurd (omega arith)
-read-accepted l (answered ts) e = (ts, refl, cc, cc)
+-- a list is accepted exactly if its answer is its count and dimension
+pub read-accepted : {n d : ℕ} (o : Outcome TrackList) → readAnswer o ≡ ReadList.Read n d → (c : TrackList) × (o ≡ answered c) × (n ≡ length (c .tracks)) × (d ≡ c .dimension)
+read-accepted (refused q) e = let z : _≡_ {A = ℕ} 0 1 = cc in absurd (omega arith)
+read-accepted (answered c) e = (c, refl, cc, cc)
 
-pub read-refused : (l : List ℕ) {q : ℕ} (o : Outcome (List (List ℕ))) → readAnswer l o ≡ ReadList.Refused q → o ≡ refused q
-read-refused l (refused q) e = cc
-read-refused l (answered ts) e = let z : _≡_ {A = ℕ} 0 1 = cc in absurd (omega arith)
+pub read-refused : {q : ℕ} (o : Outcome TrackList) → readAnswer o ≡ ReadList.Refused q → o ≡ refused q
+read-refused (refused q) e = cc
+read-refused (answered c) e = let z : _≡_ {A = ℕ} 0 1 = cc in absurd (omega arith)
 
 -- question 2 after the others
-pub reading-fits : (l : List ℕ) (room : ℕ) {ts : List (List ℕ)} → contents l ≡ answered ts → count l * fields (dimension l) ≤ room → reading l room ≡ answered ts
+pub reading-fits : (l : List ℕ) (room : ℕ) {c : TrackList} → contents l ≡ answered c → length (c .tracks) * fields (c .dimension) ≤ room → reading l room ≡ answered c
 unfolding reading
-reading-fits l room e h = rw e (simp (le-leb (count l * fields (dimension l)) room h))
+reading-fits l room e h = rw (e, le-leb _ room h) refl
 
-pub reading-short : (l : List ℕ) (room : ℕ) {ts : List (List ℕ)} → contents l ≡ answered ts → room < count l * fields (dimension l) → reading l room ≡ refused 2
+pub reading-short : (l : List ℕ) (room : ℕ) {c : TrackList} → contents l ≡ answered c → room < length (c .tracks) * fields (c .dimension) → reading l room ≡ refused 2
 unfolding reading
-reading-short l room e h = rw e (simp (lt-leb (count l * fields (dimension l)) room h))
+reading-short l room e h = rw (e, lt-leb _ room h) refl
 
 pub reading-refused : (l : List ℕ) (room : ℕ) {q : ℕ} → contents l ≡ refused q → reading l room ≡ refused q
 unfolding reading

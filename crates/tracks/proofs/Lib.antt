@@ -8,5 +8,6 @@ pub mod Track
 pub mod Values
 pub mod Records
 pub mod RoundTrip
+pub mod Sizes
 pub mod RecordParts
 pub mod Apart

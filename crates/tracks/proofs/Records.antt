@@ -9,7 +9,7 @@ use lib.Dec.{eqb}
 use lib.ListN.{length, drop, length-take, length-drop}
 use Rattle.kernel.specs.Answer.{Outcome, refused, answered}
 use Rattle.tracks.specs.Format.{fields}
-use Rattle.tracks.specs.Read.{track, count, dimension, contents}
+use Rattle.tracks.specs.Read.{TrackList, track, contents}
 use Rattle.tracks.specs.Calls.{ends}
 use Rattle.tracks.specs.Record.{recordEnd, recordIn, recordAt, sameBytes}
 use Rattle.tracks.specs.declared.format.Checked.the-variants.{End, Refused}
@@ -35,9 +35,9 @@ pub record-short : (l : List ℕ) (at : ℕ) → length (recordAt l at) ≤ leng
 unfolding recordAt
 record-short l at = by (contents l)
   where
-    by : (o : Outcome (List (List ℕ))) → length (recordIn l at o) ≤ length l - at
+    by : (o : Outcome TrackList) → length (recordIn l at o) ≤ length l - at
     by (refused q) = omega arith
-    by (answered ts) = let e = recordEnd l (fields (dimension l)) at 2 (count l) in omega (arith, length-take (e - at) (drop at l), length-drop at l)
+    by (answered c) = let e = recordEnd l (fields (c .dimension)) at 2 (length (c .tracks)) in omega (arith, length-take (e - at) (drop at l), length-drop at l)
 
 -- ---- equal bytes
 

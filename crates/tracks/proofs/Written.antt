@@ -14,7 +14,7 @@ use lib.Ieee.{Float, nan, inf, fin, binary64, toBits, isNan, ne}
 use lib.Ieee.Compare.{differs-from-itself, nan-differs}
 use Rattle.tracks.specs.Format.{fields, mapBytes, finiteBits}
 use Rattle.kernel.specs.Bytes.{bytes}
-use Rattle.tracks.specs.Write.{packed, mapByte, mapOf, fieldBytes, storedBytes, recordOf, recordsOf, listOf, tracksOf, allFinite, written}
+use Rattle.tracks.specs.Write.{packed, mapByte, mapOf, fieldBytes, storedBytes, recordOf, recordsOf, listOf, tracksOf, trackList, allFinite, written}
 use Rattle.kernel.specs.Lists.{tabulate, over}
 use Rattle.kernel.specs.Answer.{Outcome, refused, answered}
 use Rattle.tracks.specs.Read.{countMet, dimensionMet}
@@ -176,10 +176,10 @@ records-length (suc n) f v h =
     )
 
 -- a whole list's length
-pub list-length : (d n f : ℕ) (v : List ℕ) → length v ≡ n * f → length (listOf d (tracksOf n f v)) ≡ 2 + n * mapBytes f + length (storedBytes v)
+pub list-length : (n d : ℕ) (v : List ℕ) → length v ≡ n * fields d → length (listOf (trackList n d v)) ≡ 2 + n * mapBytes (fields d) + length (storedBytes v)
 unfolding listOf
-list-length d n f v h =
-    omega (arith, records-length n f v (omega arith), ap (λ (u : List ℕ). length (storedBytes u)) (take-all (n * f) v (omega arith)))
+list-length n d v h =
+    omega (arith, records-length n (fields d) v (omega arith), ap (λ (u : List ℕ). length (storedBytes u)) (take-all (n * fields d) v (omega arith)))
 
 -- ---- a list that is written
 
@@ -189,7 +189,7 @@ pub record Listed (n d : ℕ) (v : List ℕ) (room : ℕ) (l : List ℕ) : Type 
   pub long : length v ≡ n * fields d
   pub finite : allFinite v ≡ true
   pub fits : length l ≤ room
-  pub same : l ≡ listOf d (tracksOf n (fields d) v)
+  pub same : l ≡ listOf (trackList n d v)
 
 pub written-met : (n d : ℕ) (v : List ℕ) (room : ℕ) {l : List ℕ} → written n d v room ≡ answered l → Listed n d v room l
 unfolding written
@@ -198,7 +198,7 @@ written-met n d v room e =
     let b = ask-met 11 (dimensionMet d) _ (a .1) in
     let g = ask-met 2 (eqb (length v) (n * fields d)) _ (b .1) in
     let h = ask-met 14 (allFinite v) _ (g .1) in
-    let k = ask-met 20 (leb (length (listOf d (tracksOf n (fields d) v))) room) _ (h .1) in
+    let k = ask-met 20 (leb (length (listOf (trackList n d v))) room) _ (h .1) in
     let s = sym (answered-inj (k .1)) in
     record { few = a .0; sized = b .0; long = eqb-true _ _ (g .0); finite = h .0; fits = rw s (leb-true _ _ (k .0)); same = s }
 

@@ -7,7 +7,7 @@ use lib.ListN.{length, getD}
 use lib.Ieee.{Float, nan, binary64, fits, ofBits, toBits}
 use Rattle.kernel.specs.Answer.{Outcome, refused, answered}
 use Rattle.kernel.specs.Lists.{over}
-use Rattle.tracks.specs.Read.{Item, count, dimension}
+use Rattle.tracks.specs.Read.{Item, TrackList}
 use Rattle.tracks.specs.declared.format.Checked.{Checked}
 use Rattle.tracks.specs.declared.format.Checked.the-variants.{End, Refused}
 use Rattle.tracks.specs.declared.format.ReadList.{ReadList}
@@ -44,15 +44,15 @@ Accepted {A} o = (x : A) × (o ≡ answered x)
 abbrev pub Puts : {A : Type 0} → (A → List ℕ) → Outcome (Item A) → List Float → ℕ → ℕ → List Float → Type 0
 Puts {A} fieldsOf o old i next new = (x : Item A) → o ≡ answered x → (next ≡ x .next) × (new ≡ over old i (doubles (fieldsOf (x .value))))
 
--- The answer to a list that is read: the first two bytes of one that is accepted.
-abbrev pub readAnswer : List ℕ → Outcome (List (List ℕ)) → ReadList
-readAnswer l (refused q) = ReadList.Refused q
-readAnswer l (answered ts) = ReadList.Read (count l) (dimension l)
+-- The answer to a list that is read: how many tracks it has, and of which dimension.
+abbrev pub readAnswer : Outcome TrackList → ReadList
+readAnswer (refused q) = ReadList.Refused q
+readAnswer (answered c) = ReadList.Read (length (c .tracks)) (c .dimension)
 
 -- The values afterwards: the tracks' fields in front, and the rest as it was.
-abbrev pub readValues : Outcome (List (List ℕ)) → List Float → List Float
+abbrev pub readValues : Outcome TrackList → List Float → List Float
 readValues (refused q) old = old
-readValues (answered ts) old = over old 0 (doubles (joined ts))
+readValues (answered c) old = over old 0 (doubles (joined (c .tracks)))
 
 -- The answer to a list that is written: its length.
 abbrev pub writeAnswer : Outcome (List ℕ) → WrittenList

@@ -18,7 +18,7 @@ oneTrack = 0x01 ∷ 0x01 ∷ 0x02 ∷ 0x00 ∷ 0x00 ∷ 0x00 ∷ 0x00 ∷ 0x00 �
 abbrev pub zeroAndOne : List ℕ
 zeroAndOne = 0 ∷ 0x3FF0_0000_0000_0000 ∷ []
 
-pub one-track-read : contents oneTrack ≡ answered (zeroAndOne ∷ [])
+pub one-track-read : contents oneTrack ≡ answered (record { dimension = 1; tracks = zeroAndOne ∷ [] })
 unfolding fields stands number word none spare items stored field track tracks contents
 one-track-read = refl
 

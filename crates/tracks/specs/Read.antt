@@ -67,20 +67,25 @@ countMet n = leb n 32
 abbrev pub dimensionMet : ℕ → Bool
 dimensionMet d = leb 1 d && leb d 9
 
--- Question 16: nothing after the last track, in a list of n bytes.
-abbrev pub nothingAfter : {A : Type 0} → ℕ → Item A → Outcome A
-nothingAfter n ts = ask 16 (eqb (ts .next) n) (answered (ts .value))
+-- The dimension of a list and its tracks, each the 64 bits of its fields in their order.
+pub record TrackList : Type 0 where
+  pub dimension : ℕ
+  pub tracks : List (List ℕ)
 
--- The tracks of a list, each the 64 bits of its fields in their order.
-unfoldable pub contents : List ℕ → Outcome (List (List ℕ))
+-- Question 16: nothing after the last track.
+abbrev pub nothingAfter : List ℕ → Item (List (List ℕ)) → Outcome TrackList
+nothingAfter l ts = ask 16 (eqb (ts .next) (length l)) (answered (record { dimension = dimension l; tracks = ts .value }))
+
+-- What a list holds.
+unfoldable pub contents : List ℕ → Outcome TrackList
 unfolding fields tracks
 contents l =
     ask 9 (leb 2 (length l))
     (ask 10 (countMet (count l))
     (ask 11 (dimensionMet (dimension l))
-    (andThen (tracks l (fields (dimension l)) (count l)) (nothingAfter (length l)))))
+    (andThen (tracks l (fields (dimension l)) (count l)) (nothingAfter l))))
 
 -- Reading a list into a slice of some length: question 2 is the last.
-unfoldable pub reading : List ℕ → ℕ → Outcome (List (List ℕ))
+unfoldable pub reading : List ℕ → ℕ → Outcome TrackList
 unfolding fields contents
-reading l room = andThen (contents l) (λ ts. ask 2 (leb (count l * fields (dimension l)) room) (answered ts))
+reading l room = andThen (contents l) (λ c. ask 2 (leb (length (c .tracks) * fields (c .dimension)) room) (answered c))

@@ -6,7 +6,7 @@ use lib.Dec.{eqb}
 use lib.ListN.{length}
 use Rattle.kernel.specs.Answer.{Outcome, refused, answered}
 use Rattle.tracks.specs.Format.{part, fields}
-use Rattle.tracks.specs.Read.{Item, track, tracks, count, dimension, contents}
+use Rattle.tracks.specs.Read.{Item, TrackList, track, tracks, dimension, contents}
 
 -- The offset at which track j of an accepted list starts.
 unfoldable pub offset : List ℕ → ℕ → ℕ
@@ -31,9 +31,9 @@ recordEnd l f at from (suc n) = hereOr (track l f from) (eqb from at) (λ next. 
 
 -- The part of an accepted list that is the record at an offset: from the map to the last stored field.
 -- At the end, at an offset where no record starts, and in a list that is refused, it is empty.
-abbrev pub recordIn : List ℕ → ℕ → Outcome (List (List ℕ)) → List ℕ
+abbrev pub recordIn : List ℕ → ℕ → Outcome TrackList → List ℕ
 recordIn l at (refused q) = []
-recordIn l at (answered ts) = part l at (recordEnd l (fields (dimension l)) at 2 (count l))
+recordIn l at (answered c) = part l at (recordEnd l (fields (c .dimension)) at 2 (length (c .tracks)))
 
 unfoldable pub recordAt : List ℕ → ℕ → List ℕ
 unfolding contents recordEnd

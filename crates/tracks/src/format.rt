@@ -168,7 +168,7 @@ fn check_tracks(list: &[u8], f: usize, n: usize) -> Checked
 
 // The questions of a list, but for the room for its values.
 pub(crate) fn check_list(list: &[u8]) -> ReadList
-    ensures { λ r. ⌜ r ≡ readAnswer (now (list .entry)) (contents (now (list .entry))) ⌝ }
+    ensures { λ r. ⌜ r ≡ readAnswer (contents (now (list .entry))) ⌝ }
 {
     if list.len() < 2 {
         return ReadList::Refused(question::HEADER);
@@ -238,7 +238,7 @@ fn put_tracks(list: &[u8], f: usize, n: usize, values: &mut [f64]) -> usize
 
 // Reads a list: its tracks' fields go to the front of the values, in their order.
 pub fn read_list(list: &[u8], values: &mut [f64]) -> ReadList
-    ensures { λ r. ⌜ r ≡ readAnswer (now (list .entry)) (reading (now (list .entry)) (length (now (values .entry)))) ⌝ }
+    ensures { λ r. ⌜ r ≡ readAnswer (reading (now (list .entry)) (length (now (values .entry)))) ⌝ }
     ensures { λ _. ⌜ now (values .exit) ≡ readValues (reading (now (list .entry)) (length (now (values .entry)))) (now (values .entry)) ⌝ }
 {
     let c = check_list(list);

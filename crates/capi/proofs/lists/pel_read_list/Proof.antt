@@ -16,7 +16,7 @@ same-length c = search needs
 returns : tie.Need-returns
 returns c =
     let answered = c .before .before .before .before .before .read-list .ensures in
-    (reads-tells _ _ _ _ _ _ (c .enter-read .ensures) (answered .0), answered .1)
+    (reads-tells _ _ _ _ _ (c .enter-read .ensures) (answered .0), answered .1)
 
 pub pel-read-list-spec : {M : Type 1} → statement M
 pel-read-list-spec =

@@ -1,18 +1,17 @@
 -- `check_list` meets its contract: each way out answers the first question of `contents` that is not met.
 use mathlib.Core.Path.{_≡_, sym, ap, _∙_}
-use mathlib.Core.Bool.{true, false}
 use Prim.Native.Nat.{ℕ}
 use native.Mathlib.Omega.{arith}
-use borrow.Author.Tests.{le-leb, lt-leb, eq-eqb, ne-eqb, not-true, not-false}
+use borrow.Author.Tests.{le-leb, lt-leb, not-true, not-false}
 use denote.Ref.{now}
 use lib.ListN.{length}
 use mathlib.Core.List.{List}
-use Rattle.kernel.specs.Answer.{Outcome, andThen}
+use Rattle.kernel.specs.Answer.{andThen}
 use Rattle.tracks.specs.declared.format.ReadList.{ReadList}
 use Rattle.tracks.specs.Format.{fields}
-use Rattle.tracks.specs.Read.{Item, tracks, count, dimension, nothingAfter, contents}
+use Rattle.tracks.specs.Read.{tracks, count, nothingAfter, contents}
 use Rattle.tracks.specs.Calls.{ends, readAnswer}
-use Rattle.tracks.proofs.Accepted.{contents-head, dimension-small, tracks-ended, tracks-stopped}
+use Rattle.tracks.proofs.Accepted.{tracked, contents-head, dimension-small, tracks-ended, tracks-followed, tracks-stopped}
 use borrow.Author.Needs.{needs}
 use Rattle.tracks.proofs.format.check_list.Statement.{statement}
 use Rattle.tracks.proofs.format.check_list.Tie as tie
@@ -67,11 +66,8 @@ enum-known-c-2 c = search needs
 abbrev listed : tie.Else3 → List ℕ
 listed c = now (c .before .before .before .before .before .before .before .before .args .list)
 
-abbrev tracked : List ℕ → Outcome (Item (List (List ℕ)))
-tracked l = tracks l (fields (dimension l)) (count l)
-
 -- with 9 to 11 met, the tracks and 16 decide
-head : (c : tie.Else3) → contents (listed c) ≡ andThen (tracked (listed c)) (nothingAfter (length (listed c)))
+head : (c : tie.Else3) → contents (listed c) ≡ andThen (tracked (listed c)) (nothingAfter (listed c))
 head c =
     contents-head (listed c) (omega arith)
     (sym (c .before .before .before .count-met .ensures) ∙ not-false _ (c .before .before .if2 .left))
@@ -83,27 +79,18 @@ met c = c .before .before
 checked : (c : tie.After-check-tracks) → c .check-tracks .result ≡ ends (tracked (listed (met c)))
 checked c = let l = listed (met c) in c .check-tracks .ensures ∙ ap (λ (f : ℕ). ends (tracks l f (count l))) (c .before .fields .ensures .0)
 
--- what the answer is, by what the tracks and 16 decide
-decided : (c : tie.After-check-tracks) {r : ReadList} → readAnswer (listed (met c)) (andThen (tracked (listed (met c))) (nothingAfter (length (listed (met c))))) ≡ r → r ≡ readAnswer (listed (met c)) (contents (listed (met c)))
-decided c e = sym (ap (readAnswer (listed (met c))) (head (met c)) ∙ e)
+-- what the tracks and 16 decide is the answer
+decided : (c : tie.After-check-tracks) {r : ReadList} → readAnswer (andThen (tracked (listed (met c))) (nothingAfter (listed (met c)))) ≡ r → r ≡ readAnswer (contents (listed (met c)))
+decided c e = sym (ap readAnswer (head (met c)) ∙ e)
 
 returns-4 : tie.Need-returns-4
-returns-4 c =
-    let t = c .before .before .before .before in
-    let l = listed (met t) in
-    decided t (tracks-ended l (length l) (tracked l) (sym (checked t) ∙ c .before .before .c .given .1) true (eq-eqb _ _ (c .if4 .taken)))
+returns-4 c = let t = c .before .before .before .before in decided t (tracks-ended (listed (met t)) (sym (checked t) ∙ c .before .before .c .given .1) (c .if4 .taken))
 
 returns-5 : tie.Need-returns-5
-returns-5 c =
-    let t = c .before .before .before .before in
-    let l = listed (met t) in
-    decided t (tracks-ended l (length l) (tracked l) (sym (checked t) ∙ c .before .before .c .given .1) false (ne-eqb _ _ (c .if4 .left)))
+returns-5 c = let t = c .before .before .before .before in decided t (tracks-followed (listed (met t)) (sym (checked t) ∙ c .before .before .c .given .1) (c .if4 .left))
 
 returns-6 : tie.Need-returns-6
-returns-6 c =
-    let t = c .before .before .before in
-    let l = listed (met t) in
-    decided t (tracks-stopped l (length l) (tracked l) (sym (checked t) ∙ c .before .c2 .given .1))
+returns-6 c = let t = c .before .before .before in decided t (tracks-stopped (listed (met t)) (sym (checked t) ∙ c .before .c2 .given .1))
 
 pub check-list-spec : {M : Type 1} → statement M
 check-list-spec =
