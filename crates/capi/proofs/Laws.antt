@@ -7,8 +7,8 @@ use Rattle.kernel.specs.Answer.{Outcome, refused, answered}
 use Rattle.linalg.specs.declared.Written.{Written}
 use Rattle.linalg.specs.declared.Number.{Number}
 use Rattle.linalg.specs.Answer.{after, Leaves, given}
-use Rattle.tracks.specs.declared.format.ReadList.{ReadList}
-use Rattle.tracks.specs.declared.format.WrittenList.{WrittenList}
+use Rattle.tracks.specs.declared.read.ReadList.{ReadList}
+use Rattle.tracks.specs.declared.write.WrittenList.{WrittenList}
 use Rattle.tracks.specs.Read.{TrackList}
 use Rattle.tracks.specs.Calls.{readAnswer, writeAnswer}
 use Rattle.capi.specs.Told.{told, Tells, code, entered, toldRead, enteredRead, toldWritten, enteredLength}

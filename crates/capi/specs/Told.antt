@@ -10,10 +10,10 @@ use Rattle.linalg.specs.declared.Written.the-variants as written
 use Rattle.linalg.specs.declared.Number.{Number}
 use Rattle.linalg.specs.declared.Number.the-variants as number
 use Rattle.tracks.specs.Read.{TrackList}
-use Rattle.tracks.specs.declared.format.ReadList.{ReadList}
-use Rattle.tracks.specs.declared.format.ReadList.the-variants as read
-use Rattle.tracks.specs.declared.format.WrittenList.{WrittenList}
-use Rattle.tracks.specs.declared.format.WrittenList.the-variants as list
+use Rattle.tracks.specs.declared.read.ReadList.{ReadList}
+use Rattle.tracks.specs.declared.read.ReadList.the-variants as read
+use Rattle.tracks.specs.declared.write.WrittenList.{WrittenList}
+use Rattle.tracks.specs.declared.write.WrittenList.the-variants as list
 
 -- A refusal's question, with the memory as it was; 0 and the result.
 abbrev pub told : {A : Type 0} → Outcome A → A → ℕ × A

@@ -11,12 +11,13 @@ use lib.Ieee.Bits.{nanBits-above}
 use lib.ListN.{length}
 use borrow.Author.Tests.{leb-true, eqb-true, not-true, ltb-true, le-ltb, le-leb, lt-leb, eq-eqb, ne-eqb}
 use Rattle.kernel.specs.Answer.{Outcome, refused, answered, andThen}
-use Rattle.tracks.specs.Format.{fields, mapBytes, stands, spare, finiteBits}
+use Rattle.tracks.specs.Layout.{fields, mapBytes, stands, spare, finiteBits, countMet, dimensionMet}
 use Rattle.kernel.specs.Bytes.{word}
-use Rattle.tracks.specs.Read.{Item, TrackList, stored, storedIf, field, items, track, tracks, count, dimension, countMet, dimensionMet, nothingAfter, contents, reading}
-use Rattle.tracks.specs.Calls.{ends, readAnswer}
-use Rattle.tracks.specs.declared.format.ReadList.the-variants as ReadList
-use Rattle.tracks.specs.declared.format.Checked.the-variants.{End, Refused}
+use Rattle.tracks.specs.Read.{Item, TrackList, stored, storedIf, field, items, track, tracks, count, dimension, nothingAfter, contents, reading}
+use Rattle.tracks.specs.Calls.{readAnswer}
+use Rattle.tracks.specs.Steps.{ends, Within}
+use Rattle.tracks.specs.declared.read.ReadList.the-variants as ReadList
+use Rattle.tracks.specs.declared.read.Checked.the-variants.{End, Refused}
 use Rattle.tracks.proofs.Items.{ended, stopped, items-ind, items-length}
 use Rattle.kernel.proofs.Answers.{answered-inj, ask-met, and-then-met}
 
@@ -54,8 +55,8 @@ next-within l map k at x h p =
     (λ (s : (stands l map k ≡ false) × (x ≡ record { value = 0; next = at })). omega (arith, ap (λ (y : Item ℕ). y .next) (s .1)))
     (field-met l map k at p)
 
-pub field-within : (l : List ℕ) (map k at : ℕ) {e : ℕ} → at ≤ length l → ends (field l map k at) ≡ End e → e ≤ length l
-field-within l map k at {e} h p = let a = ended (field l map k at) e p in omega (arith, next-within l map k at (a .0) h (a .1), a .2)
+pub field-within : (l : List ℕ) (map k at : ℕ) → at ≤ length l → Within l (ends (field l map k at))
+field-within l map k at h e p = let a = ended (field l map k at) e p in omega (arith, next-within l map k at (a .0) h (a .1), a .2)
 
 -- accepted fields end within the list
 pub fields-within : (l : List ℕ) (map base : ℕ) → base ≤ length l → (n : ℕ) (ys : Item (List ℕ)) → items (field l map) base n ≡ answered ys → (base ≤ ys .next) × (ys .next ≤ length l)
@@ -81,8 +82,15 @@ track-met l f at ys e =
     let w = fields-within l at (at + mapBytes f) h f ys (b .1) in
     record { there = h; spare = b .0; fields = b .1; long = items-length (field l at) (at + mapBytes f) f ys (b .1); from = w .0; within = w .1 }
 
-pub track-within : (l : List ℕ) (f at : ℕ) {e : ℕ} → ends (track l f at) ≡ End e → e ≤ length l
-track-within l f at {e} p = let a = ended (track l f at) e p in omega (arith, track-met l f at (a .0) (a .1) .within, a .2)
+pub track-within : (l : List ℕ) (f at : ℕ) → Within l (ends (track l f at))
+track-within l f at e p = let a = ended (track l f at) e p in omega (arith, track-met l f at (a .0) (a .1) .within, a .2)
+
+-- accepted tracks end within the list
+pub tracks-within : (l : List ℕ) (f n : ℕ) → 2 ≤ length l → Within l (ends (tracks l f n))
+unfolding tracks
+tracks-within l f n h e p =
+    let a = ended (tracks l f n) e p in
+    rw (sym (a .2)) (items-ind (λ _. track l f) 2 (λ n ys. ys .next ≤ length l) h (λ k xs x q t. track-met l f (xs .next) x t .within) n (a .0) (a .1))
 
 -- which of the two an accepted field is, by its bit
 pub field-stored : (l : List ℕ) (map k at : ℕ) {x : Item ℕ} → stands l map k ≡ true → field l map k at ≡ answered x → Stored l at x

@@ -10,7 +10,7 @@ use mathlib.Core.Path.{_≡_, refl, sym, ap, _∙_}
 use mathlib.Core.Bool.{Bool, true, false, not, _&&_, cond}
 use borrow.Author.Tests.{eqb-true, eqb-false, eq-eqb}
 use lib.Dec.{eqb}
-use Rattle.tracks.specs.Format.{none}
+use Rattle.tracks.specs.Layout.{none}
 use Rattle.tracks.specs.Write.{packed}
 use Rattle.tracks.proofs.Written.{packed-lt}
 

@@ -8,11 +8,12 @@ use mathlib.Core.Path.{_≡_, refl, sym, ap, _∙_, subst}
 use mathlib.Core.List.{List, [], _∷_}
 use lib.ListN.{length, getD, length-append, List·getD-append}
 use lib.Seq.{getD-at}
-use Rattle.kernel.specs.Answer.{Outcome, refused, answered}
+use Rattle.kernel.specs.Answer.{Outcome, refused, answered, andThen, through}
 use Rattle.kernel.proofs.Answers.{answered-inj, never-both}
 use Rattle.tracks.specs.Read.{Item, push, items}
-use Rattle.tracks.specs.Calls.{ends}
-use Rattle.tracks.specs.declared.format.Checked.the-variants.{End, Refused}
+use Rattle.tracks.specs.Steps.{ends, continued}
+use Rattle.tracks.specs.declared.read.Checked.{Checked}
+use Rattle.tracks.specs.declared.read.Checked.the-variants.{End, Refused}
 
 -- an item that ends is read
 pub ended : {A : Type 0} (o : Outcome (Item A)) (e : ℕ) → ends o ≡ End e → (x : Item A) × (o ≡ answered x) × (x .next ≡ e)
@@ -41,12 +42,22 @@ module _ {A : Type 0} (read : ℕ → ℕ → Outcome (Item A)) (start : ℕ) wh
       let s : items read start (suc k) ≡ refused q = rw (p, r) refl in
       subst (λ (i : ℕ). items read start i ≡ refused q) m (stays (suc k) (n - suc k) q s)
 
-  -- the loop that checks: one more item, and the first that is refused
+  -- the loop that checks: one more item
+  pub ends-next : (k : ℕ) → ends (items read start (k + 1)) ≡ continued (ends (items read start k)) (λ at. ends (read k at))
+  unfolding items
+  ends-next k = rw add-one (by (items read start k))
+    where
+      pushed : (xs : Item (List A)) (o : Outcome (Item A)) → ends (through (push xs) o) ≡ ends o
+      pushed xs (refused q) = refl
+      pushed xs (answered x) = refl
+
+      by : (o : Outcome (Item (List A))) → ends (andThen o (λ xs. through (push xs) (read k (xs .next)))) ≡ continued (ends o) (λ at. ends (read k at))
+      by (refused q) = refl
+      by (answered xs) = pushed xs (read k (xs .next))
+
+  -- the loop that stops at a refusal: one more item, and the first that is refused
   pub ends-more : (k : ℕ) {at next : ℕ} → ends (items read start k) ≡ End at → ends (read k at) ≡ End next → ends (items read start (k + 1)) ≡ End next
-  ends-more k {at} {next} p q =
-      let a = ended (items read start k) at p in
-      let b = ended (read k at) next q in
-      rw (items-more k (a .0) (b .0) (a .1) (ap (read k) (a .2) ∙ b .1)) (ap End (b .2))
+  ends-more k p q = ends-next k ∙ ap (λ (c : Checked). continued c (λ at. ends (read k at))) p ∙ q
 
   pub ends-stop : (k n : ℕ) {at q : ℕ} → k < n → ends (items read start k) ≡ End at → ends (read k at) ≡ Refused q → ends (items read start n) ≡ Refused q
   ends-stop k n {at} {q} h p r =

@@ -12,14 +12,15 @@ use borrow.Author.Tests.{ne-eqb}
 use lib.Dec.{eqb}
 use lib.Seq.{length-take-le, take-suc, take-length}
 use Rattle.kernel.specs.Answer.{answered}
-use Rattle.tracks.specs.Format.{part, fields}
+use Rattle.tracks.specs.Layout.{part, fields}
 use Rattle.kernel.specs.Bytes.{Bytes}
 use Rattle.tracks.specs.Read.{Item, TrackList, items, track, tracks, dimension, contents, push}
 use Rattle.tracks.specs.Write.{recordOf, recordsOf}
 use Rattle.kernel.specs.Lists.{tabulate}
-use Rattle.tracks.specs.Calls.{ends, joined}
+use Rattle.tracks.specs.Calls.{joined}
+use Rattle.tracks.specs.Steps.{ends}
 use Rattle.tracks.specs.Record.{offset, recordEnd, recordIn, recordAt, nextOffset, atEnd, sameBytes}
-use Rattle.tracks.specs.declared.format.Checked.the-variants.{End}
+use Rattle.tracks.specs.declared.read.Checked.the-variants.{End}
 use Rattle.tracks.proofs.Items.{items-back, items-get, items-more}
 use Rattle.kernel.proofs.Answers.{answered-inj}
 use Rattle.tracks.proofs.Accepted.{Whole, contents-met, track-met}

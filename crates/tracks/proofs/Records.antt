@@ -8,11 +8,11 @@ use borrow.Author.Tests.{eq-eqb, ne-eqb, eqb-true}
 use lib.Dec.{eqb}
 use lib.ListN.{length, drop, length-take, length-drop}
 use Rattle.kernel.specs.Answer.{Outcome, refused, answered}
-use Rattle.tracks.specs.Format.{fields}
+use Rattle.tracks.specs.Layout.{fields}
 use Rattle.tracks.specs.Read.{TrackList, track, contents}
-use Rattle.tracks.specs.Calls.{ends}
+use Rattle.tracks.specs.Steps.{ends}
 use Rattle.tracks.specs.Record.{recordEnd, recordIn, recordAt, sameBytes}
-use Rattle.tracks.specs.declared.format.Checked.the-variants.{End, Refused}
+use Rattle.tracks.specs.declared.read.Checked.the-variants.{End, Refused}
 use Rattle.tracks.proofs.Items.{ended, stopped}
 
 module _ (l : List ℕ) (f at from n : ℕ) where

@@ -11,9 +11,9 @@ use lib.ListN.{length, getD, take, drop, length-append, length-drop, List·getD-
 use lib.Seq.{take-all, getD-at, length-take-le}
 use lib.Ieee.{Float}
 use Rattle.kernel.specs.Answer.{Outcome, answered, andThen}
-use Rattle.tracks.specs.Format.{Words, fields}
+use Rattle.tracks.specs.Layout.{Words, fields, countMet, dimensionMet}
 use Rattle.kernel.specs.Bytes.{Bytes}
-use Rattle.tracks.specs.Read.{Item, TrackList, track, tracks, count, dimension, countMet, dimensionMet, nothingAfter, contents}
+use Rattle.tracks.specs.Read.{Item, TrackList, track, tracks, count, dimension, nothingAfter, contents}
 use Rattle.tracks.specs.Write.{allFinite, recordOf, recordsOf, listOf, tracksOf, trackList, written}
 use Rattle.kernel.specs.Lists.{tabulate}
 use Rattle.tracks.specs.Calls.{doubles, patterns, Doubles, joined}

@@ -8,7 +8,7 @@ use borrow.Author.Tests.{leb-true}
 use lib.ListN.{length, length-append, length-drop}
 use Rattle.kernel.specs.Answer.{answered}
 use Rattle.kernel.specs.Bytes.{Bytes}
-use Rattle.tracks.specs.Format.{fields, mapBytes}
+use Rattle.tracks.specs.Layout.{fields, mapBytes}
 use Rattle.tracks.specs.Read.{TrackList, contents}
 use Rattle.tracks.specs.Write.{recordOf, recordsOf}
 use Rattle.tracks.proofs.Accepted.{contents-met, dimension-small}

@@ -12,7 +12,7 @@ use lib.Dec.{eqb}
 use lib.ListN.{length, getD, take, drop, length-append, length-drop, List·getD-append, List·getD-eq-default}
 use lib.Seq.{getD-take, getD-drop, getD-at, length-take-le, ext-getD, take-at, drop-drop, drop-at}
 use Rattle.kernel.specs.Answer.{answered}
-use Rattle.tracks.specs.Format.{Words, part, mapBytes, stands, spare, finiteBits}
+use Rattle.tracks.specs.Layout.{Words, part, mapBytes, stands, spare, finiteBits}
 use Rattle.kernel.specs.Bytes.{Bytes, number, bytes, word}
 use Rattle.tracks.specs.Read.{Item, stored, storedIf, field, items, track, push}
 use Rattle.tracks.specs.Write.{nonzero, mapByte, mapOf, fieldBytes, storedBytes, recordOf, allFinite}

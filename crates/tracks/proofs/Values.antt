@@ -10,7 +10,7 @@ use lib.ListN.{length, getD, take, drop, length-map}
 use lib.Seq.{take-add, take-all, take-at, drop-at, drop-drop, ext-getD, getD-drop}
 use lib.Ieee.{Float, binary64, isNan, ofBits}
 use lib.Ieee.Bits.{ofBits-toBits, toBits-ofBits, toBits-lt, nanBits-is}
-use Rattle.tracks.specs.Format.{Words, finiteBits}
+use Rattle.tracks.specs.Layout.{Words, finiteBits}
 use Rattle.tracks.specs.Write.{allFinite, tracksOf}
 use Rattle.kernel.specs.Lists.{tabulate, over}
 use Rattle.tracks.specs.Calls.{doubles, patterns, Doubles, joined}

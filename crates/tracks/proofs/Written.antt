@@ -12,14 +12,13 @@ use lib.ListN.{length, getD, take, drop, set, length-append, length-map, take-ap
 use lib.Seq.{sets-eq, take-add, take-all, length-take-le}
 use lib.Ieee.{Float, nan, inf, fin, binary64, toBits, isNan, ne}
 use lib.Ieee.Compare.{differs-from-itself, nan-differs}
-use Rattle.tracks.specs.Format.{fields, mapBytes, finiteBits}
+use Rattle.tracks.specs.Layout.{fields, mapBytes, finiteBits, countMet, dimensionMet}
 use Rattle.kernel.specs.Bytes.{bytes}
 use Rattle.tracks.specs.Write.{packed, mapByte, mapOf, fieldBytes, storedBytes, recordOf, recordsOf, listOf, tracksOf, trackList, allFinite, written}
 use Rattle.kernel.specs.Lists.{tabulate, over}
 use Rattle.kernel.specs.Answer.{Outcome, refused, answered}
-use Rattle.tracks.specs.Read.{countMet, dimensionMet}
 use Rattle.tracks.specs.Calls.{patterns, writeAnswer}
-use Rattle.tracks.specs.declared.format.WrittenList.the-variants as WrittenList
+use Rattle.tracks.specs.declared.write.WrittenList.the-variants as WrittenList
 use Rattle.kernel.proofs.Answers.{answered-inj, ask-met}
 use Rattle.kernel.proofs.Words.{length-bytes}
 use Rattle.tracks.proofs.Lists.{flatMap-append, flatMap-more, flatMap-part, getD-any, take-more, map-take, map-drop}

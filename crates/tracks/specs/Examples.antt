@@ -3,7 +3,7 @@ use Prim.Native.Nat.{ℕ}
 use mathlib.Core.Path.{_≡_, refl}
 use mathlib.Core.List.{List, [], _∷_, flatMap}
 use Rattle.kernel.specs.Answer.{refused, answered}
-use Rattle.tracks.specs.Format.{part, fields, stands, none, spare}
+use Rattle.tracks.specs.Layout.{part, fields, stands, none, spare}
 use Rattle.kernel.specs.Bytes.{number, bytes, word}
 use Rattle.tracks.specs.Read.{items, stored, field, track, tracks, contents}
 use Rattle.tracks.specs.Record.{recordEnd, recordAt}

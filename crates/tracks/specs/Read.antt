@@ -1,11 +1,11 @@
 -- Reading a list record of document 01: its questions in their order, and the tracks of a list that meets them all.
 use Prim.Native.Nat.{ℕ, zero, suc, _+_, _*_}
-use mathlib.Core.Bool.{Bool, true, false, not, _&&_}
+use mathlib.Core.Bool.{Bool, true, false, not}
 use mathlib.Core.List.{List, [], _∷_, _++_}
 use lib.Dec.{eqb, leb}
 use lib.ListN.{length, getD}
 use Rattle.kernel.specs.Answer.{Outcome, answered, ask, andThen, through}
-use Rattle.tracks.specs.Format.{fields, mapBytes, stands, spare, finiteBits}
+use Rattle.tracks.specs.Layout.{fields, countMet, dimensionMet, mapBytes, stands, finiteBits, spare}
 use Rattle.kernel.specs.Bytes.{word}
 
 -- What stands at an offset, and the offset after it.
@@ -59,13 +59,6 @@ count l = getD l 0 0
 
 abbrev pub dimension : List ℕ → ℕ
 dimension l = getD l 1 0
-
--- Questions 10 and 11.
-abbrev pub countMet : ℕ → Bool
-countMet n = leb n 32
-
-abbrev pub dimensionMet : ℕ → Bool
-dimensionMet d = leb 1 d && leb d 9
 
 -- The dimension of a list and its tracks, each the 64 bits of its fields in their order.
 pub record TrackList : Type 0 where

@@ -5,7 +5,7 @@ use mathlib.Core.List.{List, [], _∷_}
 use lib.Dec.{eqb}
 use lib.ListN.{length}
 use Rattle.kernel.specs.Answer.{Outcome, refused, answered}
-use Rattle.tracks.specs.Format.{part, fields}
+use Rattle.tracks.specs.Layout.{part, fields}
 use Rattle.tracks.specs.Read.{Item, TrackList, track, tracks, dimension, contents}
 
 -- The offset at which track j of an accepted list starts.

@@ -6,9 +6,9 @@ use lib.Dec.{eqb, leb}
 use lib.ListN.{length, getD, take, drop}
 use Rattle.kernel.specs.Answer.{Outcome, answered, ask}
 use Rattle.kernel.specs.Lists.{tabulate}
-use Rattle.tracks.specs.Format.{fields, mapBytes, finiteBits}
+use Rattle.tracks.specs.Layout.{fields, mapBytes, finiteBits, countMet, dimensionMet}
 use Rattle.kernel.specs.Bytes.{bytes}
-use Rattle.tracks.specs.Read.{TrackList, countMet, dimensionMet}
+use Rattle.tracks.specs.Read.{TrackList}
 
 -- A field's bit stands exactly when its 64 bits are not all zero.
 abbrev pub nonzero : ℕ → Bool

@@ -2,11 +2,12 @@
 ghost use mathlib.Core.Path.{_≡_};
 ghost use Prim.Native.Nat.{_≤_};
 ghost use lib.ListN.{length};
-ghost use Rattle.tracks.specs.Format.{fields};
+ghost use Rattle.tracks.specs.Layout.{fields};
 ghost use Rattle.tracks.specs.Record.{recordEnd, recordAt, nextOffset, atEnd, sameBytes};
-use crate::format;
-use crate::format::Checked;
-use crate::format::ReadList;
+use crate::layout;
+use crate::read;
+use crate::read::Checked;
+use crate::read::ReadList;
 
 // Where the record that starts at an offset ends, among n records of f fields; 0 where none of them starts there.
 fn find_end(list: &[u8], f: usize, n: usize, at: usize) -> usize
@@ -15,7 +16,7 @@ fn find_end(list: &[u8], f: usize, n: usize, at: usize) -> usize
 {
     let mut here = 2;
     for _ in 0..n {
-        let c = format::check_track(list, f, here);
+        let c = read::check_track(list, f, here);
         match c {
             Checked::End(next) => {
                 if here == at {
@@ -35,10 +36,10 @@ fn find_end(list: &[u8], f: usize, n: usize, at: usize) -> usize
 pub fn record(list: &[u8], at: usize) -> &[u8]
     ensures { λ r. ⌜ now r ≡ recordAt (now (list .entry)) at ⌝ }
 {
-    let c = format::check_list(list);
+    let c = read::check_list(list);
     match c {
         ReadList::Read { count, dimension } => {
-            let end = find_end(list, format::fields(dimension), count, at);
+            let end = find_end(list, layout::fields(dimension), count, at);
             if end < at {
                 return &list[..0];
             }

@@ -2,10 +2,11 @@
 // bytes, low byte first, values stand by their bit patterns, and bytes are filled up with zeros to a whole number. A record
 // has its length in numbers, its kind and six numbers more, which each kind below names in their order, and then its data.
 use kernel::bytes;
-use tracks::format;
-use tracks::format::ReadList;
-use tracks::format::WrittenList;
+use tracks::read;
+use tracks::read::ReadList;
 use tracks::record;
+use tracks::write;
+use tracks::write::WrittenList;
 ghost use Prim.Native.Nat.{_+_, _≤_};
 
 // The bytes of a record before its data.
@@ -84,7 +85,7 @@ fn is_read(
     dimension: u64,
     left: &[u8],
 ) -> bool {
-    let answer = format::read_list(list, values);
+    let answer = read::read_list(list, values);
     match answer {
         ReadList::Read {
             count: n,
@@ -122,7 +123,7 @@ fn is_written(
     length: u64,
     left: &[u8],
 ) -> bool {
-    let answer = format::write_list(count, dimension, values, out);
+    let answer = write::write_list(count, dimension, values, out);
     match answer {
         WrittenList::Length(n) => {
             if told != 0 || n as u64 != length {

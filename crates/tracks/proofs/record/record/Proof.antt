@@ -6,7 +6,7 @@ use mathlib.Core.List.{List}
 use denote.Ref.{now}
 use lib.ListN.{length, take, drop}
 use Rattle.kernel.specs.Answer.{answered}
-use Rattle.tracks.specs.Format.{part, fields}
+use Rattle.tracks.specs.Layout.{part, fields}
 use Rattle.tracks.specs.Read.{TrackList, contents}
 use Rattle.tracks.specs.Record.{recordEnd, recordIn, recordAt}
 use Rattle.tracks.proofs.Accepted.{Whole, contents-met, dimension-small, read-accepted, read-refused}
