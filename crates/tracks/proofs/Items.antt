@@ -11,7 +11,8 @@ use lib.Seq.{getD-at}
 use Rattle.kernel.specs.Answer.{Outcome, refused, answered, andThen, through}
 use Rattle.kernel.proofs.Answers.{answered-inj, never-both}
 use Rattle.tracks.specs.Read.{Item, push, items}
-use Rattle.tracks.specs.Steps.{ends, continued}
+use Rattle.tracks.specs.Record.{endOf}
+use Rattle.tracks.specs.Steps.{ends, continued, checkedEnd}
 use Rattle.tracks.specs.declared.read.Checked.{Checked}
 use Rattle.tracks.specs.declared.read.Checked.the-variants.{End, Refused}
 
@@ -24,6 +25,11 @@ ended (answered x) e p = (x, refl, cc)
 pub stopped : {A : Type 0} (o : Outcome (Item A)) (q : ℕ) → ends o ≡ Refused q → o ≡ refused q
 stopped (refused n) q p = cc
 stopped (answered x) q p = let z : _≡_ {A = ℕ} 0 1 = cc in absurd (omega arith)
+
+-- where items end, by what was read and by what was checked
+pub checked-end : {A : Type 0} (o : Outcome (Item A)) → checkedEnd (ends o) ≡ endOf o
+checked-end (refused q) = refl
+checked-end (answered x) = refl
 
 module _ {A : Type 0} (read : ℕ → ℕ → Outcome (Item A)) (start : ℕ) where
   pub items-more : (k : ℕ) (xs : Item (List A)) (x : Item A) → items read start k ≡ answered xs → read k (xs .next) ≡ answered x → items read start (k + 1) ≡ answered (push xs x)

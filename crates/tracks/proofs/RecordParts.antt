@@ -7,25 +7,26 @@ use native.Mathlib.Numerals.{add-one}
 use mathlib.Core.Path.{_≡_, refl, sym, ap, _∙_, subst}
 use mathlib.Core.Bool.{true, false}
 use mathlib.Core.List.{List, [], _++_, flatMap, append-nil}
-use lib.ListN.{length, getD, take, drop, length-drop}
+use lib.ListN.{length, getD, take, drop, length-drop, List·getD-append}
 use borrow.Author.Tests.{ne-eqb}
 use lib.Dec.{eqb}
 use lib.Seq.{length-take-le, take-suc, take-length}
-use Rattle.kernel.specs.Answer.{answered}
+use Rattle.kernel.specs.Answer.{Outcome, answered}
 use Rattle.tracks.specs.Layout.{part, fields}
 use Rattle.kernel.specs.Bytes.{Bytes}
 use Rattle.tracks.specs.Read.{Item, TrackList, items, track, tracks, dimension, contents, push}
 use Rattle.tracks.specs.Write.{recordOf, recordsOf}
-use Rattle.kernel.specs.Lists.{tabulate}
-use Rattle.tracks.specs.Calls.{joined}
+use Rattle.kernel.specs.Lists.{tabulate, over}
+use Rattle.tracks.specs.Calls.{joined, offsetsLeft, trackOffsets}
 use Rattle.tracks.specs.Steps.{ends}
 use Rattle.tracks.specs.Record.{offset, recordEnd, recordIn, recordAt, nextOffset, atEnd, sameBytes}
 use Rattle.tracks.specs.declared.read.Checked.the-variants.{End}
 use Rattle.tracks.proofs.Items.{items-back, items-get, items-more}
 use Rattle.kernel.proofs.Answers.{answered-inj}
 use Rattle.tracks.proofs.Accepted.{Whole, contents-met, track-met}
+use Rattle.kernel.proofs.Lists.{length-tabulate, getD-tabulate}
 use Rattle.tracks.proofs.Lists.{flatMap-more, joined-more}
-use Rattle.tracks.proofs.Records.{end-here, end-later, same-refl, same-equal}
+use Rattle.tracks.proofs.Records.{placing-fits, end-here, end-later, same-refl, same-equal}
 use Rattle.tracks.proofs.Track.{Fit, track-read, track-of}
 use Rattle.tracks.proofs.RoundTrip.{accepted-fit, accepted-records, some-fields}
 
@@ -110,6 +111,20 @@ module _ (l : List ℕ) (h : Bytes l) (c : TrackList) (ok : contents l ≡ answe
       let w = subst (λ (k : ℕ). recordEnd l f (offset l k) (offset l 0) (suc (j + (n - suc j))) ≡ offset l (suc k)) z (walk j 0 (n - suc j) (omega arith)) in
       ap (recordIn l (offset l j)) ok
       ∙ ap (part l (offset l j)) (ap (λ (k : ℕ). recordEnd l f (offset l j) k (n)) (sym reader-start) ∙ ap (recordEnd l f (offset l j) (offset l 0)) (sym e) ∙ w)
+
+  -- The last track ends where the list ends.
+  pub offset-last : offset l n ≡ length l
+  offset-last = offset-is n _ (whole .read)
+
+  -- What `track_offsets` leaves in a slice that is long enough: the offset of each track, and where the last one ends. With `record-part`, a
+  -- caller that has asked once takes each track's record as a part of the list.
+  pub offsets-stored : (old : List ℕ) → n + 1 ≤ length old → (j : ℕ) → j ≤ n → getD (trackOffsets l old .1) j 0 ≡ offset l j
+  unfolding over
+  offsets-stored old room j le =
+      let new = tabulate (n + 1) (offset l) in
+      ap (λ (o : Outcome TrackList). getD (offsetsLeft l o old) j 0) (placing-fits l (length old) ok room)
+      ∙ List·getD-append new (drop (0 + length new) old) 0 j (omega (arith, length-tabulate (n + 1) (offset l)))
+      ∙ getD-tabulate (n + 1) (offset l) 0 j (omega arith)
 
   -- Each part's fields are the track's.
   pub record-fields : (j : ℕ) → j < n → recordAt l (offset l j) ≡ recordOf (getD (c .tracks) j [])

@@ -1,17 +1,17 @@
 -- Laws of the records that a list is walked through.
-use Prim.Native.Nat.{ℕ, suc, _-_, _≤_}
+use Prim.Native.Nat.{ℕ, suc, _+_, _-_, _<_, _≤_}
 use native.Mathlib.Omega.{arith}
 use mathlib.Core.Path.{_≡_, refl, ap}
 use mathlib.Core.Bool.{Bool, true, false, _&&_}
 use mathlib.Core.List.{List, [], _∷_}
-use borrow.Author.Tests.{eq-eqb, ne-eqb, eqb-true}
+use borrow.Author.Tests.{eq-eqb, ne-eqb, eqb-true, le-leb, lt-leb}
 use lib.Dec.{eqb}
 use lib.ListN.{length, drop, length-take, length-drop}
 use Rattle.kernel.specs.Answer.{Outcome, refused, answered}
 use Rattle.tracks.specs.Layout.{fields}
 use Rattle.tracks.specs.Read.{TrackList, track, contents}
 use Rattle.tracks.specs.Steps.{ends}
-use Rattle.tracks.specs.Record.{recordEnd, recordIn, recordAt, sameBytes}
+use Rattle.tracks.specs.Record.{recordEnd, recordIn, recordAt, placing, sameBytes}
 use Rattle.tracks.specs.declared.read.Checked.the-variants.{End, Refused}
 use Rattle.tracks.proofs.Items.{ended, stopped}
 
@@ -38,6 +38,21 @@ record-short l at = by (contents l)
     by : (o : Outcome TrackList) → length (recordIn l at o) ≤ length l - at
     by (refused q) = omega arith
     by (answered c) = let e = recordEnd l (fields (c .dimension)) at 2 (length (c .tracks)) in omega (arith, length-take (e - at) (drop at l), length-drop at l)
+
+-- ---- where the tracks stand
+
+-- question 2 after the others
+pub placing-fits : (l : List ℕ) (room : ℕ) {c : TrackList} → contents l ≡ answered c → length (c .tracks) + 1 ≤ room → placing l room ≡ answered c
+unfolding placing
+placing-fits l room e h = rw (e, le-leb _ room h) refl
+
+pub placing-short : (l : List ℕ) (room : ℕ) {c : TrackList} → contents l ≡ answered c → room < length (c .tracks) + 1 → placing l room ≡ refused 2
+unfolding placing
+placing-short l room e h = rw (e, lt-leb _ room h) refl
+
+pub placing-refused : (l : List ℕ) (room : ℕ) {q : ℕ} → contents l ≡ refused q → placing l room ≡ refused q
+unfolding placing
+placing-refused l room e = rw e refl
 
 -- ---- equal bytes
 

@@ -1,12 +1,13 @@
 -- What the calls answer, and what they leave in lent memory.
-use Prim.Native.Nat.{ℕ}
+use Prim.Native.Nat.{ℕ, _+_}
 use mathlib.Core.List.{List, map, flatMap}
 use lib.Dec.{T}
 use lib.ListN.{length, getD}
 use lib.Ieee.{Float, nan, binary64, fits, ofBits, toBits}
 use Rattle.kernel.specs.Answer.{Outcome, refused, answered}
-use Rattle.kernel.specs.Lists.{over}
+use Rattle.kernel.specs.Lists.{over, tabulate}
 use Rattle.tracks.specs.Read.{TrackList}
+use Rattle.tracks.specs.Record.{offset, placing}
 use Rattle.tracks.specs.declared.read.Checked.the-variants.{Refused}
 use Rattle.tracks.specs.declared.read.ReadList.{ReadList}
 use Rattle.tracks.specs.declared.read.ReadList.the-variants as ReadList
@@ -38,6 +39,15 @@ readAnswer (answered c) = ReadList.Read (length (c .tracks)) (c .dimension)
 abbrev pub readValues : Outcome TrackList → List Float → List Float
 readValues (refused q) old = old
 readValues (answered c) old = over old 0 (doubles (joined (c .tracks)))
+
+-- The numbers afterwards: the offsets of the tracks and of the last one's end in front, and the rest as it was.
+abbrev pub offsetsLeft : List ℕ → Outcome TrackList → List ℕ → List ℕ
+offsetsLeft l (refused q) old = old
+offsetsLeft l (answered c) old = over old 0 (tabulate (length (c .tracks) + 1) (offset l))
+
+-- The answer of `track_offsets`, and the numbers afterwards.
+abbrev pub trackOffsets : List ℕ → List ℕ → ReadList × List ℕ
+trackOffsets l old = (readAnswer (placing l (length old)), offsetsLeft l (placing l (length old)) old)
 
 -- The answer to a list that is written: its length.
 abbrev pub writeAnswer : Outcome (List ℕ) → WrittenList

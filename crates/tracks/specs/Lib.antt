@@ -1,7 +1,7 @@
 pub mod Layout
 pub mod Read
 pub mod Write
+pub mod Record
 pub mod Calls
 pub mod Steps
-pub mod Record
 pub mod Examples

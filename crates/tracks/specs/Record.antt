@@ -2,20 +2,21 @@
 use Prim.Native.Nat.{ℕ, zero, suc, _+_}
 use mathlib.Core.Bool.{Bool, true, false, _&&_}
 use mathlib.Core.List.{List, [], _∷_}
-use lib.Dec.{eqb}
+use lib.Dec.{eqb, leb}
 use lib.ListN.{length}
-use Rattle.kernel.specs.Answer.{Outcome, refused, answered}
+use Rattle.kernel.specs.Answer.{Outcome, refused, answered, ask, andThen}
 use Rattle.tracks.specs.Layout.{part, fields}
 use Rattle.tracks.specs.Read.{Item, TrackList, track, tracks, dimension, contents}
 
--- The offset at which track j of an accepted list starts.
+-- Where items end; 0 where they are refused.
+abbrev pub endOf : {A : Type 0} → Outcome (Item A) → ℕ
+endOf (refused q) = 0
+endOf (answered x) = x .next
+
+-- The offset at which track j of an accepted list starts. That of the count is where the last track ends.
 unfoldable pub offset : List ℕ → ℕ → ℕ
 unfolding fields tracks
-offset l j = start (tracks l (fields (dimension l)) j)
-  where
-    start : Outcome (Item (List (List ℕ))) → ℕ
-    start (refused q) = 0
-    start (answered ts) = ts .next
+offset l j = endOf (tracks l (fields (dimension l)) j)
 
 -- The record that is looked for is here, or is looked for where this one ends.
 abbrev pub hereOr : Outcome (Item (List ℕ)) → Bool → (ℕ → ℕ) → ℕ
@@ -47,6 +48,11 @@ nextOffset l at = at + length (recordAt l at)
 unfoldable pub atEnd : List ℕ → ℕ → Bool
 unfolding recordAt
 atEnd l at = eqb (length (recordAt l at)) 0
+
+-- Where the tracks of a list start and end, in a slice of some length: question 2 asks for one number more than there are tracks.
+unfoldable pub placing : List ℕ → ℕ → Outcome TrackList
+unfolding contents
+placing l room = andThen (contents l) (λ c. ask 2 (leb (length (c .tracks) + 1) room) (answered c))
 
 -- Whether two parts have one length and the same bytes.
 unfoldable pub sameBytes : List ℕ → List ℕ → Bool

@@ -21,6 +21,11 @@ abbrev pub continued : Checked → (ℕ → Checked) → Checked
 continued (End at) next = next at
 continued (Refused q) next = Refused q
 
+-- Where items end; 0 where they are refused.
+abbrev pub checkedEnd : Checked → ℕ
+checkedEnd (End at) = at
+checkedEnd (Refused q) = 0
+
 -- That items end within a list.
 abbrev pub Within : List ℕ → Checked → Type 0
 Within l c = (at : ℕ) → c ≡ End at → at ≤ length l

@@ -88,7 +88,7 @@ pub(crate) fn check_track(list: &[u8], f: usize, at: usize) -> Checked
 }
 
 // Where a track ends after the tracks before it, unless one of those is refused.
-fn next_track(list: &[u8], f: usize, c: Checked) -> Checked
+pub(crate) fn next_track(list: &[u8], f: usize, c: Checked) -> Checked
     requires { ⌜ (f ≤ 64) × Within (now list) c ⌝ }
     ensures { λ r. ⌜ r ≡ continued c (λ at. ends (track (now (list .entry)) f at)) ⌝ }
 {
