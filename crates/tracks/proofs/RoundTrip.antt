@@ -95,7 +95,8 @@ list-accepted c few sized fit =
 
 -- ---- values of tracks one after another
 
-joined-fit : (f : ℕ) (ts : List (List ℕ)) → Fits f ts → (length (joined ts) ≡ length ts * f) × (allFinite (joined ts) ≡ true) × Words (joined ts)
+-- values of tracks that fit, one after another
+pub joined-fit : (f : ℕ) (ts : List (List ℕ)) → Fits f ts → (length (joined ts) ≡ length ts * f) × (allFinite (joined ts) ≡ true) × Words (joined ts)
 unfolding joined flatMap allFinite
 joined-fit f [] h = (sym (zero-mul f), refl, λ i. omega arith)
 joined-fit f (t ∷ ts) h =
@@ -103,7 +104,8 @@ joined-fit f (t ∷ ts) h =
     let b = joined-fit f ts (λ k lt. h (suc k) (omega arith)) in
     (omega (arith, length-append t (joined ts), a .long, b .0, suc-mul (length ts) f), all-append t (joined ts) (a .finite) (b .1), words-append t (joined ts) (a .words) (b .2))
 
-cut-fit : (n f : ℕ) (v : List ℕ) → length v ≡ n * f → allFinite v ≡ true → Words v → Fits f (tracksOf n f v)
+-- values that are cut into tracks fit
+pub cut-fit : (n f : ℕ) (v : List ℕ) → length v ≡ n * f → allFinite v ≡ true → Words v → Fits f (tracksOf n f v)
 unfolding tracksOf
 cut-fit n f v long fin w k lt =
     let cut : ℕ → List ℕ = λ j. take f (drop (j * f) v) in

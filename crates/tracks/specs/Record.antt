@@ -1,9 +1,11 @@
 -- A track's own bytes as a part of the list, and when two such parts are equal.
 use Prim.Native.Nat.{ℕ, zero, suc, _+_}
+use mathlib.Core.Path.{_≡_}
 use mathlib.Core.Bool.{Bool, true, false, _&&_}
 use mathlib.Core.List.{List, [], _∷_}
 use lib.Dec.{eqb, leb}
 use lib.ListN.{length}
+use denote.Ref.{RefT, now}
 use Rattle.kernel.specs.Answer.{Outcome, refused, answered, ask, andThen}
 use Rattle.tracks.specs.Layout.{part, fields}
 use Rattle.tracks.specs.Read.{Item, TrackList, track, tracks, dimension, contents}
@@ -39,6 +41,10 @@ recordIn l at (answered c) = part l at (recordEnd l (fields (c .dimension)) at 2
 unfoldable pub recordAt : List ℕ → ℕ → List ℕ
 unfolding contents recordEnd
 recordAt l at = recordIn l at (contents l)
+
+-- That a part that is not empty is the caller's own bytes from an offset on: it stands where the list stands, so many bytes further.
+abbrev pub OwnBytes : RefT (List ℕ) → ℕ → RefT (List ℕ) → Type 0
+OwnBytes list at r = (length (now r) ≡ 0 → ⊥) → (r .ptr .0 ≡ list .ptr .0) × (r .ptr .1 ≡ list .ptr .1 + at)
 
 -- The offset after the record at an offset, and whether there is none.
 unfoldable pub nextOffset : List ℕ → ℕ → ℕ

@@ -5,7 +5,7 @@ ghost use lib.ListN.{length};
 ghost use Rattle.tracks.specs.Layout.{fields};
 ghost use Rattle.kernel.specs.Lists.{over, tabulate};
 ghost use Rattle.tracks.specs.Read.{tracks};
-ghost use Rattle.tracks.specs.Record.{endOf, recordEnd, recordAt, nextOffset, atEnd, sameBytes};
+ghost use Rattle.tracks.specs.Record.{endOf, recordEnd, recordAt, OwnBytes, nextOffset, atEnd, sameBytes};
 ghost use Rattle.tracks.specs.Calls.{trackOffsets};
 ghost use Rattle.tracks.specs.Steps.{checkedEnd};
 use crate::layout;
@@ -39,7 +39,7 @@ fn find_end(list: &[u8], f: usize, n: usize, at: usize) -> usize
 
 // A track's own bytes: the record of an accepted list that starts at an offset, or an empty part.
 pub fn record(list: &[u8], at: usize) -> &[u8]
-    ensures { λ r. ⌜ now r ≡ recordAt (now (list .entry)) at ⌝ }
+    ensures { λ r. ⌜ (now r ≡ recordAt (now (list .entry)) at) × OwnBytes (list .entry) at r ⌝ }
 {
     let c = read::check_list(list);
     match c {

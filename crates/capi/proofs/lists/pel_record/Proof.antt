@@ -9,7 +9,7 @@ record-requires : tie.Need-record-requires
 record-requires c κs = search needs
 
 returns : tie.Need-returns
-returns c = (refl, ap length (c .«record» .ensures))
+returns c = (refl, ap length (c .«record» .ensures .0))
 
 pub pel-record-spec : {M : Type 1} → statement M
 pel-record-spec = tie.close (tie.spec record-requires returns)

@@ -12,11 +12,11 @@ use Rattle.tracks.proofs.record.next_offset.Statement.{statement}
 use Rattle.tracks.proofs.record.next_offset.Tie as tie
 
 add-result : tie.Need-add-result
-add-result c = let x = c .before .before .args in omega (arith, record-short (now (x .list)) (x .at), ap length (c .record .ensures))
+add-result c = let x = c .before .before .args in omega (arith, record-short (now (x .list)) (x .at), ap length (c .record .ensures .0))
 
 returns : tie.Need-returns
 unfolding nextOffset
-returns c = ap (λ (p : List ℕ). c .before .before .args .at + length p) (c .record .ensures)
+returns c = ap (λ (p : List ℕ). c .before .before .args .at + length p) (c .record .ensures .0)
 
 pub next-offset-spec : {M : Type 1} → statement M
 next-offset-spec = tie.close (tie.spec (λ c κs. search needs) add-result returns)

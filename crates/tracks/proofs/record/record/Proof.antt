@@ -1,5 +1,5 @@
 -- `record` meets its contract: the part from the offset to where the record ends, and an empty one where there is none.
-use mathlib.Core.Path.{_≡_, sym, ap, _∙_}
+use mathlib.Core.Path.{_≡_, refl, sym, ap, _∙_}
 use Prim.Native.Nat.{ℕ, _-_}
 use native.Mathlib.Omega.{arith}
 use mathlib.Core.List.{List}
@@ -56,17 +56,17 @@ returns c =
     let t = c .before .before in
     let x = begun t .args in
     let e : t .find-end .result - x .at ≡ 0 = omega (arith, c .before .if1 .taken) in
-    sym (found t ∙ ap (λ (k : ℕ). take k (drop (x .at) (now (x .list)))) e)
+    (sym (found t ∙ ap (λ (k : ℕ). take k (drop (x .at) (now (x .list)))) e), λ some. absurd (some refl))
 
 returns-2 : tie.Need-returns-2
-returns-2 c = sym (found (c .before .before))
+returns-2 c = (sym (found (c .before .before)), λ some. (refl, omega arith))
 
 returns-3 : tie.Need-returns-3
 unfolding recordAt
 returns-3 c =
     let x = c .before .before .before .before .before .args in
     let e = read-refused (contents (now (x .list))) (sym (c .before .before .before .check-list .ensures) ∙ c .before .enum-told .given .1) in
-    sym (ap (recordIn (now (x .list)) (x .at)) e)
+    (sym (ap (recordIn (now (x .list)) (x .at)) e), λ some. absurd (some refl))
 
 pub record-spec : {M : Type 1} → statement M
 record-spec =
