@@ -8,6 +8,7 @@ pub mod Track
 pub mod Values
 pub mod Records
 pub mod RoundTrip
+pub mod Trips
 pub mod Sizes
 pub mod RecordParts
 pub mod Apart
