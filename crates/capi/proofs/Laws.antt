@@ -7,8 +7,9 @@ use Rattle.kernel.specs.Answer.{Outcome, refused, answered}
 use Rattle.dense.specs.declared.Written.{Written}
 use Rattle.dense.specs.declared.Number.{Number}
 use Rattle.dense.specs.Answer.{after, Leaves, given}
-use Rattle.tracks.specs.declared.format.ReadList.{ReadList}
-use Rattle.tracks.specs.declared.format.WrittenList.{WrittenList}
+use Rattle.tracks.specs.declared.read.ReadList.{ReadList}
+use Rattle.tracks.specs.declared.write.WrittenList.{WrittenList}
+use Rattle.tracks.specs.Read.{TrackList}
 use Rattle.tracks.specs.Calls.{readAnswer, writeAnswer}
 use Rattle.capi.specs.Told.{told, Tells, code, entered, toldRead, enteredRead, toldWritten, enteredLength}
 
@@ -31,14 +32,14 @@ unfolding Tells
 gives-tells outcome old new answer r h g = h ∙ ap (λ (a : Number). entered a old) g ∙ entered-told outcome old
 
 -- a list that is read
-read-told : (l : List ℕ) (outcome : Outcome (List (List ℕ))) (n d : ℕ) → enteredRead (readAnswer l outcome) n d ≡ toldRead l outcome n d
+read-told : (outcome : Outcome TrackList) (n d : ℕ) → enteredRead (readAnswer outcome) n d ≡ toldRead outcome n d
 unfolding toldRead
-read-told l (refused k) n d = refl
-read-told l (answered tracks) n d = refl
+read-told (refused k) n d = refl
+read-told (answered c) n d = refl
 
-pub reads-tells : (l : List ℕ) (outcome : Outcome (List (List ℕ))) (n d : ℕ) (answer : ReadList) (told : ℕ × (ℕ × ℕ)) → told ≡ enteredRead answer n d
-    → answer ≡ readAnswer l outcome → told ≡ toldRead l outcome n d
-reads-tells l outcome n d answer told h a = h ∙ ap (λ (x : ReadList). enteredRead x n d) a ∙ read-told l outcome n d
+pub reads-tells : (outcome : Outcome TrackList) (n d : ℕ) (answer : ReadList) (told : ℕ × (ℕ × ℕ))
+    → told ≡ enteredRead answer n d → answer ≡ readAnswer outcome → told ≡ toldRead outcome n d
+reads-tells outcome n d answer told h a = h ∙ ap (λ (x : ReadList). enteredRead x n d) a ∙ read-told outcome n d
 
 -- a list that is written
 written-told : (outcome : Outcome (List ℕ)) (old : ℕ) → enteredLength (writeAnswer outcome) old ≡ toldWritten outcome old

@@ -9,11 +9,11 @@ use Rattle.dense.specs.declared.Written.{Written}
 use Rattle.dense.specs.declared.Written.the-variants as written
 use Rattle.dense.specs.declared.Number.{Number}
 use Rattle.dense.specs.declared.Number.the-variants as number
-use Rattle.tracks.specs.Read.{count, dimension}
-use Rattle.tracks.specs.declared.format.ReadList.{ReadList}
-use Rattle.tracks.specs.declared.format.ReadList.the-variants as read
-use Rattle.tracks.specs.declared.format.WrittenList.{WrittenList}
-use Rattle.tracks.specs.declared.format.WrittenList.the-variants as list
+use Rattle.tracks.specs.Read.{TrackList}
+use Rattle.tracks.specs.declared.read.ReadList.{ReadList}
+use Rattle.tracks.specs.declared.read.ReadList.the-variants as read
+use Rattle.tracks.specs.declared.write.WrittenList.{WrittenList}
+use Rattle.tracks.specs.declared.write.WrittenList.the-variants as list
 
 -- A refusal's question, with the memory as it was; 0 and the result.
 abbrev pub told : {A : Type 0} → Outcome A → A → ℕ × A
@@ -35,9 +35,9 @@ entered (number.Value x) old = (0, x)
 entered (number.Refused k) old = (k, old)
 
 -- Of a list that is read: the code, and the count and the dimension afterwards.
-unfoldable pub toldRead : List ℕ → Outcome (List (List ℕ)) → ℕ → ℕ → ℕ × (ℕ × ℕ)
-toldRead l (refused k) n d = (k, (n, d))
-toldRead l (answered tracks) n d = (0, (count l, dimension l))
+unfoldable pub toldRead : Outcome TrackList → ℕ → ℕ → ℕ × (ℕ × ℕ)
+toldRead (refused k) n d = (k, (n, d))
+toldRead (answered c) n d = (0, (length (c .tracks), c .dimension))
 
 abbrev pub enteredRead : ReadList → ℕ → ℕ → ℕ × (ℕ × ℕ)
 enteredRead (read.Read n d) oldN oldD = (0, (n, d))

@@ -8,8 +8,9 @@ ghost use Rattle.tracks.specs.Record as Record;
 ghost use Rattle.capi.specs.Told.{toldRead, toldWritten};
 use crate::told::enter_length;
 use crate::told::enter_read;
-use tracks::format;
+use tracks::read;
 use tracks::record;
+use tracks::write;
 
 // The tracks' fields of a list into values, and its count and dimension.
 #[no_mangle]
@@ -19,10 +20,10 @@ pub extern "C" fn pel_read_list(
     count: &mut usize,
     dimension: &mut usize,
 ) -> u32
-    ensures { λ r. ⌜ (r, (now (count .exit), now (dimension .exit))) ≡ toldRead (now (list .entry)) (Read.reading (now (list .entry)) (ListN.length (now (values .entry)))) (now (count .entry)) (now (dimension .entry)) ⌝ }
+    ensures { λ r. ⌜ (r, (now (count .exit), now (dimension .exit))) ≡ toldRead (Read.reading (now (list .entry)) (ListN.length (now (values .entry)))) (now (count .entry)) (now (dimension .entry)) ⌝ }
     ensures { λ _. ⌜ now (values .exit) ≡ Calls.readValues (Read.reading (now (list .entry)) (ListN.length (now (values .entry)))) (now (values .entry)) ⌝ }
 {
-    enter_read(format::read_list(list, values), count, dimension)
+    enter_read(read::read_list(list, values), count, dimension)
 }
 
 // A list of so many tracks with these fields into out, and its length.
@@ -37,7 +38,7 @@ pub extern "C" fn pel_write_list(
     ensures { λ r. ⌜ (r, now (length .exit)) ≡ toldWritten (Write.written count dimension (Calls.patterns (now (values .entry))) (ListN.length (now (out .entry)))) (now (length .entry)) ⌝ }
     ensures { λ _. ⌜ now (out .exit) ≡ Calls.writeBytes (Write.written count dimension (Calls.patterns (now (values .entry))) (ListN.length (now (out .entry)))) (now (out .entry)) ⌝ }
 {
-    enter_length(format::write_list(count, dimension, values, out), length)
+    enter_length(write::write_list(count, dimension, values, out), length)
 }
 
 // The record of a list at an offset: the offset, and the record's length, 0 where there is none.

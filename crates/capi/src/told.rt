@@ -3,8 +3,8 @@ ghost use mathlib.Core.Path.{_≡_};
 ghost use Rattle.capi.specs.Told.{code, entered, enteredRead, enteredLength};
 use dense::Number;
 use dense::Written;
-use tracks::format::ReadList;
-use tracks::format::WrittenList;
+use tracks::read::ReadList;
+use tracks::write::WrittenList;
 
 // The code of an answer whose result has been written.
 pub(crate) fn code(answer: Written) -> u32

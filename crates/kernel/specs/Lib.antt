@@ -1,4 +1,5 @@
 pub mod Answer
+pub mod Bytes
 pub mod Constants
 pub mod Lists
 pub mod Number

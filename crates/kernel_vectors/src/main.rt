@@ -4,6 +4,7 @@
 // answer's number; then the entries of the slices that are read, and those of the one that is written after the call.
 mod calls;
 
+use kernel::bytes;
 ghost use Prim.Native.Nat.{_+_, _≤_};
 
 const HEAD: usize = 11;
@@ -24,7 +25,7 @@ fn number(s: &[u8], at: usize) -> u64 {
     if 0x1_0000 <= at {
         return 0;
     }
-    replay::word(s, 8 * at)
+    bytes::word(s, 8 * at)
 }
 
 // A slice's length out of a record.
@@ -123,7 +124,7 @@ fn size(s: &[u8], at: usize) -> usize
     requires { do ⌜ at ≤ (← ⟦s.len()⟧) ⌝ }
     ensures { λ r. do ⌜ r + at ≤ (← ⟦s.len()⟧ .entry) ⌝ }
 {
-    let n = (replay::word(s, at) % 0x1_0000) as usize;
+    let n = (bytes::word(s, at) % 0x1_0000) as usize;
     if s.len() - at < 8 * n {
         return 0;
     }

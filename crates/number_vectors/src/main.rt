@@ -1,5 +1,6 @@
 // Replays frozen answers of the number helpers: two blocks of 65,536 bytes at most. A record is four numbers of eight
 // bytes, low byte first: which call, its one or two arguments by their bit patterns, and the answer's bit pattern.
+use kernel::bytes;
 use kernel::number;
 
 const RECORD: usize = 32;
@@ -23,11 +24,11 @@ fn one_more(n: u64) -> u64 {
 
 // Counts the record at the start of s under its call, and where the answer is another, that too.
 fn replay_record(s: &[u8], cases: &mut [u64; CALLS], differences: &mut [u64; CALLS]) {
-    let call = (replay::word(s, 0) % 5) as usize;
-    let x = replay::double(replay::word(s, 8));
-    let y = replay::double(replay::word(s, 16));
+    let call = (bytes::word(s, 0) % 5) as usize;
+    let x = replay::double(bytes::word(s, 8));
+    let y = replay::double(bytes::word(s, 16));
     cases[call] = one_more(cases[call]);
-    if !replay::is_same(answer(call, x, y), replay::word(s, 24)) {
+    if !replay::is_same(answer(call, x, y), bytes::word(s, 24)) {
         differences[call] = one_more(differences[call]);
     }
 }

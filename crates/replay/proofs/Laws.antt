@@ -1,24 +1,13 @@
--- Numbers in bytes; which bit patterns are a NaN's, by the comparison that the code makes; what is the same double.
-use Prim.Native.Nat.{ℕ, _+_, _*_, _%_, _^_, _≤_, _<_}
-use mathlib.Core.List.{List}
-use lib.ListN.{length}
-use mathlib.Core.Path.{_≡_, refl, sym, _∙_, subst, subst⁻¹}
-use mathlib.Core.Bool.{Bool, true, false, not}
-use lib.Dec.{T, ltb, eqb}
-use borrow.Author.Tests.{lt-ltb, le-ltb, le-leb, lt-leb}
+-- Which bit patterns are a NaN's, by the comparison that the code makes; what is the same double.
+use Prim.Native.Nat.{ℕ, _%_, _≤_, _<_}
+use mathlib.Core.Path.{_≡_, refl, sym, _∙_, subst}
+use mathlib.Core.Bool.{true, false}
+use lib.Dec.{T, eqb}
+use borrow.Author.Tests.{lt-ltb, le-ltb}
 use lib.Ieee.{Float, nan, inf, fin, binary64, isNan, nanBits, ne, ofBits, toBits}
 use lib.Ieee.Bits.{nanBits-is, nanBits-above}
 use lib.Ieee.Compare.{differs-from-itself}
-use Rattle.replay.specs.Replay.{half, word, same}
-
--- eight bytes, all there or not
-pub word-inside : (s : List ℕ) (at : ℕ) → at + 8 ≤ length s → half s at + 2 ^ 32 * half s (at + 4) ≡ word s at
-unfolding word
-word-inside s at h = rw (le-leb (at + 8) (length s) h) refl
-
-pub word-outside : (s : List ℕ) (at : ℕ) → length s < at + 8 → 0 ≡ word s at
-unfolding word
-word-outside s at h = rw (lt-leb (at + 8) (length s) h) refl
+use Rattle.replay.specs.Replay.{same}
 
 -- below the sign, the patterns above that of +infinity
 pub nan-pattern : (p : ℕ) → 0x7FF0_0000_0000_0000 < p % 0x8000_0000_0000_0000 → nanBits binary64 p ≡ true

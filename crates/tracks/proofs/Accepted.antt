@@ -1,27 +1,30 @@
 -- What an accepted field, and an accepted track, says of its bytes.
 use Prim.Native.Nat.{ℕ, _+_, _*_, _%_, _^_, _<_, _≤_}
 use native.Mathlib.Omega.{arith}
-use mathlib.Core.Path.{_≡_, refl, sym, ap, _∙_}
+use mathlib.Core.Path.{_≡_, refl, sym, ap, _∙_, subst}
 use mathlib.Core.Logic.{_⊎_, inl, inr, ⊎-elim}
 use mathlib.Core.Bool.{Bool, true, false, not, _&&_}
-use mathlib.Core.List.{List, []}
+use mathlib.Core.List.{List}
 use lib.Dec.{T, leb, eqb}
 use lib.Ieee.{binary64, nanBits}
 use lib.Ieee.Bits.{nanBits-above}
 use lib.ListN.{length}
-use borrow.Author.Tests.{leb-true, eqb-true, not-true, ltb-true, le-ltb, le-leb, lt-leb}
-use Rattle.kernel.specs.Answer.{Outcome, refused, answered, ask}
-use Rattle.tracks.specs.Format.{fields, mapBytes, stands, word, finite, spare}
-use Rattle.tracks.specs.Read.{Item, stored, storedIf, field, items, track, tracks, count, dimension, countMet, dimensionMet, whole, contents, fitting, reading}
-use Rattle.tracks.specs.Calls.{ends, readAnswer}
-use Rattle.tracks.specs.declared.format.ReadList.the-variants as ReadList
-use Rattle.tracks.specs.declared.format.Checked.the-variants.{End, Refused}
-use Rattle.tracks.proofs.Items.{ended, stopped, answered-inj, ask-met, items-ind, items-length}
+use borrow.Author.Tests.{leb-true, eqb-true, not-true, ltb-true, le-ltb, le-leb, lt-leb, eq-eqb, ne-eqb}
+use Rattle.kernel.specs.Answer.{Outcome, refused, answered, andThen}
+use Rattle.tracks.specs.Layout.{fields, mapBytes, stands, spare, finiteBits, countMet, dimensionMet}
+use Rattle.kernel.specs.Bytes.{word}
+use Rattle.tracks.specs.Read.{Item, TrackList, stored, storedIf, field, items, track, tracks, count, dimension, nothingAfter, contents, reading}
+use Rattle.tracks.specs.Calls.{readAnswer}
+use Rattle.tracks.specs.Steps.{ends, Within}
+use Rattle.tracks.specs.declared.read.ReadList.the-variants as ReadList
+use Rattle.tracks.specs.declared.read.Checked.the-variants.{End, Refused}
+use Rattle.tracks.proofs.Items.{ended, stopped, items-ind, items-length}
+use Rattle.kernel.proofs.Answers.{answered-inj, ask-met, and-then-met}
 
 -- a stored field: it is all there, finite, and not all zero bits
 pub record Stored (l : List ℕ) (at : ℕ) (x : Item ℕ) : Type 0 where
   pub there : at + 8 ≤ length l
-  pub finite : finite (word l at) ≡ true
+  pub finite : finiteBits (word l at) ≡ true
   pub nonzero : eqb (word l at) 0 ≡ false
   pub value : x .value ≡ word l at
   pub next : x .next ≡ at + 8
@@ -30,7 +33,7 @@ pub stored-met : (l : List ℕ) (at : ℕ) {x : Item ℕ} → stored l at ≡ an
 unfolding stored
 stored-met l at e =
     let a = ask-met 12 (leb (at + 8) (length l)) _ e in
-    let b = ask-met 14 (finite (word l at)) _ (a .1) in
+    let b = ask-met 14 (finiteBits (word l at)) _ (a .1) in
     let d = ask-met 15 (not (eqb (word l at) 0)) _ (b .1) in
     record { there = leb-true _ _ (a .0); finite = b .0; nonzero = not-true _ (d .0); value = cc; next = cc }
 
@@ -52,8 +55,8 @@ next-within l map k at x h p =
     (λ (s : (stands l map k ≡ false) × (x ≡ record { value = 0; next = at })). omega (arith, ap (λ (y : Item ℕ). y .next) (s .1)))
     (field-met l map k at p)
 
-pub field-within : (l : List ℕ) (map k at : ℕ) {e : ℕ} → at ≤ length l → ends (field l map k at) ≡ End e → e ≤ length l
-field-within l map k at {e} h p = let a = ended (field l map k at) e p in omega (arith, next-within l map k at (a .0) h (a .1), a .2)
+pub field-within : (l : List ℕ) (map k at : ℕ) → at ≤ length l → Within l (ends (field l map k at))
+field-within l map k at h e p = let a = ended (field l map k at) e p in omega (arith, next-within l map k at (a .0) h (a .1), a .2)
 
 -- accepted fields end within the list
 pub fields-within : (l : List ℕ) (map base : ℕ) → base ≤ length l → (n : ℕ) (ys : Item (List ℕ)) → items (field l map) base n ≡ answered ys → (base ≤ ys .next) × (ys .next ≤ length l)
@@ -79,8 +82,15 @@ track-met l f at ys e =
     let w = fields-within l at (at + mapBytes f) h f ys (b .1) in
     record { there = h; spare = b .0; fields = b .1; long = items-length (field l at) (at + mapBytes f) f ys (b .1); from = w .0; within = w .1 }
 
-pub track-within : (l : List ℕ) (f at : ℕ) {e : ℕ} → ends (track l f at) ≡ End e → e ≤ length l
-track-within l f at {e} p = let a = ended (track l f at) e p in omega (arith, track-met l f at (a .0) (a .1) .within, a .2)
+pub track-within : (l : List ℕ) (f at : ℕ) → Within l (ends (track l f at))
+track-within l f at e p = let a = ended (track l f at) e p in omega (arith, track-met l f at (a .0) (a .1) .within, a .2)
+
+-- accepted tracks end within the list
+pub tracks-within : (l : List ℕ) (f n : ℕ) → 2 ≤ length l → Within l (ends (tracks l f n))
+unfolding tracks
+tracks-within l f n h e p =
+    let a = ended (tracks l f n) e p in
+    rw (sym (a .2)) (items-ind (λ _. track l f) 2 (λ n ys. ys .next ≤ length l) h (λ k xs x q t. track-met l f (xs .next) x t .within) n (a .0) (a .1))
 
 -- which of the two an accepted field is, by its bit
 pub field-stored : (l : List ℕ) (map k at : ℕ) {x : Item ℕ} → stands l map k ≡ true → field l map k at ≡ answered x → Stored l at x
@@ -92,13 +102,21 @@ unfolding field
 field-absent l map k at b e = sym (answered-inj (rw b at e))
 
 -- a finite double is no NaN
-pub finite-no-nan : (b : ℕ) → finite b ≡ true → T (not (nanBits binary64 b))
+pub finite-no-nan : (b : ℕ) → finiteBits b ≡ true → T (not (nanBits binary64 b))
 finite-no-nan b h = rw (nanBits-above binary64 b ∙ le-ltb (2047 * 2 ^ 52) (b % 2 ^ 63) (omega (arith, ltb-true (b % 2 ^ 63) (2047 * 2 ^ 52) h))) tt
 
+-- the tracks that a list's first two bytes tell
+abbrev pub tracked : List ℕ → Outcome (Item (List (List ℕ)))
+tracked l = tracks l (fields (dimension l)) (count l)
+
 -- a list whose first two bytes are accepted, by its tracks
-pub contents-head : (l : List ℕ) → 2 ≤ length l → countMet (count l) ≡ true → dimensionMet (dimension l) ≡ true → contents l ≡ whole (length l) (tracks l (fields (dimension l)) (count l))
+pub contents-head : (l : List ℕ) → 2 ≤ length l → countMet (count l) ≡ true → dimensionMet (dimension l) ≡ true → contents l ≡ andThen (tracked l) (nothingAfter l)
 unfolding contents
 contents-head l h n d = simp (le-leb 2 (length l) h, n, d)
+
+tracked-length : (l : List ℕ) (x : Item (List (List ℕ))) → tracked l ≡ answered x → length (x .value) ≡ count l
+unfolding tracks
+tracked-length l = items-length (λ _. track l (fields (dimension l))) 2 (count l)
 
 -- a dimension that is accepted is at most 9
 pub dimension-small : (d : ℕ) → dimensionMet d ≡ true → d ≤ 9
@@ -109,57 +127,62 @@ dimension-small d h = leb-true d 9 (and-right (leb 1 d) (leb d 9) h)
     and-right false b e = let z : _≡_ {A = ℕ} 0 1 = cc in absurd (omega arith)
 
 -- question 16, after tracks that end, and after a refusal
-pub whole-ended : (l : List ℕ) (n : ℕ) (o : Outcome (Item (List (List ℕ)))) {e : ℕ} → ends o ≡ End e → (b : Bool) → eqb e n ≡ b → readAnswer l (whole n o) ≡ readAnswer l (ask 16 b (answered []))
-unfolding whole
-whole-ended l n (refused q) p b e = let z : _≡_ {A = ℕ} 0 1 = cc in absurd (omega arith)
-whole-ended l n (answered x) {e = k} p b e = let s : x .next ≡ k = cc in rw (ap (λ (i : ℕ). eqb i n) s ∙ e) (by b)
-  where
-    by : (b : Bool) → readAnswer l (ask 16 b (answered (x .value))) ≡ readAnswer l (ask 16 b (answered []))
-    by true = refl
-    by false = refl
+pub tracks-ended : (l : List ℕ) {e : ℕ} → ends (tracked l) ≡ End e → e ≡ length l → readAnswer (andThen (tracked l) (nothingAfter l)) ≡ ReadList.Read (count l) (dimension l)
+tracks-ended l {e} p q =
+    let x = ended (tracked l) e p in
+    rw (x .1, eq-eqb (x .0 .next) (length l) (x .2 ∙ q)) (ap (λ (n : ℕ). ReadList.Read n (dimension l)) (tracked-length l (x .0) (x .1)))
 
-pub whole-stopped : (l : List ℕ) (n : ℕ) (o : Outcome (Item (List (List ℕ)))) {q : ℕ} → ends o ≡ Refused q → readAnswer l (whole n o) ≡ ReadList.Refused q
-unfolding whole
-whole-stopped l n o {q} p = rw (stopped o q p) refl
+pub tracks-followed : (l : List ℕ) {e : ℕ} → ends (tracked l) ≡ End e → (e ≡ length l → ⊥) → readAnswer (andThen (tracked l) (nothingAfter l)) ≡ ReadList.Refused 16
+tracks-followed l {e} p q = let x = ended (tracked l) e p in rw (x .1, ne-eqb (x .0 .next) (length l) (λ s. q (sym (x .2) ∙ s))) refl
 
--- an accepted list
-pub record Whole (l : List ℕ) (ts : List (List ℕ)) : Type 0 where
+pub tracks-stopped : (l : List ℕ) {q : ℕ} → ends (tracked l) ≡ Refused q → readAnswer (andThen (tracked l) (nothingAfter l)) ≡ ReadList.Refused q
+tracks-stopped l {q} p = rw (stopped (tracked l) q p) refl
+
+-- an accepted list: it holds what its first two bytes tell, and ends with its last track
+pub record Whole (l : List ℕ) (c : TrackList) : Type 0 where
   pub two : 2 ≤ length l
-  pub few : countMet (count l) ≡ true
-  pub sized : dimensionMet (dimension l) ≡ true
-  pub read : tracks l (fields (dimension l)) (count l) ≡ answered (record { value = ts; next = length l })
+  pub few : countMet (length (c .tracks)) ≡ true
+  pub sized : dimensionMet (c .dimension) ≡ true
+  pub read : tracks l (fields (c .dimension)) (length (c .tracks)) ≡ answered (record { value = c .tracks; next = length l })
+  pub count : length (c .tracks) ≡ count l
+  pub dimension : c .dimension ≡ dimension l
 
-pub contents-met : (l : List ℕ) {ts : List (List ℕ)} → contents l ≡ answered ts → Whole l ts
-unfolding contents whole
-contents-met l {ts} e =
+pub contents-met : (l : List ℕ) {c : TrackList} → contents l ≡ answered c → Whole l c
+unfolding contents
+contents-met l e =
     let a = ask-met 9 (leb 2 (length l)) _ e in
     let b = ask-met 10 (countMet (count l)) _ (a .1) in
     let d = ask-met 11 (dimensionMet (dimension l)) _ (b .1) in
-    record { two = leb-true _ _ (a .0); few = b .0; sized = d .0; read = last _ (d .1) }
-  where
-    last : (o : Outcome (Item (List (List ℕ)))) → whole (length l) o ≡ answered ts → o ≡ answered (record { value = ts; next = length l })
-    last (refused q) e = let z : _≡_ {A = ℕ} 0 1 = cc in absurd (omega arith)
-    last (answered x) e = let a = ask-met 16 (eqb (x .next) (length l)) _ e in let n : x .next ≡ length l = eqb-true _ _ (a .0) in
-        ap (λ (v : List (List ℕ)). answered (record { value = v; next = x .next })) (answered-inj (a .1)) ∙ ap (λ (k : ℕ). answered (record { value = ts; next = k })) n
+    let t = and-then-met (tracked l) (nothingAfter l) (d .1) in
+    let last = ask-met 16 (eqb (t .0 .next) (length l)) _ (t .2) in
+    let n = tracked-length l (t .0) (t .1) in
+    subst (Whole l) (answered-inj (last .1)) (record {
+      two = leb-true _ _ (a .0);
+      few = rw n (b .0);
+      sized = d .0;
+      read = ap (tracks l (fields (dimension l))) n ∙ t .1 ∙ ap (λ (k : ℕ). answered (record { value = t .0 .value; next = k })) (eqb-true _ _ (last .0));
+      count = n;
+      dimension = refl;
+    })
 
--- a list is accepted exactly if its answer is its first two bytes
-pub read-accepted : (l : List ℕ) {n d : ℕ} (o : Outcome (List (List ℕ))) → readAnswer l o ≡ ReadList.Read n d → (ts : List (List ℕ)) × (o ≡ answered ts) × (n ≡ count l) × (d ≡ dimension l)
-read-accepted l (refused q) e = let z : _≡_ {A = ℕ} 0 1 = cc in absurd (omega arith)
-read-accepted l (answered ts) e = (ts, refl, cc, cc)
+-- a list is accepted exactly if its answer is its count and dimension
+pub read-accepted : {n d : ℕ} (o : Outcome TrackList) → readAnswer o ≡ ReadList.Read n d → (c : TrackList) × (o ≡ answered c) × (n ≡ length (c .tracks)) × (d ≡ c .dimension)
+read-accepted (refused q) e = let z : _≡_ {A = ℕ} 0 1 = cc in absurd (omega arith)
+read-accepted (answered c) e = (c, refl, cc, cc)
 
-pub read-refused : (l : List ℕ) {q : ℕ} (o : Outcome (List (List ℕ))) → readAnswer l o ≡ ReadList.Refused q → o ≡ refused q
-read-refused l (refused q) e = cc
-read-refused l (answered ts) e = let z : _≡_ {A = ℕ} 0 1 = cc in absurd (omega arith)
+pub read-refused : {q : ℕ} (o : Outcome TrackList) → readAnswer o ≡ ReadList.Refused q → o ≡ refused q
+read-refused (refused q) e = cc
+read-refused (answered c) e = let z : _≡_ {A = ℕ} 0 1 = cc in absurd (omega arith)
 
 -- question 2 after the others
-pub reading-fits : (l : List ℕ) (room : ℕ) {ts : List (List ℕ)} → contents l ≡ answered ts → count l * fields (dimension l) ≤ room → reading l room ≡ answered ts
-unfolding reading fitting
-reading-fits l room e h = rw e (simp (le-leb (count l * fields (dimension l)) room h))
+pub reading-fits : (l : List ℕ) (room : ℕ) {c : TrackList} → contents l ≡ answered c → length (c .tracks) * fields (c .dimension) ≤ room → reading l room ≡ answered c
+unfolding reading
+reading-fits l room e h = rw (e, le-leb _ room h) refl
 
-pub reading-short : (l : List ℕ) (room : ℕ) {ts : List (List ℕ)} → contents l ≡ answered ts → room < count l * fields (dimension l) → reading l room ≡ refused 2
-unfolding reading fitting
-reading-short l room e h = rw e (simp (lt-leb (count l * fields (dimension l)) room h))
+pub reading-short : (l : List ℕ) (room : ℕ) {c : TrackList} → contents l ≡ answered c → room < length (c .tracks) * fields (c .dimension) → reading l room ≡ refused 2
+unfolding reading
+reading-short l room e h = rw (e, lt-leb _ room h) refl
 
 pub reading-refused : (l : List ℕ) (room : ℕ) {q : ℕ} → contents l ≡ refused q → reading l room ≡ refused q
-unfolding reading fitting
+unfolding reading
 reading-refused l room e = rw e refl

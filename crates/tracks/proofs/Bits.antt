@@ -1,37 +1,18 @@
--- Laws of numbers and their bytes, and of a byte and its bits, both ways.
+-- Laws of a byte and its bits, both ways, and of tests that all fail.
 use Prim.Native.Nat.{ℕ, zero, suc, _+_, _-_, _*_, _/_, _%_, _^_, _<_, _≤_}
 use native.Mathlib.Omega.{arith}
-use native.Mathlib.Nat.{pow-suc, pow-succ', div-lt-iff-lt-mul, mod-eq-of-lt, div-eq-of-lt, add-mul-div-right, mul-comm, mul-assoc, eq-or-lt-of-le, le-of-suc-le-suc}
+use native.Mathlib.Numerals.{add-one}
+use native.Mathlib.Nat.{pow-suc, pow-succ', mod-eq-of-lt, div-eq-of-lt, add-mul-div-right, mul-comm, mul-assoc, eq-or-lt-of-le, le-of-suc-le-suc}
 use mathlib.Core.Logic.{⊎-elim}
 use lib.Arith.{mod-mul}
 use lib.Pow.{pow-add, pow-pos}
 use mathlib.Core.Path.{_≡_, refl, sym, ap, _∙_}
-use mathlib.Core.Bool.{Bool, true, false, cond}
-use mathlib.Core.List.{List, [], _∷_}
+use mathlib.Core.Bool.{Bool, true, false, not, _&&_, cond}
 use borrow.Author.Tests.{eqb-true, eqb-false, eq-eqb}
 use lib.Dec.{eqb}
-use lib.ListN.{length}
-use Rattle.tracks.specs.Format.{Bytes, number, bytes}
+use Rattle.tracks.specs.Layout.{none}
 use Rattle.tracks.specs.Write.{packed}
 use Rattle.tracks.proofs.Written.{packed-lt}
-
--- ---- numbers
-
--- bytes are the bytes of their number
-pub bytes-number : (s : List ℕ) → Bytes s → bytes (length s) (number s) ≡ s
-unfolding bytes number
-bytes-number [] h = refl
-bytes-number (b ∷ s) h =
-    let small : b < 256 = h 0 in
-    let low : (b + 256 * number s) % 256 ≡ b = omega arith in
-    let high : (b + 256 * number s) / 256 ≡ number s = omega arith in
-    rw (low, high, bytes-number s (λ i. h (suc i))) refl
-
--- a number that fits its bytes is theirs
-pub number-bytes : (n x : ℕ) → x < 256 ^ n → number (bytes n x) ≡ x
-unfolding bytes number
-number-bytes zero x h = omega arith
-number-bytes (suc n) x h = omega (arith, number-bytes n (x / 256) (div-lt-iff-lt-mul (omega arith) .1 (rw (pow-suc 256 n) at h)))
 
 -- ---- bits
 
@@ -104,3 +85,37 @@ packed-bit test n i h = bit-back (test i) (packed test n / 2 ^ i) (by n h)
         (λ (e : i ≡ n). ap (λ (k : ℕ). (packed test n + bit (test n) * 2 ^ n) / 2 ^ k % 2) e ∙ last (packed test n) (test n) n (packed-lt test n) ∙ ap (λ (k : ℕ). bit (test k)) (sym e))
         (λ (l : i < n). let m : i + suc (n - suc i) ≡ n = omega arith in ap (λ (k : ℕ). (packed test n + bit (test n) * 2 ^ k) / 2 ^ i % 2) (sym m) ∙ above (packed test n) (bit (test n)) i (n - suc i) ∙ by n l)
         (eq-or-lt-of-le (le-of-suc-le-suc h))
+
+-- ---- tests that all fail
+
+-- one test more that fails
+pub none-more : (test : ℕ → Bool) (n : ℕ) {b : Bool} → none test n ≡ true → test n ≡ b → none test (n + 1) ≡ not b
+unfolding none
+none-more test n p q = rw (add-one, p, q) refl
+
+-- a test that holds
+pub none-not : (test : ℕ → Bool) (k n : ℕ) → k < n → test k ≡ true → none test n ≡ false
+unfolding none
+none-not test k zero h e = absurd (omega arith)
+none-not test k (suc n) h e =
+    ⊎-elim
+    (λ (q : k ≡ n). no-right (none test n) (ap (λ (i : ℕ). not (test i)) (sym q) ∙ ap not e))
+    (λ (l : k < n). rw (none-not test k n l e) refl)
+    (eq-or-lt-of-le (le-of-suc-le-suc h))
+  where
+    no-right : (a : Bool) {b : Bool} → b ≡ false → a && b ≡ false
+    no-right true q = q
+    no-right false q = refl
+
+-- each test fails
+pub none-each : (test : ℕ → Bool) (n : ℕ) → none test n ≡ true → (i : ℕ) → i < n → test i ≡ false
+none-each test n e i h = split (test i) refl
+  where
+    split : (b : Bool) → test i ≡ b → test i ≡ false
+    split false p = p
+    split true p = let z : true ≡ false = sym e ∙ none-not test i n h p in let y : _≡_ {A = ℕ} 0 1 = cc in absurd (omega arith)
+
+pub none-all : (test : ℕ → Bool) (n : ℕ) → ((i : ℕ) → i < n → test i ≡ false) → none test n ≡ true
+unfolding none
+none-all test zero h = refl
+none-all test (suc n) h = rw (none-all test n (λ i l. h i (omega arith)), h n (omega arith)) refl

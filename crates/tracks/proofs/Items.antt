@@ -5,14 +5,16 @@ use native.Mathlib.Nat.{add-zero, add-suc, eq-or-lt-of-le}
 use mathlib.Core.Logic.{⊎-elim}
 use native.Mathlib.Numerals.{add-one}
 use mathlib.Core.Path.{_≡_, refl, sym, ap, _∙_, subst}
-use mathlib.Core.Bool.{Bool, true, false}
-use mathlib.Core.List.{List, [], _∷_, _++_}
+use mathlib.Core.List.{List, [], _∷_}
 use lib.ListN.{length, getD, length-append, List·getD-append}
 use lib.Seq.{getD-at}
-use Rattle.kernel.specs.Answer.{Outcome, refused, answered, ask}
-use Rattle.tracks.specs.Read.{Item, oneMore, followed, items}
-use Rattle.tracks.specs.Calls.{ends}
-use Rattle.tracks.specs.declared.format.Checked.the-variants.{End, Refused}
+use Rattle.kernel.specs.Answer.{Outcome, refused, answered, andThen, through}
+use Rattle.kernel.proofs.Answers.{answered-inj, never-both}
+use Rattle.tracks.specs.Read.{Item, push, items}
+use Rattle.tracks.specs.Record.{endOf}
+use Rattle.tracks.specs.Steps.{ends, continued, checkedEnd}
+use Rattle.tracks.specs.declared.read.Checked.{Checked}
+use Rattle.tracks.specs.declared.read.Checked.the-variants.{End, Refused}
 
 -- an item that ends is read
 pub ended : {A : Type 0} (o : Outcome (Item A)) (e : ℕ) → ends o ≡ End e → (x : Item A) × (o ≡ answered x) × (x .next ≡ e)
@@ -24,41 +26,44 @@ pub stopped : {A : Type 0} (o : Outcome (Item A)) (q : ℕ) → ends o ≡ Refus
 stopped (refused n) q p = cc
 stopped (answered x) q p = let z : _≡_ {A = ℕ} 0 1 = cc in absurd (omega arith)
 
-pub answered-inj : {A : Type 0} {x y : A} → answered x ≡ answered y → x ≡ y
-answered-inj e = cc
-
--- a question that was met
-pub ask-met : {A : Type 0} (q : ℕ) (b : Bool) (o : Outcome A) {x : A} → ask q b o ≡ answered x → (b ≡ true) × (o ≡ answered x)
-ask-met q true o e = (refl, e)
-ask-met q false o e = let z : _≡_ {A = ℕ} 0 1 = cc in absurd (omega arith)
-
--- the items so far, and one more
-abbrev pub push : {A : Type 0} → Item (List A) → Item A → Item (List A)
-push xs x = record { value = xs .value ++ (x .value ∷ []); next = x .next }
+-- where items end, by what was read and by what was checked
+pub checked-end : {A : Type 0} (o : Outcome (Item A)) → checkedEnd (ends o) ≡ endOf o
+checked-end (refused q) = refl
+checked-end (answered x) = refl
 
 module _ {A : Type 0} (read : ℕ → ℕ → Outcome (Item A)) (start : ℕ) where
   pub items-more : (k : ℕ) (xs : Item (List A)) (x : Item A) → items read start k ≡ answered xs → read k (xs .next) ≡ answered x → items read start (k + 1) ≡ answered (push xs x)
-  unfolding items followed oneMore
+  unfolding items
   items-more k xs x p q = rw (add-one, p, q) refl
 
   stays : (m i q : ℕ) → items read start m ≡ refused q → items read start (m + i) ≡ refused q
-  unfolding items followed
+  unfolding items
   stays m zero q p = rw add-zero p
   stays m (suc i) q p = rw (add-suc, stays m i q p) refl
 
   pub items-stop : (k n q : ℕ) (xs : Item (List A)) → k < n → items read start k ≡ answered xs → read k (xs .next) ≡ refused q → items read start n ≡ refused q
-  unfolding items followed oneMore
+  unfolding items
   items-stop k n q xs h p r =
       let m : suc k + (n - suc k) ≡ n = omega arith in
       let s : items read start (suc k) ≡ refused q = rw (p, r) refl in
       subst (λ (i : ℕ). items read start i ≡ refused q) m (stays (suc k) (n - suc k) q s)
 
-  -- the loop that checks: one more item, and the first that is refused
+  -- the loop that checks: one more item
+  pub ends-next : (k : ℕ) → ends (items read start (k + 1)) ≡ continued (ends (items read start k)) (λ at. ends (read k at))
+  unfolding items
+  ends-next k = rw add-one (by (items read start k))
+    where
+      pushed : (xs : Item (List A)) (o : Outcome (Item A)) → ends (through (push xs) o) ≡ ends o
+      pushed xs (refused q) = refl
+      pushed xs (answered x) = refl
+
+      by : (o : Outcome (Item (List A))) → ends (andThen o (λ xs. through (push xs) (read k (xs .next)))) ≡ continued (ends o) (λ at. ends (read k at))
+      by (refused q) = refl
+      by (answered xs) = pushed xs (read k (xs .next))
+
+  -- the loop that stops at a refusal: one more item, and the first that is refused
   pub ends-more : (k : ℕ) {at next : ℕ} → ends (items read start k) ≡ End at → ends (read k at) ≡ End next → ends (items read start (k + 1)) ≡ End next
-  ends-more k {at} {next} p q =
-      let a = ended (items read start k) at p in
-      let b = ended (read k at) next q in
-      rw (items-more k (a .0) (b .0) (a .1) (ap (read k) (a .2) ∙ b .1)) (ap End (b .2))
+  ends-more k p q = ends-next k ∙ ap (λ (c : Checked). continued c (λ at. ends (read k at))) p ∙ q
 
   pub ends-stop : (k n : ℕ) {at q : ℕ} → k < n → ends (items read start k) ≡ End at → ends (read k at) ≡ Refused q → ends (items read start n) ≡ Refused q
   ends-stop k n {at} {q} h p r =
@@ -72,14 +77,13 @@ module _ {A : Type 0} (read : ℕ → ℕ → Outcome (Item A)) (start : ℕ) wh
     where
       one : (xs : Item (List A)) (o : Outcome (Item A)) → items read start k ≡ answered xs → read k (xs .next) ≡ o → (xs : Item (List A)) × (x : Item A) × (items read start k ≡ answered xs) × (read k (xs .next) ≡ answered x)
       one xs (answered x) p q = (xs, x, p, q)
-      one xs (refused r) p q = let z : answered ys ≡ refused r = sym e ∙ items-stop k n r xs h p q in let y : _≡_ {A = ℕ} 0 1 = cc in absurd (omega arith)
+      one xs (refused r) p q = never-both (sym e ∙ items-stop k n r xs h p q)
 
       split : (o : Outcome (Item (List A))) → items read start k ≡ o → (xs : Item (List A)) × (x : Item A) × (items read start k ≡ answered xs) × (read k (xs .next) ≡ answered x)
       split (answered xs) p = one xs (read k (xs .next)) p refl
       split (refused r) p =
           let m : k + (n - k) ≡ n = omega arith in
-          let z : answered ys ≡ refused r = sym e ∙ subst (λ (i : ℕ). items read start i ≡ refused r) m (stays k (n - k) r p) in
-          let y : _≡_ {A = ℕ} 0 1 = cc in absurd (omega arith)
+          never-both (sym e ∙ subst (λ (i : ℕ). items read start i ≡ refused r) m (stays k (n - k) r p))
 
   -- the next item of an accepted run
   pub items-at : (k n : ℕ) (xs ys : Item (List A)) → k < n → items read start n ≡ answered ys → items read start k ≡ answered xs → (x : Item A) × (read k (xs .next) ≡ answered x)
@@ -91,7 +95,7 @@ module _ {A : Type 0} (read : ℕ → ℕ → Outcome (Item A)) (start : ℕ) wh
   pub items-ind : (P : ℕ → Item (List A) → Type 0) → P 0 (record { value = []; next = start })
       → ((k : ℕ) (xs : Item (List A)) (x : Item A) → P k xs → read k (xs .next) ≡ answered x → P (k + 1) (push xs x))
       → (n : ℕ) (ys : Item (List A)) → items read start n ≡ answered ys → P n ys
-  unfolding items followed oneMore
+  unfolding items
   items-ind P none more zero ys e = subst (P 0) (answered-inj e) none
   items-ind P none more (suc n) ys e =
       let b = items-back n (suc n) ys (omega arith) e in

@@ -1,7 +1,5 @@
 pub mod Items
-pub mod Bytes
 pub mod Accepted
-pub mod Over
 pub mod Lists
 pub mod Written
 pub mod Stream
@@ -10,5 +8,7 @@ pub mod Track
 pub mod Values
 pub mod Records
 pub mod RoundTrip
+pub mod Trips
+pub mod Sizes
 pub mod RecordParts
 pub mod Apart

@@ -1,14 +1,14 @@
 -- Laws of lists one after another, of lists made by a rule, and of their places.
 use Prim.Native.Nat.{ℕ, zero, suc, _+_, _-_, _*_, _<_, _≤_}
 use native.Mathlib.Omega.{arith}
-use native.Mathlib.Nat.{mul-le-mul-right, suc-mul, eq-or-lt-of-le, le-of-suc-le-suc, add-zero, le-refl}
-use mathlib.Core.Logic.{⊎-elim}
+use native.Mathlib.Nat.{mul-le-mul-right, suc-mul, le-of-suc-le-suc, add-zero, le-refl}
 use native.Mathlib.Numerals.{add-one}
 use mathlib.Core.Path.{_≡_, refl, sym, ap, _∙_, subst}
 use mathlib.Core.List.{List, [], _∷_, _++_, map, flatMap, append-assoc, append-nil}
-use lib.ListN.{length, getD, take, drop, length-append, List·getD-append}
-use lib.Seq.{take-suc, getD-at}
-use Rattle.tracks.specs.Write.{tabulate}
+use lib.ListN.{length, getD, take, drop, set, length-append}
+use lib.Seq.{take-suc}
+use Rattle.kernel.specs.Lists.{tabulate, over}
+use Rattle.kernel.proofs.Lists.{tabulate-more, over-set, over-more, over-over}
 use Rattle.tracks.specs.Calls.{joined}
 
 -- the places of one list after j of n lists of f elements
@@ -43,15 +43,6 @@ getD-any (x ∷ l) (suc i) d e h = getD-any l i d e (le-of-suc-le-suc h)
 pub take-more : (l : List ℕ) (i : ℕ) → i < length l → take (i + 1) l ≡ take i l ++ (getD l i 0 ∷ [])
 take-more l i h = rw (add-one, take-suc l i 0) refl
 
-pub length-tabulate : {A : Type 0} (n : ℕ) (g : ℕ → A) → length (tabulate n g) ≡ n
-unfolding tabulate
-length-tabulate zero g = refl
-length-tabulate (suc n) g = omega (arith, length-append (tabulate n g) (g n ∷ []), length-tabulate n g)
-
-pub tabulate-more : {A : Type 0} (n : ℕ) (g : ℕ → A) → tabulate (n + 1) g ≡ tabulate n g ++ (g n ∷ [])
-unfolding tabulate
-tabulate-more n g = rw add-one refl
-
 -- what is made of the first elements of a rule is no longer than what is made of more of them
 pub flatMap-part : {A B : Type 0} (g : A → List B) (h : ℕ → A) (j n : ℕ) → j ≤ n → length (flatMap g (tabulate j h)) ≤ length (flatMap g (tabulate n h))
 flatMap-part g h j n le = let e : j + (n - j) ≡ n = omega arith in subst (λ (k : ℕ). length (flatMap g (tabulate j h)) ≤ length (flatMap g (tabulate k h))) e (grows (n - j))
@@ -72,18 +63,15 @@ map-drop g zero l = refl
 map-drop g (suc n) [] = refl
 map-drop g (suc n) (x ∷ l) = map-drop g n l
 
-pub getD-tabulate : {A : Type 0} (n : ℕ) (g : ℕ → A) (d : A) (i : ℕ) → i < n → getD (tabulate n g) i d ≡ g i
-unfolding tabulate
-getD-tabulate zero g d i h = absurd (omega arith)
-getD-tabulate (suc n) g d i h =
-    ⊎-elim
-    (λ (e : i ≡ n). ap (λ (k : ℕ). getD (tabulate n g ++ (g n ∷ [])) k d) e ∙ getD-at (tabulate n g) (g n) [] d n (length-tabulate n g) ∙ ap g (sym e))
-    (λ (l : i < n). List·getD-append (tabulate n g) (g n ∷ []) d i (omega (arith, length-tabulate n g)) ∙ getD-tabulate n g d i l)
-    (eq-or-lt-of-le (le-of-suc-le-suc h))
-
 -- an element of a list with one more at its end
 pub getD-more : {A : Type 0} (P : A → Type 0) (d : A) (l : List A) (x : A) → P d → ((i : ℕ) → P (getD l i d)) → P x → (i : ℕ) → P (getD (l ++ (x ∷ [])) i d)
 getD-more P d [] x n h p zero = p
 getD-more P d [] x n h p (suc i) = n
 getD-more P d (y ∷ l) x n h p zero = h 0
 getD-more P d (y ∷ l) x n h p (suc i) = getD-more P d l x n (λ j. h (suc j)) p i
+
+-- two elements in front, and a part after them
+pub over-two : {A : Type 0} (old : List A) (a b : A) (new : List A) → 2 ≤ length old → over (set (set old 0 a) 1 b) 2 new ≡ over old 0 (a ∷ b ∷ new)
+over-two old a b new h =
+    ap (λ l. over (set l 1 b) 2 new) (over-set old 0 a (omega arith)) ∙ ap (λ l. over l 2 new) (over-more old 0 1 (a ∷ []) b refl (omega arith))
+    ∙ over-over old 0 2 (a ∷ b ∷ []) new refl (omega arith)

@@ -1,18 +1,18 @@
 -- Laws of the records that a list is walked through.
-use Prim.Native.Nat.{ℕ, suc, _-_, _≤_}
+use Prim.Native.Nat.{ℕ, suc, _+_, _-_, _<_, _≤_}
 use native.Mathlib.Omega.{arith}
 use mathlib.Core.Path.{_≡_, refl, ap}
 use mathlib.Core.Bool.{Bool, true, false, _&&_}
 use mathlib.Core.List.{List, [], _∷_}
-use borrow.Author.Tests.{eq-eqb, ne-eqb, eqb-true}
+use borrow.Author.Tests.{eq-eqb, ne-eqb, eqb-true, le-leb, lt-leb}
 use lib.Dec.{eqb}
 use lib.ListN.{length, drop, length-take, length-drop}
 use Rattle.kernel.specs.Answer.{Outcome, refused, answered}
-use Rattle.tracks.specs.Format.{fields}
-use Rattle.tracks.specs.Read.{track, count, dimension, contents}
-use Rattle.tracks.specs.Calls.{ends}
-use Rattle.tracks.specs.Record.{recordEnd, recordIn, recordAt, sameBytes}
-use Rattle.tracks.specs.declared.format.Checked.the-variants.{End, Refused}
+use Rattle.tracks.specs.Layout.{fields}
+use Rattle.tracks.specs.Read.{TrackList, track, contents}
+use Rattle.tracks.specs.Steps.{ends}
+use Rattle.tracks.specs.Record.{recordEnd, recordIn, recordAt, placing, sameBytes}
+use Rattle.tracks.specs.declared.read.Checked.the-variants.{End, Refused}
 use Rattle.tracks.proofs.Items.{ended, stopped}
 
 module _ (l : List ℕ) (f at from n : ℕ) where
@@ -35,9 +35,24 @@ pub record-short : (l : List ℕ) (at : ℕ) → length (recordAt l at) ≤ leng
 unfolding recordAt
 record-short l at = by (contents l)
   where
-    by : (o : Outcome (List (List ℕ))) → length (recordIn l at o) ≤ length l - at
+    by : (o : Outcome TrackList) → length (recordIn l at o) ≤ length l - at
     by (refused q) = omega arith
-    by (answered ts) = let e = recordEnd l (fields (dimension l)) at 2 (count l) in omega (arith, length-take (e - at) (drop at l), length-drop at l)
+    by (answered c) = let e = recordEnd l (fields (c .dimension)) at 2 (length (c .tracks)) in omega (arith, length-take (e - at) (drop at l), length-drop at l)
+
+-- ---- where the tracks stand
+
+-- question 2 after the others
+pub placing-fits : (l : List ℕ) (room : ℕ) {c : TrackList} → contents l ≡ answered c → length (c .tracks) + 1 ≤ room → placing l room ≡ answered c
+unfolding placing
+placing-fits l room e h = rw (e, le-leb _ room h) refl
+
+pub placing-short : (l : List ℕ) (room : ℕ) {c : TrackList} → contents l ≡ answered c → room < length (c .tracks) + 1 → placing l room ≡ refused 2
+unfolding placing
+placing-short l room e h = rw (e, lt-leb _ room h) refl
+
+pub placing-refused : (l : List ℕ) (room : ℕ) {q : ℕ} → contents l ≡ refused q → placing l room ≡ refused q
+unfolding placing
+placing-refused l room e = rw e refl
 
 -- ---- equal bytes
 

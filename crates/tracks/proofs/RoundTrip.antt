@@ -1,26 +1,29 @@
 -- The return trip, both ways: what is read is written as the same bytes, and what is written is read as the same values.
 use Prim.Native.Nat.{ℕ, zero, suc, _+_, _-_, _*_, _<_, _≤_}
 use native.Mathlib.Omega.{arith}
-use native.Mathlib.Nat.{eq-or-lt-of-le, zero-mul, suc-mul, mul-le-mul-right}
+use native.Mathlib.Nat.{eq-or-lt-of-le, zero-mul, suc-mul}
 use mathlib.Core.Path.{_≡_, refl, sym, ap, _∙_, subst}
 use mathlib.Core.Logic.{⊎-elim}
 use mathlib.Core.Bool.{true}
 use mathlib.Core.List.{List, [], _∷_, flatMap, append-nil}
-use borrow.Author.Tests.{le-leb, eq-eqb, leb-true}
+use borrow.Author.Tests.{le-leb, eq-eqb}
 use lib.ListN.{length, getD, take, drop, length-append, length-drop, List·getD-append}
 use lib.Seq.{take-all, getD-at, length-take-le}
 use lib.Ieee.{Float}
-use Rattle.kernel.specs.Answer.{answered}
-use Rattle.tracks.specs.Format.{Bytes, Words, fields, mapBytes}
-use Rattle.tracks.specs.Read.{Item, track, tracks, count, dimension, countMet, dimensionMet, whole, contents}
-use Rattle.tracks.specs.Write.{tabulate, allFinite, recordOf, recordsOf, listOf, tracksOf, written}
+use Rattle.kernel.specs.Answer.{Outcome, answered, andThen}
+use Rattle.tracks.specs.Layout.{Words, fields, countMet, dimensionMet}
+use Rattle.kernel.specs.Bytes.{Bytes}
+use Rattle.tracks.specs.Read.{Item, TrackList, track, tracks, count, dimension, nothingAfter, contents}
+use Rattle.tracks.specs.Write.{allFinite, recordOf, recordsOf, listOf, tracksOf, trackList, written}
+use Rattle.kernel.specs.Lists.{tabulate}
 use Rattle.tracks.specs.Calls.{doubles, patterns, Doubles, joined}
-use Rattle.tracks.proofs.Items.{items-ind, items-length}
-use Rattle.tracks.proofs.Accepted.{contents-met, contents-head, dimension-small}
-use Rattle.tracks.proofs.Lists.{length-tabulate, getD-tabulate, row}
+use Rattle.tracks.proofs.Items.{items-ind}
+use Rattle.tracks.proofs.Accepted.{contents-met, contents-head}
+use Rattle.tracks.proofs.Lists.{row}
+use Rattle.kernel.proofs.Lists.{length-tabulate, getD-tabulate}
 use Rattle.tracks.proofs.Stream.{Part, read-bytes, bytes-read}
 use Rattle.tracks.proofs.Track.{Fit, track-read, track-of}
-use Rattle.tracks.proofs.Written.{record-length, stored-size, written-met}
+use Rattle.tracks.proofs.Written.{written-met}
 use Rattle.tracks.proofs.Values.{patterns-doubles, doubles-patterns, patterns-words, all-append, all-take, all-drop, words-append, words-take, words-drop, joined-tracks, tracks-joined}
 
 -- ---- tracks that a list can hold
@@ -52,41 +55,22 @@ two-first [] h = absurd (omega arith)
 two-first (x ∷ []) h = absurd (omega arith)
 two-first (x ∷ y ∷ l) h = refl
 
-pub accepted-length : (l : List ℕ) (ts : List (List ℕ)) → contents l ≡ answered ts → length ts ≡ count l
-unfolding tracks
-accepted-length l ts e = items-length (λ _. track l (fields (dimension l))) 2 (count l) _ (contents-met l e .read)
+module _ (l : List ℕ) (h : Bytes l) (c : TrackList) (e : contents l ≡ answered c) where
+  -- The tracks of an accepted list fit its dimension.
+  pub accepted-fit : Fits (fields (c .dimension)) (c .tracks)
+  accepted-fit = tracks-fit l h (fields (c .dimension)) (length (c .tracks)) _ (contents-met l e .read)
 
--- The bytes after the first two, one record after another.
-pub accepted-records : (l : List ℕ) → Bytes l → (ts : List (List ℕ)) → contents l ≡ answered ts → drop 2 l ≡ recordsOf ts
-accepted-records l h ts e =
-    let w = contents-met l e in
-    let p = tracks-bytes l h (w .two) (fields (dimension l)) (count l) _ (w .read) in
-    sym (take-all (length l - 2) (drop 2 l) (omega (arith, length-drop 2 l))) ∙ p .bytes
+  -- The bytes after the first two, one record after another.
+  pub accepted-records : drop 2 l ≡ recordsOf (c .tracks)
+  accepted-records =
+      let w = contents-met l e in
+      let p = tracks-bytes l h (w .two) (fields (c .dimension)) (length (c .tracks)) _ (w .read) in
+      sym (take-all (length l - 2) (drop 2 l) (omega (arith, length-drop 2 l))) ∙ p .bytes
 
--- An accepted list is the list of its tracks, byte for byte.
-pub accepted-list : (l : List ℕ) → Bytes l → (ts : List (List ℕ)) → contents l ≡ answered ts → listOf (dimension l) ts ≡ l
-unfolding listOf
-accepted-list l h ts e =
-    let w = contents-met l e in
-    ap (λ (n : ℕ). n ∷ dimension l ∷ recordsOf ts) (accepted-length l ts e) ∙ ap (λ (s : List ℕ). count l ∷ dimension l ∷ s) (sym (accepted-records l h ts e)) ∙ sym (two-first l (w .two))
-
--- the largest list, of 32 tracks of dimension 9
-records-size : (f : ℕ) (ts : List (List ℕ)) → f ≤ 54 → Fits f ts → length (recordsOf ts) ≤ 439 * length ts
-unfolding recordsOf flatMap
-records-size f [] le h = omega arith
-records-size f (t ∷ ts) le h =
-    let p = h 0 (omega arith) .long in
-    omega (arith, length-append (recordOf t) (recordsOf ts), record-length t, stored-size t, p, ap mapBytes p, records-size f ts le (λ k lt. h (suc k) (omega arith)))
-
--- An accepted list has at most 14,050 bytes.
-pub accepted-size : (l : List ℕ) → Bytes l → (ts : List (List ℕ)) → contents l ≡ answered ts → length l ≤ 14050
-unfolding fields
-accepted-size l h ts e =
-    let w = contents-met l e in
-    let d = dimension l in
-    let small = dimension-small d (w .sized) in
-    let most : fields d ≤ 54 = omega (arith, mul-le-mul-right (d + 1) small) in
-    omega (arith, ap length (accepted-records l h ts e), length-drop 2 l, records-size (fields d) ts most (tracks-fit l h (fields d) (count l) _ (w .read)), accepted-length l ts e, leb-true (count l) 32 (w .few))
+  -- An accepted list is the list of its tracks, byte for byte.
+  pub accepted-list : listOf c ≡ l
+  unfolding listOf
+  accepted-list = let w = contents-met l e in rw (w .count, w .dimension, sym accepted-records) (sym (two-first l (w .two)))
 
 -- ---- the list of tracks is accepted, with those tracks
 
@@ -95,18 +79,24 @@ unfolding fields
 some-fields zero h = let z : _≡_ {A = ℕ} 0 1 = cc in absurd (omega arith)
 some-fields (suc d) h = omega arith
 
-pub list-accepted : (d : ℕ) (ts : List (List ℕ)) → countMet (length ts) ≡ true → dimensionMet d ≡ true → Fits (fields d) ts → contents (listOf d ts) ≡ answered ts
-unfolding listOf recordsOf tracks whole
-list-accepted d ts few sized fit =
-    let l = listOf d ts in
-    let f = fields d in
+pub list-accepted : (c : TrackList) → countMet (length (c .tracks)) ≡ true → dimensionMet (c .dimension) ≡ true → Fits (fields (c .dimension)) (c .tracks) → contents (listOf c) ≡ answered c
+unfolding listOf recordsOf tracks
+list-accepted c few sized fit =
+    let l = listOf c in
+    let f = fields (c .dimension) in
+    let ts = c .tracks in
     let run : tracks l f (length ts) ≡ answered (record { value = ts; next = 2 + length (recordsOf ts) }) =
-    bytes-read recordOf l (λ _. track l f) 2 [] ts (λ k at rest lt e. track-of l f at (getD ts k []) rest (some-fields d sized) (fit k lt) e) [] (sym (append-nil (recordsOf ts))) in
-    contents-head l (omega arith) few sized ∙ ap (whole (length l)) run ∙ simp (eq-eqb (2 + length (recordsOf ts)) (length l) (omega arith))
+    bytes-read recordOf l (λ _. track l f) 2 [] ts
+    (λ k at rest lt e. track-of l f at (getD ts k []) rest (some-fields (c .dimension) sized) (fit k lt) e)
+    [] (sym (append-nil (recordsOf ts))) in
+    contents-head l (omega arith) few sized
+    ∙ ap (λ (o : Outcome (Item (List (List ℕ)))). andThen o (nothingAfter l)) run
+    ∙ simp (eq-eqb (2 + length (recordsOf ts)) (length l) (omega arith))
 
 -- ---- values of tracks one after another
 
-joined-fit : (f : ℕ) (ts : List (List ℕ)) → Fits f ts → (length (joined ts) ≡ length ts * f) × (allFinite (joined ts) ≡ true) × Words (joined ts)
+-- values of tracks that fit, one after another
+pub joined-fit : (f : ℕ) (ts : List (List ℕ)) → Fits f ts → (length (joined ts) ≡ length ts * f) × (allFinite (joined ts) ≡ true) × Words (joined ts)
 unfolding joined flatMap allFinite
 joined-fit f [] h = (sym (zero-mul f), refl, λ i. omega arith)
 joined-fit f (t ∷ ts) h =
@@ -114,7 +104,8 @@ joined-fit f (t ∷ ts) h =
     let b = joined-fit f ts (λ k lt. h (suc k) (omega arith)) in
     (omega (arith, length-append t (joined ts), a .long, b .0, suc-mul (length ts) f), all-append t (joined ts) (a .finite) (b .1), words-append t (joined ts) (a .words) (b .2))
 
-cut-fit : (n f : ℕ) (v : List ℕ) → length v ≡ n * f → allFinite v ≡ true → Words v → Fits f (tracksOf n f v)
+-- values that are cut into tracks fit
+pub cut-fit : (n f : ℕ) (v : List ℕ) → length v ≡ n * f → allFinite v ≡ true → Words v → Fits f (tracksOf n f v)
 unfolding tracksOf
 cut-fit n f v long fin w k lt =
     let cut : ℕ → List ℕ = λ j. take f (drop (j * f) v) in
@@ -126,38 +117,37 @@ cut-fit n f v long fin w k lt =
       words = words-take f (drop (k * f) v) (words-drop (k * f) v w);
     })
 
--- ---- the return trip of the two calls
+-- ---- the return trip
 
 -- What is read is written as the same bytes: the values of an accepted list, written with its count and dimension into any buffer that is long enough, give the list.
-pub read-then-written : (l : List ℕ) → Bytes l → (ts : List (List ℕ)) → contents l ≡ answered ts → (room : ℕ) → length l ≤ room
-    → written (count l) (dimension l) (patterns (doubles (joined ts))) room ≡ answered l
+pub read-then-written : (l : List ℕ) → Bytes l → (c : TrackList) → contents l ≡ answered c → (room : ℕ) → length l ≤ room
+    → written (length (c .tracks)) (c .dimension) (patterns (doubles (joined (c .tracks)))) room ≡ answered l
 unfolding written
-read-then-written l h ts e room le =
+read-then-written l h c e room le =
     let w = contents-met l e in
-    let d = dimension l in
-    let f = fields d in
-    let fit = tracks-fit l h f (count l) _ (w .read) in
-    let j = joined-fit f ts fit in
-    let n = accepted-length l ts e in
-    let back : tracksOf (count l) f (joined ts) ≡ ts = ap (λ (k : ℕ). tracksOf k f (joined ts)) (sym n) ∙ tracks-joined f ts (λ k lt. fit k lt .long) in
-    let same : listOf d (tracksOf (count l) f (joined ts)) ≡ l = ap (listOf d) back ∙ accepted-list l h ts e in
-    ap (λ (v : List ℕ). written (count l) d v room) (patterns-doubles (joined ts) (j .1) (j .2))
-    ∙ simp (w .few, w .sized, eq-eqb (length (joined ts)) (count l * f) (j .0 ∙ ap (λ (k : ℕ). k * f) n), j .1, le-leb (length (listOf d (tracksOf (count l) f (joined ts)))) room (omega (arith, ap length same)), same)
+    let n = length (c .tracks) in
+    let d = c .dimension in
+    let v = joined (c .tracks) in
+    let fit = accepted-fit l h c e in
+    let j = joined-fit (fields d) (c .tracks) fit in
+    let same : listOf (trackList n d v) ≡ l =
+    ap (λ (ts : List (List ℕ)). listOf (record { dimension = d; tracks = ts })) (tracks-joined (fields d) (c .tracks) (λ k lt. fit k lt .long)) ∙ accepted-list l h c e in
+    ap (λ (v : List ℕ). written n d v room) (patterns-doubles v (j .1) (j .2))
+    ∙ simp (w .few, w .sized, eq-eqb (length v) (n * fields d) (j .0), j .1, le-leb (length (listOf (trackList n d v))) room (omega (arith, ap length same)), same)
 
 -- What is written is read as the same values, signs of zero included, with the same count and dimension.
 pub written-then-read : (n d : ℕ) (values : List Float) → Doubles values → (room : ℕ) (l : List ℕ) → written n d (patterns values) room ≡ answered l
-    → (ts : List (List ℕ)) × (contents l ≡ answered ts) × (doubles (joined ts) ≡ values) × (count l ≡ n) × (dimension l ≡ d)
-unfolding listOf tracksOf
+    → (c : TrackList) × (contents l ≡ answered c) × (doubles (joined (c .tracks)) ≡ values) × (length (c .tracks) ≡ n) × (c .dimension ≡ d)
+unfolding tracksOf
 written-then-read n d values h room l e =
     let v = patterns values in
     let w = written-met n d v room e in
     let f = fields d in
-    let ts = tracksOf n f v in
     let fit = cut-fit n f v (w .long) (w .finite) (patterns-words values h) in
-    let long : length ts ≡ n = length-tabulate n (λ (j : ℕ). take f (drop (j * f) v)) in (
-      ts,
-      ap contents (w .same) ∙ list-accepted d ts (rw long (w .few)) (w .sized) fit,
+    let long : length (tracksOf n f v) ≡ n = length-tabulate n (λ (j : ℕ). take f (drop (j * f) v)) in (
+      trackList n d v,
+      ap contents (w .same) ∙ list-accepted (trackList n d v) (rw long (w .few)) (w .sized) fit,
       ap doubles (joined-tracks n f v (w .long)) ∙ doubles-patterns values h,
-      ap count (w .same) ∙ long,
-      ap dimension (w .same),
+      long,
+      refl,
     )

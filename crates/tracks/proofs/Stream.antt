@@ -8,7 +8,7 @@ use mathlib.Core.List.{List, [], _∷_, _++_, flatMap, append-assoc}
 use lib.ListN.{length, getD, take, drop, length-append, take-append-drop}
 use lib.Seq.{take-add, drop-drop, drop-at, drop-cons, take-suc, take-length}
 use Rattle.kernel.specs.Answer.{Outcome, answered}
-use Rattle.tracks.specs.Format.{part}
+use Rattle.tracks.specs.Layout.{part}
 use Rattle.tracks.specs.Read.{Item, items}
 use Rattle.tracks.proofs.Items.{items-more, items-ind}
 use Rattle.tracks.proofs.Lists.{flatMap-append, flatMap-more}

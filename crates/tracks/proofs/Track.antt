@@ -12,26 +12,20 @@ use lib.Dec.{eqb}
 use lib.ListN.{length, getD, take, drop, length-append, length-drop, List·getD-append, List·getD-eq-default}
 use lib.Seq.{getD-take, getD-drop, getD-at, length-take-le, ext-getD, take-at, drop-drop, drop-at}
 use Rattle.kernel.specs.Answer.{answered}
-use Rattle.tracks.specs.Format.{Bytes, Words, part, mapBytes, stands, number, bytes, word, finite, spare}
-use Rattle.tracks.specs.Read.{Item, stored, storedIf, field, items, track}
+use Rattle.tracks.specs.Layout.{Words, part, mapBytes, stands, spare, finiteBits}
+use Rattle.kernel.specs.Bytes.{Bytes, number, bytes, word}
+use Rattle.tracks.specs.Read.{Item, stored, storedIf, field, items, track, push}
 use Rattle.tracks.specs.Write.{nonzero, mapByte, mapOf, fieldBytes, storedBytes, recordOf, allFinite}
-use Rattle.tracks.proofs.Items.{push, items-ind}
+use Rattle.tracks.proofs.Items.{items-ind}
 use Rattle.tracks.proofs.Accepted.{Stored, field-met, track-met}
-use Rattle.tracks.proofs.Bytes.{none-each, none-all, bytes-take, bytes-drop, word-lt}
-use Rattle.tracks.proofs.Bits.{bytes-number, number-bytes, byte-packed, packed-same, packed-bit}
-use Rattle.tracks.proofs.Lists.{length-tabulate, getD-tabulate, getD-more}
-use Rattle.tracks.proofs.Written.{all-more, all-at, length-bytes, field-none, field-some, record-length}
+use Rattle.tracks.proofs.Bits.{byte-packed, packed-same, packed-bit, none-each, none-all}
+use Rattle.kernel.proofs.Words.{number-bytes, length-bytes, word-lt, word-bytes, word-inside}
+use Rattle.tracks.proofs.Lists.{getD-more}
+use Rattle.kernel.proofs.Lists.{length-tabulate, getD-tabulate}
+use Rattle.tracks.proofs.Written.{all-more, all-at, field-none, field-some, record-length}
 use Rattle.tracks.proofs.Stream.{Part, parts-join, read-bytes, bytes-read}
 
 -- ---- what is read is what the bytes are made of
-
--- eight bytes are those of their word
-word-bytes : (l : List ℕ) (at : ℕ) → Bytes l → at + 8 ≤ length l → part l at (at + 8) ≡ bytes 8 (word l at)
-unfolding word
-word-bytes l at h le =
-    let s = take 8 (drop at l) in
-    let n : length s ≡ 8 = length-take-le 8 (drop at l) (omega (arith, length-drop at l)) in
-    ap (λ (k : ℕ). take k (drop at l)) (add-sub-cancel-left at 8) ∙ sym (bytes-number s (bytes-take 8 (drop at l) (bytes-drop at l h))) ∙ ap (λ (k : ℕ). bytes k (number s)) n
 
 field-part : (l : List ℕ) (map : ℕ) → Bytes l → (k at : ℕ) (x : Item ℕ) → at ≤ length l → field l map k at ≡ answered x → Part l at (x .next) (fieldBytes (x .value))
 field-part l map h k at x le e =
@@ -42,7 +36,7 @@ field-part l map h k at x le e =
     record {
       from = omega (arith, n);
       within = omega (arith, n, s .1 .there);
-      bytes = ap (part l at) n ∙ word-bytes l at h (s .1 .there) ∙ ap (bytes 8) (sym v) ∙ sym (field-some (x .value) (λ z. eqb-false (word l at) 0 (s .1 .nonzero) (sym v ∙ z)));
+      bytes = ap (part l at) n ∙ ap (λ (k : ℕ). take k (drop at l)) (add-sub-cancel-left at 8) ∙ word-bytes l at h (s .1 .there) ∙ ap (bytes 8) (sym v) ∙ sym (field-some (x .value) (λ z. eqb-false (word l at) 0 (s .1 .nonzero) (sym v ∙ z)));
     })
     (λ (s : (stands l map k ≡ false) × (x ≡ record { value = 0; next = at })).
     let n : x .next ≡ at = ap (λ (y : Item ℕ). y .next) (s .1) in
@@ -63,7 +57,7 @@ pub record Fields (l : List ℕ) (map k : ℕ) (v : List ℕ) : Type 0 where
 -- one field more
 field-more : (l : List ℕ) (map : ℕ) → Bytes l → (k : ℕ) (xs : Item (List ℕ)) (x : Item ℕ) → Fields l map k (xs .value) → field l map k (xs .next) ≡ answered x → Fields l map (k + 1) (push xs x .value)
 field-more l map h k xs x p e =
-    let one : (finite (x .value) ≡ true) × (x .value < 2 ^ 64) × (stands l map k ≡ nonzero (x .value)) = ⊎-elim
+    let one : (finiteBits (x .value) ≡ true) × (x .value < 2 ^ 64) × (stands l map k ≡ nonzero (x .value)) = ⊎-elim
     (λ (s : (stands l map k ≡ true) × Stored l (xs .next) x).
     let v = s .1 .value in
     (rw v (s .1 .finite), rw v (word-lt l (xs .next) h (s .1 .there)), s .0 ∙ sym (ap not (ap (λ (y : ℕ). eqb y 0) v ∙ s .1 .nonzero))))
@@ -148,9 +142,9 @@ pub record Fit (f : ℕ) (v : List ℕ) : Type 0 where
   pub words : Words v
 
 -- a field of which the list has the bytes
-field-of : (l : List ℕ) (map k at x : ℕ) (rest : List ℕ) → stands l map k ≡ nonzero x → finite x ≡ true → x < 2 ^ 64 → drop at l ≡ fieldBytes x ++ rest
+field-of : (l : List ℕ) (map k at x : ℕ) (rest : List ℕ) → stands l map k ≡ nonzero x → finiteBits x ≡ true → x < 2 ^ 64 → drop at l ≡ fieldBytes x ++ rest
     → field l map k at ≡ answered (record { value = x; next = at + length (fieldBytes x) })
-unfolding field stored word
+unfolding field stored
 field-of l map k at x rest s fin small e = split (eqb x 0) refl
   where
     split : (b : Bool) → eqb x 0 ≡ b → field l map k at ≡ answered (record { value = x; next = at + length (fieldBytes x) })
@@ -161,8 +155,8 @@ field-of l map k at x rest s fin small e = split (eqb x 0) refl
     split false p =
         let g : fieldBytes x ≡ bytes 8 x = field-some x (eqb-false x 0 p) in
         let d : drop at l ≡ bytes 8 x ++ rest = e ∙ ap (λ (u : List ℕ). u ++ rest) g in
-        let w : number (take 8 (drop at l)) ≡ x = ap (λ (u : List ℕ). number (take 8 u)) d ∙ ap number (take-at (bytes 8 x) rest 8 (length-bytes 8 x)) ∙ number-bytes 8 x small in
         let there : at + 8 ≤ length l = omega (arith, ap length d, length-append (bytes 8 x) rest, length-bytes 8 x, length-drop at l) in
+        let w : word l at ≡ x = word-inside l at there ∙ ap (λ (u : List ℕ). number (take 8 u)) d ∙ ap number (take-at (bytes 8 x) rest 8 (length-bytes 8 x)) ∙ number-bytes 8 x small in
         let n : at + 8 ≡ at + length (fieldBytes x) = omega (arith, ap length g, length-bytes 8 x) in
         ap (λ (c : Bool). storedIf c l at) (s ∙ ap not p)
         ∙ simp (le-leb (at + 8) (length l) there, w, fin, p)

@@ -1,20 +1,22 @@
 -- Laws of values and their bits, and of tracks and their values one after another.
-use Prim.Native.Nat.{ℕ, zero, suc, _+_, _*_, _<_}
+use Prim.Native.Nat.{ℕ, zero, suc, _+_, _*_, _<_, _≤_}
 use native.Mathlib.Omega.{arith}
 use native.Mathlib.Nat.{zero-mul, suc-mul, le-of-suc-le-suc, add-comm}
 use mathlib.Core.Path.{_≡_, refl, sym, ap, _∙_, subst}
 use mathlib.Core.Bool.{Bool, true, false, not, _&&_}
-use mathlib.Core.List.{List, [], _∷_, _++_, flatMap}
+use mathlib.Core.List.{List, [], _∷_, _++_, flatMap, map-append}
 use lib.Dec.{T}
-use lib.ListN.{length, getD, take, drop}
+use lib.ListN.{length, getD, take, drop, length-map}
 use lib.Seq.{take-add, take-all, take-at, drop-at, drop-drop, ext-getD, getD-drop}
 use lib.Ieee.{Float, binary64, isNan, ofBits}
 use lib.Ieee.Bits.{ofBits-toBits, toBits-ofBits, toBits-lt, nanBits-is}
-use Rattle.tracks.specs.Format.{Words, finite}
-use Rattle.tracks.specs.Write.{tabulate, allFinite, tracksOf}
+use Rattle.tracks.specs.Layout.{Words, finiteBits}
+use Rattle.tracks.specs.Write.{allFinite, tracksOf}
+use Rattle.kernel.specs.Lists.{tabulate, over}
 use Rattle.tracks.specs.Calls.{doubles, patterns, Doubles, joined}
 use Rattle.tracks.proofs.Accepted.{finite-no-nan}
-use Rattle.tracks.proofs.Lists.{length-tabulate, getD-tabulate, joined-more}
+use Rattle.tracks.proofs.Lists.{joined-more}
+use Rattle.kernel.proofs.Lists.{length-tabulate, getD-tabulate, over-over}
 
 -- ---- values and their bits
 
@@ -27,7 +29,7 @@ pub patterns-doubles : (v : List ℕ) → allFinite v ≡ true → Words v → p
 unfolding allFinite
 patterns-doubles [] e w = refl
 patterns-doubles (x ∷ v) e w =
-    let b = and-both (finite x) (allFinite v) e in
+    let b = and-both (finiteBits x) (allFinite v) e in
     let n : T (not (isNan (ofBits binary64 x))) = subst (λ (c : Bool). T (not c)) (nanBits-is binary64 x) (finite-no-nan x (b .0)) in
     rw (toBits-ofBits binary64 x (w 0) n, patterns-doubles v (b .1) (λ i. w (suc i))) refl
 
@@ -46,19 +48,19 @@ patterns-words (x ∷ v) h (suc i) = patterns-words v (λ j. h (suc j)) i
 pub all-append : (u v : List ℕ) → allFinite u ≡ true → allFinite v ≡ true → allFinite (u ++ v) ≡ true
 unfolding allFinite
 all-append [] v p q = q
-all-append (x ∷ u) v p q = let b = and-both (finite x) (allFinite u) p in rw (b .0, all-append u v (b .1) q) refl
+all-append (x ∷ u) v p q = let b = and-both (finiteBits x) (allFinite u) p in rw (b .0, all-append u v (b .1) q) refl
 
 pub all-take : (n : ℕ) (v : List ℕ) → allFinite v ≡ true → allFinite (take n v) ≡ true
 unfolding allFinite
 all-take zero v p = refl
 all-take (suc n) [] p = refl
-all-take (suc n) (x ∷ v) p = let b = and-both (finite x) (allFinite v) p in rw (b .0, all-take n v (b .1)) refl
+all-take (suc n) (x ∷ v) p = let b = and-both (finiteBits x) (allFinite v) p in rw (b .0, all-take n v (b .1)) refl
 
 pub all-drop : (n : ℕ) (v : List ℕ) → allFinite v ≡ true → allFinite (drop n v) ≡ true
 unfolding allFinite
 all-drop zero v p = p
 all-drop (suc n) [] p = refl
-all-drop (suc n) (x ∷ v) p = all-drop n v (and-both (finite x) (allFinite v) p .1)
+all-drop (suc n) (x ∷ v) p = all-drop n v (and-both (finiteBits x) (allFinite v) p .1)
 
 pub words-append : (u v : List ℕ) → Words u → Words v → Words (u ++ v)
 words-append [] v p q i = q i
@@ -102,3 +104,9 @@ tracks-joined f ts h =
     ext-getD [] (tracksOf (length ts) f (joined ts)) ts (length-tabulate (length ts) _) (λ k lk.
     let lt : k < length ts = rw (length-tabulate (length ts) (λ (j : ℕ). take f (drop (j * f) (joined ts)))) at lk in
     getD-tabulate (length ts) _ [] k lt ∙ cut-at f ts h k lt)
+
+-- two parts of doubles, one where the other ends
+pub over-doubles : (old : List Float) (i j : ℕ) (us vs : List ℕ) → j ≡ i + length us → i + length us ≤ length old → over (over old i (doubles us)) j (doubles vs) ≡ over old i (doubles (us ++ vs))
+over-doubles old i j us vs e h =
+    let n : length (doubles us) ≡ length us = length-map us (ofBits binary64) in
+    over-over old i j (doubles us) (doubles vs) (omega arith) (omega arith) ∙ ap (over old i) (sym (map-append (ofBits binary64) us vs))

@@ -1,7 +1,7 @@
 -- Laws of the bytes of fields and of maps, as a loop writes them.
-use Prim.Native.Nat.{ℕ, zero, suc, _+_, _*_, _/_, _%_, _^_, _<_, _≤_}
+use Prim.Native.Nat.{ℕ, zero, suc, _+_, _*_, _^_, _<_, _≤_}
 use native.Mathlib.Omega.{arith}
-use native.Mathlib.Nat.{zero-mul, suc-mul, le-of-suc-le-suc, pow-suc, div-div-eq-div-mul}
+use native.Mathlib.Nat.{zero-mul, suc-mul, le-of-suc-le-suc, pow-suc}
 use native.Mathlib.Numerals.{add-one}
 use mathlib.Core.Path.{_≡_, refl, sym, ap, _∙_}
 use mathlib.Core.Bool.{Bool, true, false, not, _&&_, cond}
@@ -12,14 +12,17 @@ use lib.ListN.{length, getD, take, drop, set, length-append, length-map, take-ap
 use lib.Seq.{sets-eq, take-add, take-all, length-take-le}
 use lib.Ieee.{Float, nan, inf, fin, binary64, toBits, isNan, ne}
 use lib.Ieee.Compare.{differs-from-itself, nan-differs}
-use Rattle.tracks.specs.Format.{fields, mapBytes, bytes, finite}
-use Rattle.tracks.specs.Write.{tabulate, packed, mapByte, mapOf, fieldBytes, storedBytes, recordOf, recordsOf, listOf, tracksOf, allFinite, written}
+use Rattle.tracks.specs.Layout.{fields, mapBytes, finiteBits, countMet, dimensionMet}
+use Rattle.kernel.specs.Bytes.{bytes}
+use Rattle.tracks.specs.Write.{packed, mapByte, mapOf, fieldBytes, storedBytes, recordOf, recordsOf, listOf, tracksOf, trackList, allFinite, written}
+use Rattle.kernel.specs.Lists.{tabulate, over}
 use Rattle.kernel.specs.Answer.{Outcome, refused, answered}
-use Rattle.tracks.specs.Read.{countMet, dimensionMet}
-use Rattle.tracks.specs.Calls.{over, patterns, writeAnswer}
-use Rattle.tracks.specs.declared.format.WrittenList.the-variants as WrittenList
-use Rattle.tracks.proofs.Items.{answered-inj, ask-met}
-use Rattle.tracks.proofs.Lists.{flatMap-append, flatMap-more, flatMap-part, getD-any, take-more, length-tabulate, tabulate-more, map-take, map-drop}
+use Rattle.tracks.specs.Calls.{patterns, writeAnswer}
+use Rattle.tracks.specs.declared.write.WrittenList.the-variants as WrittenList
+use Rattle.kernel.proofs.Answers.{answered-inj, ask-met}
+use Rattle.kernel.proofs.Words.{length-bytes}
+use Rattle.tracks.proofs.Lists.{flatMap-append, flatMap-more, flatMap-part, getD-any, take-more, map-take, map-drop}
+use Rattle.kernel.proofs.Lists.{length-tabulate, tabulate-more}
 
 -- ---- the bits of values
 
@@ -43,29 +46,29 @@ nan-bits x e = ap (toBits binary64) (differs-from-itself x (rw e tt))
 
 -- ---- question 14
 
-pub all-more : (v : List ℕ) (x : ℕ) → allFinite v ≡ true → finite x ≡ true → allFinite (v ++ (x ∷ [])) ≡ true
+pub all-more : (v : List ℕ) (x : ℕ) → allFinite v ≡ true → finiteBits x ≡ true → allFinite (v ++ (x ∷ [])) ≡ true
 unfolding allFinite
 all-more [] x p q = rw q refl
-all-more (y ∷ v) x p q = both (finite y) p (λ r. all-more v x r q)
+all-more (y ∷ v) x p q = both (finiteBits y) p (λ r. all-more v x r q)
   where
     both : (b : Bool) → b && allFinite v ≡ true → (allFinite v ≡ true → allFinite (v ++ (x ∷ [])) ≡ true) → b && allFinite (v ++ (x ∷ [])) ≡ true
     both true p r = r p
     both false p r = p
 
-pub all-not : (v : List ℕ) (i : ℕ) → i < length v → finite (getD v i 0) ≡ false → allFinite v ≡ false
+pub all-not : (v : List ℕ) (i : ℕ) → i < length v → finiteBits (getD v i 0) ≡ false → allFinite v ≡ false
 unfolding allFinite
 all-not [] i h e = absurd (omega arith)
 all-not (y ∷ v) zero h e = rw e refl
-all-not (y ∷ v) (suc i) h e = later (finite y) (all-not v i (le-of-suc-le-suc h) e)
+all-not (y ∷ v) (suc i) h e = later (finiteBits y) (all-not v i (le-of-suc-le-suc h) e)
   where
     later : (b : Bool) {d : Bool} → d ≡ false → b && d ≡ false
     later true p = p
     later false p = refl
 
-pub all-at : (v : List ℕ) (i : ℕ) → allFinite v ≡ true → i < length v → finite (getD v i 0) ≡ true
-all-at v i e h = split (finite (getD v i 0)) refl
+pub all-at : (v : List ℕ) (i : ℕ) → allFinite v ≡ true → i < length v → finiteBits (getD v i 0) ≡ true
+all-at v i e h = split (finiteBits (getD v i 0)) refl
   where
-    split : (b : Bool) → finite (getD v i 0) ≡ b → finite (getD v i 0) ≡ true
+    split : (b : Bool) → finiteBits (getD v i 0) ≡ b → finiteBits (getD v i 0) ≡ true
     split true p = p
     split false p = let z : true ≡ false = sym e ∙ all-not v i h p in let y : _≡_ {A = ℕ} 0 1 = cc in absurd (omega arith)
 
@@ -78,11 +81,6 @@ field-none x e = rw (eq-eqb x 0 e) refl
 pub field-some : (x : ℕ) → (x ≡ 0 → ⊥) → fieldBytes x ≡ bytes 8 x
 unfolding fieldBytes
 field-some x e = rw (ne-eqb x 0 e) refl
-
-pub length-bytes : (n x : ℕ) → length (bytes n x) ≡ n
-unfolding bytes
-length-bytes zero x = refl
-length-bytes (suc n) x = ap suc (length-bytes n (x / 256))
 
 -- ---- the stored fields
 
@@ -120,11 +118,6 @@ stores l at a b c d e f g h le =
     let n6 : at + 6 ≡ suc (suc (suc (suc (suc (suc at))))) = omega arith in
     let n7 : at + 7 ≡ suc (suc (suc (suc (suc (suc (suc at)))))) = omega arith in
     rw (n1, n2, n3, n4, n5, n6, n7) (sets-eq (a ∷ b ∷ c ∷ d ∷ e ∷ f ∷ g ∷ h ∷ []) l at le ∙ append-assoc (take at l) (a ∷ b ∷ c ∷ d ∷ e ∷ f ∷ g ∷ h ∷ []) (drop (at + 8) l))
-
-pub bytes-8 : (x : ℕ) → bytes 8 x
-    ≡ x % 256 ∷ x / 0x100 % 256 ∷ x / 0x1_0000 % 256 ∷ x / 0x100_0000 % 256 ∷ x / 0x1_0000_0000 % 256 ∷ x / 0x100_0000_0000 % 256 ∷ x / 0x1_0000_0000_0000 % 256 ∷ x / 0x100_0000_0000_0000 % 256 ∷ []
-unfolding bytes
-bytes-8 x = simp div-div-eq-div-mul
 
 -- ---- a map's bits
 
@@ -182,10 +175,10 @@ records-length (suc n) f v h =
     )
 
 -- a whole list's length
-pub list-length : (d n f : ℕ) (v : List ℕ) → length v ≡ n * f → length (listOf d (tracksOf n f v)) ≡ 2 + n * mapBytes f + length (storedBytes v)
+pub list-length : (n d : ℕ) (v : List ℕ) → length v ≡ n * fields d → length (listOf (trackList n d v)) ≡ 2 + n * mapBytes (fields d) + length (storedBytes v)
 unfolding listOf
-list-length d n f v h =
-    omega (arith, records-length n f v (omega arith), ap (λ (u : List ℕ). length (storedBytes u)) (take-all (n * f) v (omega arith)))
+list-length n d v h =
+    omega (arith, records-length n (fields d) v (omega arith), ap (λ (u : List ℕ). length (storedBytes u)) (take-all (n * fields d) v (omega arith)))
 
 -- ---- a list that is written
 
@@ -195,7 +188,7 @@ pub record Listed (n d : ℕ) (v : List ℕ) (room : ℕ) (l : List ℕ) : Type 
   pub long : length v ≡ n * fields d
   pub finite : allFinite v ≡ true
   pub fits : length l ≤ room
-  pub same : l ≡ listOf d (tracksOf n (fields d) v)
+  pub same : l ≡ listOf (trackList n d v)
 
 pub written-met : (n d : ℕ) (v : List ℕ) (room : ℕ) {l : List ℕ} → written n d v room ≡ answered l → Listed n d v room l
 unfolding written
@@ -204,7 +197,7 @@ written-met n d v room e =
     let b = ask-met 11 (dimensionMet d) _ (a .1) in
     let g = ask-met 2 (eqb (length v) (n * fields d)) _ (b .1) in
     let h = ask-met 14 (allFinite v) _ (g .1) in
-    let k = ask-met 20 (leb (length (listOf d (tracksOf n (fields d) v))) room) _ (h .1) in
+    let k = ask-met 20 (leb (length (listOf (trackList n d v))) room) _ (h .1) in
     let s = sym (answered-inj (k .1)) in
     record { few = a .0; sized = b .0; long = eqb-true _ _ (g .0); finite = h .0; fits = rw s (leb-true _ _ (k .0)); same = s }
 

@@ -1,22 +1,18 @@
 -- What the calls answer, and what they leave in lent memory.
 use Prim.Native.Nat.{ℕ, _+_}
-use mathlib.Core.Path.{_≡_}
-use mathlib.Core.List.{List, _++_, map, flatMap}
+use mathlib.Core.List.{List, map, flatMap}
 use lib.Dec.{T}
-use lib.ListN.{length, getD, take, drop}
+use lib.ListN.{length, getD}
 use lib.Ieee.{Float, nan, binary64, fits, ofBits, toBits}
 use Rattle.kernel.specs.Answer.{Outcome, refused, answered}
-use Rattle.tracks.specs.Read.{Item, count, dimension}
-use Rattle.tracks.specs.declared.format.Checked.{Checked}
-use Rattle.tracks.specs.declared.format.Checked.the-variants.{End, Refused}
-use Rattle.tracks.specs.declared.format.ReadList.{ReadList}
-use Rattle.tracks.specs.declared.format.ReadList.the-variants as ReadList
-use Rattle.tracks.specs.declared.format.WrittenList.{WrittenList}
-use Rattle.tracks.specs.declared.format.WrittenList.the-variants as WrittenList
-
--- A list with other elements from an index on.
-unfoldable pub over : {A : Type 0} → List A → ℕ → List A → List A
-over old i new = take i old ++ (new ++ drop (i + length new) old)
+use Rattle.kernel.specs.Lists.{over, tabulate}
+use Rattle.tracks.specs.Read.{TrackList}
+use Rattle.tracks.specs.Record.{offset, placing}
+use Rattle.tracks.specs.declared.read.Checked.the-variants.{Refused}
+use Rattle.tracks.specs.declared.read.ReadList.{ReadList}
+use Rattle.tracks.specs.declared.read.ReadList.the-variants as ReadList
+use Rattle.tracks.specs.declared.write.WrittenList.{WrittenList}
+use Rattle.tracks.specs.declared.write.WrittenList.the-variants as WrittenList
 
 -- The doubles that 64 bits stand for, and their bits.
 abbrev pub doubles : List ℕ → List Float
@@ -34,28 +30,24 @@ unfoldable pub joined : {A : Type 0} → List (List A) → List A
 unfolding flatMap
 joined vs = flatMap (λ v. v) vs
 
--- Where an item ends, or the number of the question that it does not meet.
-abbrev pub ends : {A : Type 0} → Outcome (Item A) → Checked
-ends (refused q) = Refused q
-ends (answered x) = End (x .next)
-
--- That nothing is refused.
-abbrev pub Accepted : {A : Type 0} → Outcome A → Type 0
-Accepted {A} o = (x : A) × (o ≡ answered x)
-
--- That an item's values are left in a slice from an index on, and the offset after the item is given.
-abbrev pub Puts : {A : Type 0} → (A → List ℕ) → Outcome (Item A) → List Float → ℕ → ℕ → List Float → Type 0
-Puts {A} fieldsOf o old i next new = (x : Item A) → o ≡ answered x → (next ≡ x .next) × (new ≡ over old i (doubles (fieldsOf (x .value))))
-
--- The answer to a list that is read: the first two bytes of one that is accepted.
-abbrev pub readAnswer : List ℕ → Outcome (List (List ℕ)) → ReadList
-readAnswer l (refused q) = ReadList.Refused q
-readAnswer l (answered ts) = ReadList.Read (count l) (dimension l)
+-- The answer to a list that is read: how many tracks it has, and of which dimension.
+abbrev pub readAnswer : Outcome TrackList → ReadList
+readAnswer (refused q) = ReadList.Refused q
+readAnswer (answered c) = ReadList.Read (length (c .tracks)) (c .dimension)
 
 -- The values afterwards: the tracks' fields in front, and the rest as it was.
-abbrev pub readValues : Outcome (List (List ℕ)) → List Float → List Float
+abbrev pub readValues : Outcome TrackList → List Float → List Float
 readValues (refused q) old = old
-readValues (answered ts) old = over old 0 (doubles (joined ts))
+readValues (answered c) old = over old 0 (doubles (joined (c .tracks)))
+
+-- The numbers afterwards: the offsets of the tracks and of the last one's end in front, and the rest as it was.
+abbrev pub offsetsLeft : List ℕ → Outcome TrackList → List ℕ → List ℕ
+offsetsLeft l (refused q) old = old
+offsetsLeft l (answered c) old = over old 0 (tabulate (length (c .tracks) + 1) (offset l))
+
+-- The answer of `track_offsets`, and the numbers afterwards.
+abbrev pub trackOffsets : List ℕ → List ℕ → ReadList × List ℕ
+trackOffsets l old = (readAnswer (placing l (length old)), offsetsLeft l (placing l (length old)) old)
 
 -- The answer to a list that is written: its length.
 abbrev pub writeAnswer : Outcome (List ℕ) → WrittenList
@@ -66,7 +58,3 @@ writeAnswer (answered l) = WrittenList.Length (length l)
 abbrev pub writeBytes : Outcome (List ℕ) → List ℕ → List ℕ
 writeBytes (refused q) old = old
 writeBytes (answered l) old = over old 0 l
-
--- That bytes are left in a buffer from an offset on, and the offset after them is given.
-abbrev pub Writes : List ℕ → List ℕ → ℕ → ℕ → List ℕ → Type 0
-Writes bytes old at next new = (next ≡ at + length bytes) × (new ≡ over old at bytes)

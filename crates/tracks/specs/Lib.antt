@@ -1,6 +1,7 @@
-pub mod Format
+pub mod Layout
 pub mod Read
 pub mod Write
-pub mod Calls
 pub mod Record
+pub mod Calls
+pub mod Steps
 pub mod Examples

@@ -1,39 +1,32 @@
 -- Reading a list record of document 01: its questions in their order, and the tracks of a list that meets them all.
 use Prim.Native.Nat.{ℕ, zero, suc, _+_, _*_}
-use mathlib.Core.Bool.{Bool, true, false, not, _&&_}
+use mathlib.Core.Bool.{Bool, true, false, not}
 use mathlib.Core.List.{List, [], _∷_, _++_}
 use lib.Dec.{eqb, leb}
 use lib.ListN.{length, getD}
-use Rattle.kernel.specs.Answer.{Outcome, refused, answered, ask}
-use Rattle.tracks.specs.Format.{fields, mapBytes, stands, word, finite, spare}
+use Rattle.kernel.specs.Answer.{Outcome, answered, ask, andThen, through}
+use Rattle.tracks.specs.Layout.{fields, countMet, dimensionMet, mapBytes, stands, finiteBits, spare}
+use Rattle.kernel.specs.Bytes.{word}
 
 -- What stands at an offset, and the offset after it.
 pub record Item (A : Type 0) : Type 0 where
   pub value : A
   pub next : ℕ
 
--- One more item after those read so far, where they end.
-unfoldable pub oneMore : {A : Type 0} → List A → Outcome (Item A) → Outcome (Item (List A))
-oneMore xs (refused q) = refused q
-oneMore xs (answered x) = answered (record { value = xs ++ (x .value ∷ []); next = x .next })
-
-unfoldable pub followed : {A : Type 0} → Outcome (Item (List A)) → (ℕ → Outcome (Item A)) → Outcome (Item (List A))
-unfolding oneMore
-followed (refused q) read = refused q
-followed (answered xs) read = oneMore (xs .value) (read (xs .next))
+-- The items read so far, and one more.
+abbrev pub push : {A : Type 0} → Item (List A) → Item A → Item (List A)
+push xs x = record { value = xs .value ++ (x .value ∷ []); next = x .next }
 
 -- n items from an offset on, each where the one before it ends; item k is read by `read k`.
 unfoldable pub items : {A : Type 0} → (ℕ → ℕ → Outcome (Item A)) → ℕ → ℕ → Outcome (Item (List A))
-unfolding followed
 items read at zero = answered (record { value = []; next = at })
-items read at (suc n) = followed (items read at n) (read n)
+items read at (suc n) = andThen (items read at n) (λ xs. through (push xs) (read n (xs .next)))
 
 -- A field whose bit stands, as its 64 bits: questions 12, 14 and 15.
 unfoldable pub stored : List ℕ → ℕ → Outcome (Item ℕ)
-unfolding word
 stored l at =
     ask 12 (leb (at + 8) (length l))
-    (ask 14 (finite (word l at))
+    (ask 14 (finiteBits (word l at))
     (ask 15 (not (eqb (word l at) 0))
     (answered (record { value = word l at; next = at + 8 }))))
 
@@ -67,32 +60,25 @@ count l = getD l 0 0
 abbrev pub dimension : List ℕ → ℕ
 dimension l = getD l 1 0
 
--- Question 16: the tracks end where the list ends.
-unfoldable pub whole : ℕ → Outcome (Item (List (List ℕ))) → Outcome (List (List ℕ))
-whole n (refused q) = refused q
-whole n (answered ts) = ask 16 (eqb (ts .next) n) (answered (ts .value))
+-- The dimension of a list and its tracks, each the 64 bits of its fields in their order.
+pub record TrackList : Type 0 where
+  pub dimension : ℕ
+  pub tracks : List (List ℕ)
 
--- Questions 10 and 11.
-abbrev pub countMet : ℕ → Bool
-countMet n = leb n 32
+-- Question 16: nothing after the last track.
+abbrev pub nothingAfter : List ℕ → Item (List (List ℕ)) → Outcome TrackList
+nothingAfter l ts = ask 16 (eqb (ts .next) (length l)) (answered (record { dimension = dimension l; tracks = ts .value }))
 
-abbrev pub dimensionMet : ℕ → Bool
-dimensionMet d = leb 1 d && leb d 9
-
--- The tracks of a list, each the 64 bits of its fields in their order.
-unfoldable pub contents : List ℕ → Outcome (List (List ℕ))
-unfolding fields tracks whole
+-- What a list holds.
+unfoldable pub contents : List ℕ → Outcome TrackList
+unfolding fields tracks
 contents l =
     ask 9 (leb 2 (length l))
     (ask 10 (countMet (count l))
     (ask 11 (dimensionMet (dimension l))
-    (whole (length l) (tracks l (fields (dimension l)) (count l)))))
+    (andThen (tracks l (fields (dimension l)) (count l)) (nothingAfter l))))
 
 -- Reading a list into a slice of some length: question 2 is the last.
-unfoldable pub fitting : ℕ → ℕ → Outcome (List (List ℕ)) → Outcome (List (List ℕ))
-fitting needed room (refused q) = refused q
-fitting needed room (answered ts) = ask 2 (leb needed room) (answered ts)
-
-unfoldable pub reading : List ℕ → ℕ → Outcome (List (List ℕ))
-unfolding fields contents fitting
-reading l room = fitting (count l * fields (dimension l)) room (contents l)
+unfoldable pub reading : List ℕ → ℕ → Outcome TrackList
+unfolding fields contents
+reading l room = andThen (contents l) (λ c. ask 2 (leb (length (c .tracks) * fields (c .dimension)) room) (answered c))

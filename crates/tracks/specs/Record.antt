@@ -1,21 +1,24 @@
 -- A track's own bytes as a part of the list, and when two such parts are equal.
 use Prim.Native.Nat.{ℕ, zero, suc, _+_}
+use mathlib.Core.Path.{_≡_}
 use mathlib.Core.Bool.{Bool, true, false, _&&_}
 use mathlib.Core.List.{List, [], _∷_}
-use lib.Dec.{eqb}
+use lib.Dec.{eqb, leb}
 use lib.ListN.{length}
-use Rattle.kernel.specs.Answer.{Outcome, refused, answered}
-use Rattle.tracks.specs.Format.{part, fields}
-use Rattle.tracks.specs.Read.{Item, track, tracks, count, dimension, contents}
+use denote.Ref.{RefT, now}
+use Rattle.kernel.specs.Answer.{Outcome, refused, answered, ask, andThen}
+use Rattle.tracks.specs.Layout.{part, fields}
+use Rattle.tracks.specs.Read.{Item, TrackList, track, tracks, dimension, contents}
 
--- The offset at which track j of an accepted list starts.
+-- Where items end; 0 where they are refused.
+abbrev pub endOf : {A : Type 0} → Outcome (Item A) → ℕ
+endOf (refused q) = 0
+endOf (answered x) = x .next
+
+-- The offset at which track j of an accepted list starts. That of the count is where the last track ends.
 unfoldable pub offset : List ℕ → ℕ → ℕ
 unfolding fields tracks
-offset l j = start (tracks l (fields (dimension l)) j)
-  where
-    start : Outcome (Item (List (List ℕ))) → ℕ
-    start (refused q) = 0
-    start (answered ts) = ts .next
+offset l j = endOf (tracks l (fields (dimension l)) j)
 
 -- The record that is looked for is here, or is looked for where this one ends.
 abbrev pub hereOr : Outcome (Item (List ℕ)) → Bool → (ℕ → ℕ) → ℕ
@@ -31,13 +34,17 @@ recordEnd l f at from (suc n) = hereOr (track l f from) (eqb from at) (λ next. 
 
 -- The part of an accepted list that is the record at an offset: from the map to the last stored field.
 -- At the end, at an offset where no record starts, and in a list that is refused, it is empty.
-abbrev pub recordIn : List ℕ → ℕ → Outcome (List (List ℕ)) → List ℕ
+abbrev pub recordIn : List ℕ → ℕ → Outcome TrackList → List ℕ
 recordIn l at (refused q) = []
-recordIn l at (answered ts) = part l at (recordEnd l (fields (dimension l)) at 2 (count l))
+recordIn l at (answered c) = part l at (recordEnd l (fields (c .dimension)) at 2 (length (c .tracks)))
 
 unfoldable pub recordAt : List ℕ → ℕ → List ℕ
 unfolding contents recordEnd
 recordAt l at = recordIn l at (contents l)
+
+-- That a part that is not empty is the caller's own bytes from an offset on: it stands where the list stands, so many bytes further.
+abbrev pub OwnBytes : RefT (List ℕ) → ℕ → RefT (List ℕ) → Type 0
+OwnBytes list at r = (length (now r) ≡ 0 → ⊥) → (r .ptr .0 ≡ list .ptr .0) × (r .ptr .1 ≡ list .ptr .1 + at)
 
 -- The offset after the record at an offset, and whether there is none.
 unfoldable pub nextOffset : List ℕ → ℕ → ℕ
@@ -47,6 +54,11 @@ nextOffset l at = at + length (recordAt l at)
 unfoldable pub atEnd : List ℕ → ℕ → Bool
 unfolding recordAt
 atEnd l at = eqb (length (recordAt l at)) 0
+
+-- Where the tracks of a list start and end, in a slice of some length: question 2 asks for one number more than there are tracks.
+unfoldable pub placing : List ℕ → ℕ → Outcome TrackList
+unfolding contents
+placing l room = andThen (contents l) (λ c. ask 2 (leb (length (c .tracks) + 1) room) (answered c))
 
 -- Whether two parts have one length and the same bytes.
 unfoldable pub sameBytes : List ℕ → List ℕ → Bool

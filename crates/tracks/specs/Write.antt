@@ -5,13 +5,10 @@ use mathlib.Core.List.{List, [], _∷_, _++_, flatMap}
 use lib.Dec.{eqb, leb}
 use lib.ListN.{length, getD, take, drop}
 use Rattle.kernel.specs.Answer.{Outcome, answered, ask}
-use Rattle.tracks.specs.Format.{fields, mapBytes, bytes, finite}
-use Rattle.tracks.specs.Read.{countMet, dimensionMet}
-
--- f 0, f 1, .. f (n - 1)
-unfoldable pub tabulate : {A : Type 0} → ℕ → (ℕ → A) → List A
-tabulate zero f = []
-tabulate (suc n) f = tabulate n f ++ (f n ∷ [])
+use Rattle.kernel.specs.Lists.{tabulate}
+use Rattle.tracks.specs.Layout.{fields, mapBytes, finiteBits, countMet, dimensionMet}
+use Rattle.kernel.specs.Bytes.{bytes}
+use Rattle.tracks.specs.Read.{TrackList}
 
 -- A field's bit stands exactly when its 64 bits are not all zero.
 abbrev pub nonzero : ℕ → Bool
@@ -49,20 +46,24 @@ unfoldable pub recordsOf : List (List ℕ) → List ℕ
 unfolding flatMap recordOf
 recordsOf ts = flatMap recordOf ts
 
--- The list of tracks of dimension d.
-unfoldable pub listOf : ℕ → List (List ℕ) → List ℕ
+-- The bytes of a list: the count, the dimension, and the tracks' records.
+unfoldable pub listOf : TrackList → List ℕ
 unfolding recordsOf
-listOf d ts = length ts ∷ d ∷ recordsOf ts
+listOf c = length (c .tracks) ∷ c .dimension ∷ recordsOf (c .tracks)
 
 -- Whether each field is finite: question 14.
 unfoldable pub allFinite : List ℕ → Bool
 allFinite [] = true
-allFinite (x ∷ v) = finite x && allFinite v
+allFinite (x ∷ v) = finiteBits x && allFinite v
 
 -- n tracks of f fields each, out of their fields one after another.
 unfoldable pub tracksOf : ℕ → ℕ → List ℕ → List (List ℕ)
 unfolding tabulate
 tracksOf n f v = tabulate n (λ j. take f (drop (j * f) v))
+
+-- n tracks of dimension d, out of their fields.
+abbrev pub trackList : ℕ → ℕ → List ℕ → TrackList
+trackList n d v = record { dimension = d; tracks = tracksOf n (fields d) v }
 
 -- The list of n tracks of dimension d with these fields, in a buffer of some length.
 unfoldable pub written : ℕ → ℕ → List ℕ → ℕ → Outcome (List ℕ)
@@ -72,5 +73,5 @@ written n d v room =
     (ask 11 (dimensionMet d)
     (ask 2 (eqb (length v) (n * fields d))
     (ask 14 (allFinite v)
-    (ask 20 (leb (length (listOf d (tracksOf n (fields d) v))) room)
-    (answered (listOf d (tracksOf n (fields d) v)))))))
+    (ask 20 (leb (length (listOf (trackList n d v))) room)
+    (answered (listOf (trackList n d v)))))))

@@ -1,4 +1,6 @@
 // The list record: reading and writing track lists, and handing out a track's own bytes.
-pub mod format;
+mod layout;
+pub mod read;
 pub mod reader;
 pub mod record;
+pub mod write;

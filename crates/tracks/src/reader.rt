@@ -1,7 +1,7 @@
 // A list and the next record's offset together. The functions are thin: each takes the reader apart and leaves the work to
 // `record`, which takes a plain slice and an offset.
 ghost use mathlib.Core.Path.{_≡_};
-ghost use Rattle.tracks.specs.Record.{recordAt, nextOffset, atEnd};
+ghost use Rattle.tracks.specs.Record.{recordAt, OwnBytes, nextOffset, atEnd};
 use crate::record;
 
 pub struct Reader<'a> {
@@ -25,7 +25,7 @@ pub fn ended<'a>(r: Reader<'a>) -> bool
 
 // The record here, as a part of the list.
 pub fn here<'a>(r: Reader<'a>) -> &'a [u8]
-    ensures { λ s. ⌜ now s ≡ recordAt (now (r .entry .list)) (r .entry .at) ⌝ }
+    ensures { λ s. ⌜ (now s ≡ recordAt (now (r .entry .list)) (r .entry .at)) × OwnBytes (r .entry .list) (r .entry .at) s ⌝ }
 {
     record::record(r.list, r.at)
 }

@@ -1,12 +1,18 @@
 // A track's own bytes, as a part of the caller's list.
 ghost use mathlib.Core.Path.{_≡_};
-ghost use Prim.Native.Nat.{_≤_};
+ghost use Prim.Native.Nat.{_+_, _<_, _≤_};
 ghost use lib.ListN.{length};
-ghost use Rattle.tracks.specs.Format.{fields};
-ghost use Rattle.tracks.specs.Record.{recordEnd, recordAt, nextOffset, atEnd, sameBytes};
-use crate::format;
-use crate::format::Checked;
-use crate::format::ReadList;
+ghost use Rattle.tracks.specs.Layout.{fields};
+ghost use Rattle.kernel.specs.Lists.{over, tabulate};
+ghost use Rattle.tracks.specs.Read.{tracks};
+ghost use Rattle.tracks.specs.Record.{endOf, recordEnd, recordAt, OwnBytes, nextOffset, atEnd, sameBytes};
+ghost use Rattle.tracks.specs.Calls.{trackOffsets};
+ghost use Rattle.tracks.specs.Steps.{checkedEnd};
+use crate::layout;
+use crate::read;
+use crate::read::Checked;
+use crate::read::ReadList;
+use kernel::question;
 
 // Where the record that starts at an offset ends, among n records of f fields; 0 where none of them starts there.
 fn find_end(list: &[u8], f: usize, n: usize, at: usize) -> usize
@@ -15,7 +21,7 @@ fn find_end(list: &[u8], f: usize, n: usize, at: usize) -> usize
 {
     let mut here = 2;
     for _ in 0..n {
-        let c = format::check_track(list, f, here);
+        let c = read::check_track(list, f, here);
         match c {
             Checked::End(next) => {
                 if here == at {
@@ -33,18 +39,59 @@ fn find_end(list: &[u8], f: usize, n: usize, at: usize) -> usize
 
 // A track's own bytes: the record of an accepted list that starts at an offset, or an empty part.
 pub fn record(list: &[u8], at: usize) -> &[u8]
-    ensures { λ r. ⌜ now r ≡ recordAt (now (list .entry)) at ⌝ }
+    ensures { λ r. ⌜ (now r ≡ recordAt (now (list .entry)) at) × OwnBytes (list .entry) at r ⌝ }
 {
-    let c = format::check_list(list);
+    let c = read::check_list(list);
     match c {
         ReadList::Read { count, dimension } => {
-            let end = find_end(list, format::fields(dimension), count, at);
+            let end = find_end(list, layout::fields(dimension), count, at);
             if end < at {
                 return &list[..0];
             }
             &list[at..end]
         }
         ReadList::Refused(_) => &list[..0],
+    }
+}
+
+// Where items end; 0 where they are refused.
+fn end_of(c: Checked) -> usize
+    ensures { λ r. ⌜ r ≡ checkedEnd c ⌝ }
+{
+    match c {
+        Checked::End(at) => at,
+        Checked::Refused(_) => 0,
+    }
+}
+
+// Stores where each of the first n tracks of f fields starts, and where the last one ends.
+fn put_offsets(list: &[u8], f: usize, n: usize, offsets: &mut [usize])
+    requires { ⌜ (f ≤ 64) × (2 ≤ length (now list)) × (n < length (now offsets)) ⌝ }
+    ensures { λ _. ⌜ now (offsets .exit) ≡ over (now (offsets .entry)) 0 (tabulate (n + 1) (λ j. endOf (tracks (now (list .entry)) f j))) ⌝ }
+{
+    let mut c = Checked::End(2);
+    for j in 0..n {
+        offsets[j] = end_of(c);
+        c = read::next_track(list, f, c);
+    }
+    offsets[n] = end_of(c);
+}
+
+// Where each track of an accepted list starts, and after them where the last one ends, so that a caller takes each track's
+// own bytes without going through the list again.
+pub fn track_offsets(list: &[u8], offsets: &mut [usize]) -> ReadList
+    ensures { λ r. ⌜ (r, now (offsets .exit)) ≡ trackOffsets (now (list .entry)) (now (offsets .entry)) ⌝ }
+{
+    let c = read::check_list(list);
+    match c {
+        ReadList::Read { count, dimension } => {
+            if offsets.len() <= count {
+                return ReadList::Refused(question::LENGTH);
+            }
+            put_offsets(list, layout::fields(dimension), count, offsets);
+            ReadList::Read { count, dimension }
+        }
+        ReadList::Refused(q) => ReadList::Refused(q),
     }
 }
 

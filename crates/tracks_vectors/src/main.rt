@@ -1,10 +1,12 @@
 // Replays frozen answers of the track lists: one block of 65,536 bytes, some records and then zeros. All numbers have eight
 // bytes, low byte first, values stand by their bit patterns, and bytes are filled up with zeros to a whole number. A record
 // has its length in numbers, its kind and six numbers more, which each kind below names in their order, and then its data.
-use tracks::format;
-use tracks::format::ReadList;
-use tracks::format::WrittenList;
+use kernel::bytes;
+use tracks::read;
+use tracks::read::ReadList;
 use tracks::record;
+use tracks::write;
+use tracks::write::WrittenList;
 ghost use Prim.Native.Nat.{_+_, _≤_};
 
 // The bytes of a record before its data.
@@ -29,7 +31,7 @@ fn one_more(n: u64) -> u64 {
 fn named(s: &[u8], k: usize) -> u64
     requires { ⌜ k ≤ 7 ⌝ }
 {
-    replay::word(s, 8 * k)
+    bytes::word(s, 8 * k)
 }
 
 // The part of s with so many bytes at an index; empty where it is not all there.
@@ -67,7 +69,7 @@ fn holds_values(s: &[u8], values: &[f64]) -> bool {
         if VALUES <= i {
             return false;
         }
-        if !replay::is_same(values[i], replay::word(s, 8 * i)) {
+        if !replay::is_same(values[i], bytes::word(s, 8 * i)) {
             return false;
         }
     }
@@ -83,7 +85,7 @@ fn is_read(
     dimension: u64,
     left: &[u8],
 ) -> bool {
-    let answer = format::read_list(list, values);
+    let answer = read::read_list(list, values);
     match answer {
         ReadList::Read {
             count: n,
@@ -106,7 +108,7 @@ fn is_read(
 fn load(s: &[u8]) -> [f64; VALUES] {
     let mut values = [0.0; VALUES];
     for i in 0..VALUES {
-        values[i] = replay::double(replay::word(s, 8 * i));
+        values[i] = replay::double(bytes::word(s, 8 * i));
     }
     values
 }
@@ -121,7 +123,7 @@ fn is_written(
     length: u64,
     left: &[u8],
 ) -> bool {
-    let answer = format::write_list(count, dimension, values, out);
+    let answer = write::write_list(count, dimension, values, out);
     match answer {
         WrittenList::Length(n) => {
             if told != 0 || n as u64 != length {

@@ -2,7 +2,7 @@
 use borrow.Author.Needs.{needs}
 use denote.Ref.{now}
 use mathlib.Core.Path.{sym, ap}
-use Rattle.tracks.specs.declared.format.WrittenList.{WrittenList}
+use Rattle.tracks.specs.declared.write.WrittenList.{WrittenList}
 use Rattle.capi.specs.Told.{enteredLength}
 use Rattle.capi.proofs.told.enter_length.Statement.{statement}
 use Rattle.capi.proofs.told.enter_length.Tie as tie

@@ -2,7 +2,7 @@
 use borrow.Author.Needs.{needs}
 use denote.Ref.{now}
 use mathlib.Core.Path.{sym, ap}
-use Rattle.tracks.specs.declared.format.ReadList.{ReadList}
+use Rattle.tracks.specs.declared.read.ReadList.{ReadList}
 use Rattle.capi.specs.Told.{enteredRead}
 use Rattle.capi.proofs.told.enter_read.Statement.{statement}
 use Rattle.capi.proofs.told.enter_read.Tie as tie

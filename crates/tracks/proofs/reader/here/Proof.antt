@@ -36,7 +36,7 @@ use denote.Triple.Table.{entered, cited}
 use denote.Triple.Walked.{says, Stays, stay-none, walkOf, goes-none, Walks, ends-at, walked, walk-meets}
 use denote.Exit.{yes}
 use denote.Triple.Clauses.{ensured, lasts}
-use Rattle.tracks.specs.Record.{recordAt}
+use Rattle.tracks.specs.Record.{recordAt, OwnBytes}
 use Rattle.tracks.specs.declared.reader.Reader.{Reader}
 use Rattle.tracks.proofs.Apart.{B, mach, passed, Own, apart}
 use Rattle.tracks.proofs.reader.Reader as T
@@ -59,8 +59,9 @@ module _ {M : Type 1} (𝓤 : URA M) (H : Heap 𝓤) (A : Atoms 𝓤) (mem : Mem
   Called = tripleOf 𝓤 H A called.signature (called.spec 𝓤 H A mem run)
 
 module _ {M : Type 1} (𝓤 : URA M) (H : Heap 𝓤) (A : Atoms 𝓤) (W : Given 𝓤 H A) (mem : Memory → SProp 𝓤) (run : Routine → Fun 𝓤) (κ : Lft) (q : Share) (d : Reader) where
-  abbrev found : List ℕ
-  found = recordAt (now (d .list)) (d .at)
+  -- what the callee says of its result, and this function of the same
+  abbrev Found : RefT (List ℕ) → Type 0
+  Found r = (now r ≡ recordAt (now (d .list)) (d .at)) × OwnBytes (d .list) (d .at) r
 
   abbrev Post : Val → SProp 𝓤
   Post = walkOf 𝓤 H A here.ended stayed (here.clauses 𝓤 H A mem run) .post (((κ, tt), (q, tt), tt, (d, tt), (mach d ∷ [], tt)), tt)
@@ -72,10 +73,10 @@ module _ {M : Type 1} (𝓤 : URA M) (H : Heap 𝓤) (A : Atoms 𝓤) (W : Given
   asked = qed W ((‵ (flft κ q) ⊛ ‵ ftrue) ∷ ‵ (owns (ShrSlice (named 0) κ u8 ∷ usize ∷ []) (d .list, (d .at, tt)) (passed d)) ∷ []) ∵ join ! $ frame ! $ done !
 
   -- of the callee's `ensured`, the clause alone: it has no `&mut`, so what is said of last values is dropped
-  said : (r : RefT (List ℕ)) → ent 𝓤 (ensured 𝓤 H A called.ended (called.clauses 𝓤 H A mem run) (κ, tt) (d .list, (d .at, tt)) tt r) (fact 𝓤 (now r ≡ found))
-  said r = exE 𝓤 _ (λ ws. snd∗ 𝓤 (sem 𝓤 H A (lasts called.ended (κ, tt) (d .list, (d .at, tt)) ws)) (fact 𝓤 (now r ≡ found)))
+  said : (r : RefT (List ℕ)) → ent 𝓤 (ensured 𝓤 H A called.ended (called.clauses 𝓤 H A mem run) (κ, tt) (d .list, (d .at, tt)) tt r) (fact 𝓤 (Found r))
+  said r = exE 𝓤 _ (λ ws. snd∗ 𝓤 (sem 𝓤 H A (lasts called.ended (κ, tt) (d .list, (d .at, tt)) ws)) (fact 𝓤 (Found r)))
 
-  exits : (r : RefT (List ℕ)) (u : Val) → now r ≡ found → ent 𝓤 (⋆ 𝓤 H A (‵ (ShrSlice (named 0) κ u8 .own r (u ∷ [])) ∷ (‵ (flft κ q) ⊛ ‵ ftrue) ∷ ‵ (Own κ d) ∷ [])) (Post u)
+  exits : (r : RefT (List ℕ)) (u : Val) → Found r → ent 𝓤 (⋆ 𝓤 H A (‵ (ShrSlice (named 0) κ u8 .own r (u ∷ [])) ∷ (‵ (flft κ q) ⊛ ‵ ftrue) ∷ ‵ (Own κ d) ∷ [])) (Post u)
   exits r u e =
       qed W (‵ (ShrSlice (named 0) κ u8 .own r (u ∷ [])) ∷ (‵ (flft κ q) ⊛ ‵ ftrue) ∷ ‵ (Own κ d) ∷ []) ∵
       suffices ! _ (ends-at 𝓤 H A here.ended stayed (here.clauses 𝓤 H A mem run) W (((κ, tt), (q, tt), tt, (d, tt), (mach d ∷ [], tt)), tt) u r (tt, tt) (tt, tt)) $ says ! e $
@@ -91,7 +92,7 @@ module _ {M : Type 1} (𝓤 : URA M) (H : Heap 𝓤) (A : Atoms 𝓤) (W : Given
         move ! (8 ∷ []) $ use1 W (raw (Called 𝓤 H A mem run .pre to) ⊛ ‵ (Own κ d)) (apart 𝓤 H A W κ q d (Called 𝓤 H A mem run .pre to) asked (wt .1 .1 .0 .fits)) $ split ! $
         calls-at ! fm (Called 𝓤 H A mem run) known to (and-then ! (load ! (from ! (stop !)) (look ! 4 refl)) (and-then ! (load ! (from ! (stop !)) (look ! 2 refl)) (no-more !))) (λ u.
         use1 W (later (some (λ (r : RefT (List ℕ)). ((‵ (flft κ q) ⊛ ‵ ftrue) ⊛ ‵ (ShrSlice (named 0) κ u8 .own r (u ∷ []))) ⊛ raw (ensured 𝓤 H A called.ended (called.clauses 𝓤 H A mem run) (κ, tt) (d .list, (d .at, tt)) tt r)))) (id⊢ 𝓤 _) $ await ! tt $ pick ! (λ r.
-        split ! $ move ! (1 ∷ []) $ use1 W (raw (fact 𝓤 (now r ≡ found))) (said r) $ heard ! (now r ≡ found) (λ e. split ! $ move ! (1 ∷ []) $
+        split ! $ move ! (1 ∷ []) $ use1 W (raw (fact 𝓤 (Found r))) (said r) $ heard ! (Found r) (λ e. split ! $ move ! (1 ∷ []) $
         -- [the result; the token; what the struct owns; _3; …; _2; …; _1; …; room for _0; …]
         peeks ! (ShrSlice (named 0) κ u8) (Is (ShrSlice (named 0) κ u8)) (shows 𝓤 H A (ShrSlice (named 0) κ u8)) r (u ∷ []) (λ is.
         land ! (from ! (stop !)) (init ! 9 refl (shr-slice-lawful 𝓤 H A W (named 0) κ u8 .typed r _ is .0)) $

@@ -9,12 +9,9 @@ use borrow.Author.Needs.{needs}
 use Rattle.tracks.proofs.record.at_end.Statement.{statement}
 use Rattle.tracks.proofs.record.at_end.Tie as tie
 
-record-requires : tie.Need-record-requires
-record-requires c κs = search needs
-
 returns : tie.Need-returns
 unfolding atEnd
-returns c = ap (λ (p : List ℕ). eqb (length p) 0) (c .record .ensures)
+returns c = ap (λ (p : List ℕ). eqb (length p) 0) (c .record .ensures .0)
 
 pub at-end-spec : {M : Type 1} → statement M
-at-end-spec = tie.close (tie.spec record-requires returns)
+at-end-spec = tie.close (tie.spec (λ c κs. search needs) returns)

@@ -30,37 +30,22 @@ left c =
     let e : x .n - i .counter ≡ suc (x .n - (i .counter + 1)) = omega arith in
     i .inv .2 ∙ ap (recordEnd (now (x .list)) (x .f) (x .at) (i .here)) e
 
-check-track-requires : tie.Need-check-track-requires Inv-loop μ-loop
-check-track-requires c κs = omega arith
-
-enum-known-c : tie.Need-enum-known-c Inv-loop μ-loop
-enum-known-c c = search needs
-
 returns : tie.Need-returns Inv-loop μ-loop
 returns c =
     let t = c .before .before .before .before .before in
     let x = t .before .before .before .args in
     let e = sym (c .before .before .before .before .check-track .ensures) ∙ c .before .before .c .given .1 in
-    (sym (left t ∙ end-here _ _ _ _ _ e (c .if1 .taken)), track-within (now (x .list)) (x .f) (t .before .loop .here) e)
-
-enum-told : tie.Need-enum-told Inv-loop μ-loop
-enum-told c = search needs
+    (sym (left t ∙ end-here _ _ _ _ _ e (c .if1 .taken)), track-within (now (x .list)) (x .f) (t .before .loop .here) _ e)
 
 returns-2 : tie.Need-returns-2 Inv-loop μ-loop
 returns-2 c = (sym (left (c .before .before .before) ∙ end-refused _ _ _ _ _ (sym (c .before .before .check-track .ensures) ∙ c .enum-told .given .1)), omega arith)
-
-add-counter : tie.Need-add-counter Inv-loop μ-loop
-add-counter c = omega arith
-
-loop-less : tie.Need-loop-less Inv-loop μ-loop
-loop-less c = omega arith
 
 loop-again : tie.Need-loop-again Inv-loop μ-loop
 loop-again c =
     let t = c .before .before .before .before .before in
     let x = t .before .before .before .args in
     let e = sym (c .before .before .before .before .check-track .ensures) ∙ c .before .before .c .given .1 in
-    (omega arith, track-within (now (x .list)) (x .f) (t .before .loop .here) e, left t ∙ end-later _ _ _ _ _ e (c .if1 .left))
+    (omega arith, track-within (now (x .list)) (x .f) (t .before .loop .here) _ e, left t ∙ end-later _ _ _ _ _ e (c .if1 .left))
 
 returns-3 : tie.Need-returns-3 Inv-loop μ-loop
 unfolding recordEnd
@@ -77,12 +62,12 @@ find-end-spec =
     Inv-loop
     μ-loop
     loop-holds
-    check-track-requires
-    enum-known-c
+    (λ c κs. omega arith)
+    (λ c. search needs)
     returns
-    enum-told
+    (λ c. search needs)
     returns-2
-    add-counter
-    loop-less
+    (λ c. omega arith)
+    (λ c. omega arith)
     loop-again
     returns-3)

@@ -11,15 +11,12 @@ use borrow.Author.Needs.{needs}
 use Rattle.tracks.proofs.record.next_offset.Statement.{statement}
 use Rattle.tracks.proofs.record.next_offset.Tie as tie
 
-record-requires : tie.Need-record-requires
-record-requires c κs = search needs
-
 add-result : tie.Need-add-result
-add-result c = let x = c .before .before .args in omega (arith, record-short (now (x .list)) (x .at), ap length (c .record .ensures))
+add-result c = let x = c .before .before .args in omega (arith, record-short (now (x .list)) (x .at), ap length (c .record .ensures .0))
 
 returns : tie.Need-returns
 unfolding nextOffset
-returns c = ap (λ (p : List ℕ). c .before .before .args .at + length p) (c .record .ensures)
+returns c = ap (λ (p : List ℕ). c .before .before .args .at + length p) (c .record .ensures .0)
 
 pub next-offset-spec : {M : Type 1} → statement M
-next-offset-spec = tie.close (tie.spec record-requires add-result returns)
+next-offset-spec = tie.close (tie.spec (λ c κs. search needs) add-result returns)

@@ -24,23 +24,11 @@ returns c = let x = c .before .args in sym (same-unequal (now (x .a)) (now (x .b
 loop-holds : tie.Need-loop-holds Inv-loop μ-loop
 loop-holds c = (omega arith, refl, c .if1 .left, λ k h. absurd (omega arith))
 
-shared-slice-read-if2 : tie.Need-shared-slice-read-if2 Inv-loop μ-loop
-shared-slice-read-if2 c = omega arith
-
-shared-slice-read-if2-2 : tie.Need-shared-slice-read-if2-2 Inv-loop μ-loop
-shared-slice-read-if2-2 c = omega arith
-
 returns-2 : tie.Need-returns-2 Inv-loop μ-loop
 returns-2 c =
     let x = c .before .before .before .before .before .before .args in
     let i = c .before .before .before .before .loop .i in
     sym (same-unequal (now (x .a)) (now (x .b)) (λ e. c .if2 .taken (ap (λ (l : List ℕ). getD l i 0) e)))
-
-add-i : tie.Need-add-i Inv-loop μ-loop
-add-i c = omega arith
-
-loop-less : tie.Need-loop-less Inv-loop μ-loop
-loop-less c = omega arith
 
 loop-again : tie.Need-loop-again Inv-loop μ-loop
 loop-again c =
@@ -61,10 +49,10 @@ same-record-spec =
     μ-loop
     returns
     loop-holds
-    shared-slice-read-if2
-    shared-slice-read-if2-2
+    (λ c. omega arith)
+    (λ c. omega arith)
     returns-2
-    add-i
-    loop-less
+    (λ c. omega arith)
+    (λ c. omega arith)
     loop-again
     returns-3)

@@ -1,0 +1,61 @@
+-- `check_fields` meets its contract: before turn k the first k fields are accepted, and end at `at`.
+use mathlib.Core.Path.{_≡_, refl, sym, ap, _∙_}
+use Prim.Native.Nat.{ℕ, _+_, _-_, _≤_}
+use denote.Ref.{now}
+use native.Mathlib.Nat.{le-antisymm}
+use native.Mathlib.Omega.{arith}
+use borrow.Author.Needs.{needs}
+use lib.ListN.{length}
+use Rattle.tracks.specs.Layout.{mapBytes}
+use Rattle.tracks.specs.Read.{field, items}
+use Rattle.tracks.specs.Steps.{ends}
+use Rattle.tracks.specs.declared.read.Checked.the-variants.{End}
+use Rattle.tracks.proofs.Items.{ends-more, ends-stop}
+use Rattle.tracks.proofs.Accepted.{field-within}
+use Rattle.tracks.proofs.read.check_fields.Statement.{statement}
+use Rattle.tracks.proofs.read.check_fields.Tie as tie
+
+abbrev Inv-loop : tie.InvT-loop
+Inv-loop list f map at₀ k₀ at k = (k ≤ f) × (at ≤ length list) × (ends (items (field list map) (map + mapBytes f) k) ≡ End at)
+
+abbrev μ-loop : tie.MeasureT-loop
+μ-loop list f map at₀ k₀ at k = f - k
+
+loop-holds : tie.Need-loop-holds Inv-loop μ-loop
+unfolding items
+loop-holds c = (omega arith, omega arith, refl)
+
+returns : tie.Need-returns Inv-loop μ-loop
+returns c =
+    let i = c .before .before .before .before .before .loop in
+    sym (ends-stop _ _ (i .k) _ (c .before .before .before .before .loop-test .taken) (i .inv .2) (sym (c .before .before .before .check-field .ensures) ∙ c .before .c2 .given .1))
+
+loop-again : tie.Need-loop-again Inv-loop μ-loop
+loop-again c =
+    let i = c .before .before .before .before .before .loop in
+    let e = sym (c .before .before .before .check-field .ensures) ∙ c .before .c .given .1 in
+    (omega arith, field-within _ _ _ _ (i .inv .1) _ e, ends-more _ _ (i .k) (i .inv .2) e)
+
+returns-2 : tie.Need-returns-2 Inv-loop μ-loop
+returns-2 c =
+    let x = c .before .before .before .args in
+    let i = c .before .loop in
+    sym (i .inv .2) ∙ ap (λ (n : ℕ). ends (items (field (now (x .list)) (x .map)) (x .map + mapBytes (x .f)) n)) (le-antisymm (i .inv .0) (c .loop-test .left))
+
+pub check-fields-spec : {M : Type 1} → statement M
+check-fields-spec =
+    tie.close
+    (tie.spec
+    Inv-loop
+    μ-loop
+    (λ c. omega arith)
+    (λ c. omega arith)
+    loop-holds
+    (λ c κs. omega arith)
+    (λ c. search needs)
+    (λ c. search needs)
+    returns
+    (λ c. omega arith)
+    (λ c. omega arith)
+    loop-again
+    returns-2)

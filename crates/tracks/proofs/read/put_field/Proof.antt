@@ -1,0 +1,55 @@
+-- `put_field` meets its contract: an accepted field that stands is all there, and no NaN.
+use mathlib.Core.Path.{_≡_, sym, ap, _∙_}
+use Prim.Native.Nat.{ℕ}
+use native.Mathlib.Omega.{arith}
+use mathlib.Core.List.{[], _∷_}
+use denote.Ref.{now}
+use lib.Ieee.{binary64, ofBits}
+use Rattle.kernel.specs.Answer.{answered}
+use Rattle.tracks.specs.Read.{Item, field}
+use Rattle.kernel.specs.Lists.{over}
+use Rattle.tracks.proofs.Accepted.{Stored, field-stored, field-absent, finite-no-nan}
+use Rattle.kernel.proofs.Lists.{over-set}
+use borrow.Author.Needs.{needs}
+use Rattle.tracks.proofs.read.put_field.Statement.{statement}
+use Rattle.tracks.proofs.read.put_field.Tie as tie
+
+-- the field that is stored
+held : (c : tie.Then1) {y : Item ℕ} → field (now (c .before .before .before .before .args .list)) (c .before .before .before .before .args .map) (c .before .before .before .before .args .k) (c .before .before .before .before .args .at) ≡ answered y
+    → Stored (now (c .before .before .before .before .args .list)) (c .before .before .before .before .args .at) y
+held c e = let x = c .before .before .before .before .args in field-stored (now (x .list)) (x .map) (x .k) (x .at) (sym (c .before .stands .ensures) ∙ c .if1 .taken) e
+
+float-from-bits-values : tie.Need-float-from-bits-values
+float-from-bits-values c = finite-no-nan _ (rw (c .word .ensures) (held (c .before) (c .before .before .before .before .before .pre .2 .1) .finite))
+
+add-result : tie.Need-add-result
+add-result c = omega (arith, held (c .before) (c .before .before .before .before .before .pre .2 .1) .there)
+
+returns : tie.Need-returns
+returns c y e =
+    let x = c .before .before .before .before .before .args in
+    let s = held (c .before) e in
+    (sym (s .next), over-set _ _ _ (omega arith) ∙ ap (λ (b : ℕ). over (now (x .values)) (x .i) (ofBits binary64 b ∷ [])) (c .word .ensures ∙ sym (s .value)))
+
+returns-2 : tie.Need-returns-2
+returns-2 c y e =
+    let x = c .before .before .before .before .args in
+    let s = field-absent (now (x .list)) (x .map) (x .k) (x .at) (sym (c .before .stands .ensures) ∙ c .if1 .left) e in
+    (sym (ap (λ (z : Item ℕ). z .next) s), over-set _ _ _ (omega arith) ∙ ap (λ (z : Item ℕ). over (now (x .values)) (x .i) (ofBits binary64 (z .value) ∷ [])) (sym s))
+
+pub put-field-spec : {M : Type 1} → statement M
+put-field-spec =
+    tie.close
+    (tie.spec
+    (λ c κs. search needs)
+    (λ c κs. tt)
+    float-from-bits-values
+    (λ c. search needs)
+    (λ c. search needs)
+    add-result
+    (λ c. search needs)
+    returns
+    (λ c. search needs)
+    (λ c. search needs)
+    (λ c. search needs)
+    returns-2)

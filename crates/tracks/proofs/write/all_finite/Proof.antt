@@ -1,0 +1,63 @@
+-- `all_finite` meets its contract: before turn i the first i values are finite.
+use mathlib.Core.Path.{_≡_, refl, sym, ap, _∙_}
+use mathlib.Core.Bool.{true}
+use Prim.Native.Nat.{_-_, _≤_}
+use native.Mathlib.Omega.{arith}
+use borrow.Author.Tests.{not-true, not-false}
+use denote.Ref.{now}
+use lib.ListN.{length, take}
+use lib.Seq.{take-all}
+use Rattle.tracks.specs.Layout.{finiteBits}
+use Rattle.tracks.specs.Write.{allFinite}
+use Rattle.tracks.specs.Calls.{patterns}
+use Rattle.tracks.proofs.Lists.{take-more}
+use Rattle.tracks.proofs.Written.{length-patterns, all-more, all-not}
+use Rattle.tracks.proofs.write.all_finite.Statement.{statement}
+use Rattle.tracks.proofs.write.all_finite.Tie as tie
+
+abbrev Inv-loop : tie.InvT-loop
+Inv-loop v i₀ i-end i = (i ≤ i-end) × (i-end ≡ length (patterns v)) × (allFinite (take i (patterns v)) ≡ true)
+
+abbrev μ-loop : tie.MeasureT-loop
+μ-loop v i₀ i-end i = i-end - i
+
+loop-holds : tie.Need-loop-holds Inv-loop μ-loop
+unfolding allFinite
+loop-holds c = (omega arith, sym (length-patterns (now (c .before .args .v))), refl)
+
+returns : tie.Need-returns Inv-loop μ-loop
+returns c =
+    let x = c .before .before .before .before .before .before .args in
+    let i = c .before .before .before .before .loop in
+    sym (all-not (patterns (now (x .v))) (i .i) (omega arith) (ap finiteBits (sym (c .before .before .bits-at .ensures)) ∙ sym (c .before .finite .ensures) ∙ not-true _ (c .if1 .taken)))
+
+loop-again : tie.Need-loop-again Inv-loop μ-loop
+loop-again c =
+    let x = c .before .before .before .before .before .before .args in
+    let i = c .before .before .before .before .loop in (
+      omega arith,
+      i .inv .1,
+      ap allFinite (take-more (patterns (now (x .v))) (i .i) (omega arith))
+          ∙ all-more (take (i .i) (patterns (now (x .v)))) _ (i .inv .2) (ap finiteBits (sym (c .before .before .bits-at .ensures)) ∙ sym (c .before .finite .ensures) ∙ not-false _ (c .if1 .left)),
+    )
+
+returns-2 : tie.Need-returns-2 Inv-loop μ-loop
+returns-2 c =
+    let x = c .before .before .before .args in
+    let i = c .before .loop in
+    sym (i .inv .2) ∙ ap allFinite (take-all (i .i) (patterns (now (x .v))) (omega (arith, c .loop-test .left)))
+
+pub all-finite-spec : {M : Type 1} → statement M
+all-finite-spec =
+    tie.close
+    (tie.spec
+    Inv-loop
+    μ-loop
+    loop-holds
+    (λ c κs. omega arith)
+    (λ c κs. tt)
+    returns
+    (λ c. omega arith)
+    (λ c. omega arith)
+    loop-again
+    returns-2)

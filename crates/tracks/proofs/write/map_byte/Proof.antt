@@ -1,0 +1,85 @@
+-- `map_byte` meets its contract: before turn i the byte has the first i bits, and the weight is that of bit i.
+use mathlib.Core.Path.{_≡_, refl, sym, ap, _∙_}
+use mathlib.Core.Bool.{Bool, true, false}
+use mathlib.Core.Logic.{⊎-elim}
+use Prim.Native.Nat.{ℕ, _+_, _*_, _^_, _-_, _≤_, _<_}
+use native.Mathlib.Nat.{pow-suc, le-antisymm}
+use native.Mathlib.Numerals.{add-one}
+use native.Mathlib.Omega.{arith}
+use mathlib.Core.List.{List}
+use denote.Ref.{now}
+use lib.ListN.{getD}
+use lib.Pow.{pow-mono}
+use Rattle.tracks.specs.Write.{nonzero, packed, mapByte}
+use Rattle.tracks.specs.Calls.{patterns}
+use Rattle.tracks.proofs.Written.{packed-more, packed-lt}
+use Rattle.tracks.proofs.write.map_byte.Statement.{statement}
+use Rattle.tracks.proofs.write.map_byte.Tie as tie
+
+abbrev test : List ℕ → ℕ → ℕ → Bool
+test v b i = nonzero (getD v (8 * b + i) 0)
+
+abbrev Inv-loop : tie.InvT-loop
+Inv-loop v b byte₀ weight₀ i₀ byte weight i = (i ≤ 8) × (weight ≡ 2 ^ i) × (byte ≡ packed (test (patterns v) b) i)
+
+abbrev μ-loop : tie.MeasureT-loop
+μ-loop v b byte₀ weight₀ i₀ byte weight i = 8 - i
+
+loop-holds : tie.Need-loop-holds Inv-loop μ-loop
+unfolding packed
+loop-holds c = (omega arith, refl, refl)
+
+-- the byte and the weight are small
+small : (c : tie.At-loop Inv-loop μ-loop) → (c .loop .byte < 2 ^ c .loop .i) × (2 ^ c .loop .i ≤ 256)
+small c =
+    let x = c .before .before .args in
+    let i = c .loop in
+    (rw (i .inv .2) (packed-lt (test (patterns (now (x .v))) (x .b)) (i .i)), pow-mono (i .inv .0))
+
+add-byte : tie.Need-add-byte Inv-loop μ-loop
+add-byte c = omega (arith, small (c .before .before .before), c .before .before .before .loop .inv .1)
+
+mul-weight : tie.Need-mul-weight Inv-loop μ-loop
+mul-weight c = omega (arith, small (c .before .before .before), c .before .before .before .loop .inv .1)
+
+loop-again : tie.Need-loop-again Inv-loop μ-loop
+loop-again c =
+    let x = c .before .before .before .before .before .args in
+    let i = c .before .before .before .loop in
+    let t = test (patterns (now (x .v))) (x .b) in
+    let s = sym (c .before .is-stored .ensures) in (
+      omega arith,
+      omega (arith, i .inv .1, ap (λ (n : ℕ). 2 ^ n) (add-one (i .i)), pow-suc 2 (i .i)),
+      ⊎-elim
+          (λ w. omega (arith, w .1, i .inv, packed-more t (i .i) {b = true} (s ∙ w .0 .taken)))
+          (λ w. omega (arith, w .1, i .inv, packed-more t (i .i) {b = false} (s ∙ w .0 .left)))
+          (c .if1 .came),
+    )
+
+cast-result : tie.Need-cast-result Inv-loop μ-loop
+cast-result c = omega (arith, small (c .before))
+
+returns : tie.Need-returns Inv-loop μ-loop
+unfolding mapByte
+returns c =
+    let x = c .before .before .before .args in
+    let i = c .before .loop in
+    i .inv .2 ∙ ap (packed (test (patterns (now (x .v))) (x .b))) (le-antisymm (i .inv .0) (c .loop-test .left))
+
+pub map-byte-spec : {M : Type 1} → statement M
+map-byte-spec =
+    tie.close
+    (tie.spec
+    Inv-loop
+    μ-loop
+    loop-holds
+    (λ c. omega arith)
+    (λ c. omega arith)
+    (λ c κs. tt)
+    add-byte
+    mul-weight
+    (λ c. omega arith)
+    (λ c. omega arith)
+    loop-again
+    cast-result
+    returns)

@@ -1,0 +1,107 @@
+-- `write_list` meets its contract: the questions, the two bytes of count and dimension, and the tracks.
+use mathlib.Core.Path.{_≡_, sym, ap, _∙_}
+use Prim.Native.Nat.{ℕ, _+_, _*_, _≤_}
+use native.Mathlib.Omega.{arith}
+use mathlib.Core.List.{List, _∷_}
+use borrow.Author.Tests.{leb-true}
+use denote.Ref.{now}
+use lib.ListN.{length, length-set}
+use Rattle.kernel.specs.Answer.{Outcome, answered}
+use Rattle.tracks.specs.Layout.{fields}
+use Rattle.tracks.specs.Write.{listOf, recordsOf, tracksOf, written}
+use Rattle.tracks.specs.Calls.{patterns, writeAnswer, writeBytes}
+use Rattle.kernel.specs.Lists.{over}
+use Rattle.tracks.specs.declared.write.WrittenList.the-variants as WrittenList
+use Rattle.tracks.proofs.Accepted.{dimension-small}
+use Rattle.tracks.proofs.Lists.{over-two}
+use Rattle.kernel.proofs.Lists.{length-tabulate}
+use Rattle.tracks.proofs.Written.{Listed, written-met, write-accepted, write-refused, length-patterns}
+use borrow.Author.Needs.{needs}
+use Rattle.tracks.proofs.write.write_list.Statement.{statement}
+use Rattle.tracks.proofs.write.write_list.Tie as tie
+
+-- what the answer of `check_write` says
+accepted : (c : tie.After-known-told) → let x = c .before .before .before .before .before .before .args in
+    (l : List ℕ) × (written (x .n) (x .d) (patterns (now (x .values))) (length (now (x .out))) ≡ answered l) × (c .before .c .given .0 .0 ≡ length l)
+accepted c = write-accepted _ (sym (c .before .before .before .check-write .ensures) ∙ c .before .c .given .1)
+
+listed : (c : tie.After-known-told) → let x = c .before .before .before .before .before .before .args in Listed (x .n) (x .d) (patterns (now (x .values))) (length (now (x .out))) (accepted c .0)
+listed c = let x = c .before .before .before .before .before .before .args in written-met (x .n) (x .d) (patterns (now (x .values))) (length (now (x .out))) (accepted c .1)
+
+small : (c : tie.After-known-told) → let x = c .before .before .before .before .before .before .args in (x .n ≤ 32) × (x .d ≤ 9)
+small c = let x = c .before .before .before .before .before .before .args in (leb-true (x .n) 32 (listed c .few), dimension-small (x .d) (listed c .sized))
+
+-- the list is the two bytes and the records
+shape : (c : tie.After-known-told) → let x = c .before .before .before .before .before .before .args in accepted c .0 ≡ x .n ∷ x .d ∷ recordsOf (tracksOf (x .n) (fields (x .d)) (patterns (now (x .values))))
+unfolding listOf tracksOf
+shape c =
+    let x = c .before .before .before .before .before .before .args in
+    let ts = tracksOf (x .n) (fields (x .d)) (patterns (now (x .values))) in
+    listed c .same ∙ ap (λ (k : ℕ). k ∷ x .d ∷ recordsOf ts) (length-tabulate (x .n) _)
+
+room : (c : tie.After-known-told) → let x = c .before .before .before .before .before .before .args in 2 + length (recordsOf (tracksOf (x .n) (fields (x .d)) (patterns (now (x .values))))) ≤ length (now (x .out))
+room c = omega (arith, listed c .fits, ap length (shape c))
+
+cast-out : tie.Need-cast-out
+cast-out c = omega (arith, small c)
+
+slice-write-out : tie.Need-slice-write-out
+slice-write-out c = omega (arith, room c)
+
+cast-out-2 : tie.Need-cast-out-2
+cast-out-2 c = omega (arith, small c)
+
+slice-write-out-2 : tie.Need-slice-write-out-2
+slice-write-out-2 c = simp length-set (omega (arith, room c))
+
+fields-requires : tie.Need-fields-requires
+fields-requires c κs = small c .1
+
+write-tracks-requires : tie.Need-write-tracks-requires
+write-tracks-requires c κs =
+    let t = c .before .before in
+    let x = t .before .before .before .before .before .before .args in
+    let p = patterns (now (x .values)) in
+    let f = c .before .fields .ensures .0 in (
+      omega arith,
+      small t .0,
+      omega (arith, length-patterns (now (x .values)), listed t .long, ap (λ (k : ℕ). x .n * k) f),
+      simp length-set (omega (arith, room t, ap (λ (k : ℕ). length (recordsOf (tracksOf (x .n) k p))) f)),
+    )
+
+same-length : tie.Need-same-length
+same-length c = c .before .before .write-tracks .kept .1 .1 .1 .0 ∙ simp length-set
+
+returns : tie.Need-returns
+returns c =
+    let t = c .before .before .before .before .before in
+    let x = t .before .before .before .before .before .before .args in
+    let a = accepted t in
+    let rs : ℕ → List ℕ = λ f. recordsOf (tracksOf (x .n) f (patterns (now (x .values)))) in (
+      ap WrittenList.Length (a .2) ∙ sym (ap writeAnswer (a .1)),
+      c .before .before .write-tracks .ensures .1 ∙ over-two (now (x .out)) (x .n) (x .d) (rs (c .before .before .before .before .fields .result)) (omega (arith, room t))
+          ∙ ap (over (now (x .out)) 0) (ap (λ (f : ℕ). x .n ∷ x .d ∷ rs f) (c .before .before .before .before .fields .ensures .0) ∙ sym (shape t)) ∙ sym (ap (λ (o : Outcome (List ℕ)). writeBytes o (now (x .out))) (a .1)),
+    )
+
+returns-2 : tie.Need-returns-2
+returns-2 c =
+    let x = c .before .before .before .before .before .before .args in
+    let e = write-refused (written (x .n) (x .d) (patterns (now (x .values))) (length (now (x .out)))) (sym (c .before .before .before .check-write .ensures) ∙ c .before .c2 .given .1) in
+    (sym (ap writeAnswer e), sym (ap (λ (o : Outcome (List ℕ)). writeBytes o (now (x .out))) e))
+
+pub write-list-spec : {M : Type 1} → statement M
+write-list-spec =
+    tie.close
+    (tie.spec
+    (λ c κs. search needs)
+    (λ c. search needs)
+    cast-out
+    slice-write-out
+    cast-out-2
+    slice-write-out-2
+    fields-requires
+    write-tracks-requires
+    (λ c. search needs)
+    same-length
+    returns
+    returns-2)

@@ -1,0 +1,43 @@
+-- The words of the private functions' contracts: no caller needs them.
+use Prim.Native.Nat.{ℕ, _+_, _≤_}
+use mathlib.Core.Path.{_≡_}
+use mathlib.Core.List.{List}
+use lib.ListN.{length}
+use lib.Ieee.{Float}
+use Rattle.kernel.specs.Answer.{Outcome, refused, answered}
+use Rattle.kernel.specs.Lists.{over}
+use Rattle.tracks.specs.Read.{Item}
+use Rattle.tracks.specs.Calls.{doubles}
+use Rattle.tracks.specs.declared.read.Checked.{Checked}
+use Rattle.tracks.specs.declared.read.Checked.the-variants.{End, Refused}
+
+-- Where an item ends, or the number of the question that it does not meet.
+abbrev pub ends : {A : Type 0} → Outcome (Item A) → Checked
+ends (refused q) = Refused q
+ends (answered x) = End (x .next)
+
+-- Where the next item ends, after items that end; a refusal stays as it is.
+abbrev pub continued : Checked → (ℕ → Checked) → Checked
+continued (End at) next = next at
+continued (Refused q) next = Refused q
+
+-- Where items end; 0 where they are refused.
+abbrev pub checkedEnd : Checked → ℕ
+checkedEnd (End at) = at
+checkedEnd (Refused q) = 0
+
+-- That items end within a list.
+abbrev pub Within : List ℕ → Checked → Type 0
+Within l c = (at : ℕ) → c ≡ End at → at ≤ length l
+
+-- That nothing is refused.
+abbrev pub Accepted : {A : Type 0} → Outcome A → Type 0
+Accepted {A} o = (x : A) × (o ≡ answered x)
+
+-- That an item's values are left in a slice from an index on, and the offset after the item is given.
+abbrev pub Puts : {A : Type 0} → (A → List ℕ) → Outcome (Item A) → List Float → ℕ → ℕ → List Float → Type 0
+Puts {A} fieldsOf o old i next new = (x : Item A) → o ≡ answered x → (next ≡ x .next) × (new ≡ over old i (doubles (fieldsOf (x .value))))
+
+-- That bytes are left in a buffer from an offset on, and the offset after them is given.
+abbrev pub Writes : List ℕ → List ℕ → ℕ → ℕ → List ℕ → Type 0
+Writes bytes old at next new = (next ≡ at + length bytes) × (new ≡ over old at bytes)

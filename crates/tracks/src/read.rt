@@ -1,0 +1,200 @@
+// Reading a list. Every question is put before anything is written.
+ghost use mathlib.Core.Path.{_≡_};
+ghost use Prim.Native.Nat.{_+_, _*_, _/_, _<_, _≤_};
+ghost use mathlib.Core.List.{[], _∷_};
+ghost use lib.ListN.{length};
+ghost use Rattle.tracks.specs.Layout.{mapBytes};
+ghost use Rattle.tracks.specs.Read.{stored, field, items, track, tracks, contents, reading};
+ghost use Rattle.tracks.specs.Calls.{joined, readAnswer, readValues};
+ghost use Rattle.tracks.specs.Steps.{ends, continued, Within, Accepted, Puts};
+use crate::layout;
+use kernel::bytes;
+use kernel::question;
+
+// Where an item of a list ends, or the number of the first question that it does not meet.
+pub(crate) enum Checked {
+    End(usize),
+    Refused(u8),
+}
+
+// The answer to a list that is read.
+pub enum ReadList {
+    Read { count: usize, dimension: usize },
+    Refused(u8),
+}
+
+// Questions 12, 14 and 15 for the field stored at an offset.
+fn check_stored(list: &[u8], at: usize) -> Checked
+    requires { ⌜ at ≤ length (now list) ⌝ }
+    ensures { λ r. ⌜ r ≡ ends (stored (now (list .entry)) at) ⌝ }
+{
+    if list.len() - at < 8 {
+        return Checked::Refused(question::PRESENT);
+    }
+    let bits = bytes::word(list, at);
+    if !layout::finite(bits) {
+        return Checked::Refused(question::FINITE_FIELD);
+    }
+    if bits == 0 {
+        return Checked::Refused(question::NONZERO_FIELD);
+    }
+    Checked::End(at + 8)
+}
+
+// Where field k of the track whose map is at an offset ends.
+fn check_field(list: &[u8], map: usize, k: usize, at: usize) -> Checked
+    requires { ⌜ (map + k / 8 < length (now list)) × (at ≤ length (now list)) ⌝ }
+    ensures { λ r. ⌜ r ≡ ends (field (now (list .entry)) map k at) ⌝ }
+{
+    if layout::stands(list, map, k) {
+        return check_stored(list, at);
+    }
+    Checked::End(at)
+}
+
+// The questions of the f fields of the track whose map is at an offset. It stops at the first that is refused: a loop that
+// carries the refusal along, as that over tracks does, takes half as long again for a whole list.
+fn check_fields(list: &[u8], f: usize, map: usize) -> Checked
+    requires { ⌜ (f ≤ 64) × (map + mapBytes f ≤ length (now list)) ⌝ }
+    ensures { λ r. ⌜ r ≡ ends (items (field (now (list .entry)) map) (map + mapBytes f) f) ⌝ }
+{
+    let mut at = map + (f + 7) / 8;
+    for k in 0..f {
+        let c = check_field(list, map, k, at);
+        match c {
+            Checked::End(next) => {
+                at = next;
+            }
+            Checked::Refused(q) => {
+                return Checked::Refused(q);
+            }
+        }
+    }
+    Checked::End(at)
+}
+
+// The questions of the track of f fields at an offset.
+pub(crate) fn check_track(list: &[u8], f: usize, at: usize) -> Checked
+    requires { ⌜ (f ≤ 64) × (at ≤ length (now list)) ⌝ }
+    ensures { λ r. ⌜ r ≡ ends (track (now (list .entry)) f at) ⌝ }
+{
+    if list.len() - at < (f + 7) / 8 {
+        return Checked::Refused(question::PRESENT);
+    }
+    if !layout::spare_clear(list, f, at) {
+        return Checked::Refused(question::SPARE_BITS);
+    }
+    check_fields(list, f, at)
+}
+
+// Where a track ends after the tracks before it, unless one of those is refused.
+pub(crate) fn next_track(list: &[u8], f: usize, c: Checked) -> Checked
+    requires { ⌜ (f ≤ 64) × Within (now list) c ⌝ }
+    ensures { λ r. ⌜ r ≡ continued c (λ at. ends (track (now (list .entry)) f at)) ⌝ }
+{
+    match c {
+        Checked::End(at) => check_track(list, f, at),
+        Checked::Refused(q) => Checked::Refused(q),
+    }
+}
+
+// The questions of the first n tracks of f fields.
+fn check_tracks(list: &[u8], f: usize, n: usize) -> Checked
+    requires { ⌜ (f ≤ 64) × (2 ≤ length (now list)) ⌝ }
+    ensures { λ r. ⌜ r ≡ ends (tracks (now (list .entry)) f n) ⌝ }
+{
+    let mut c = Checked::End(2);
+    for _ in 0..n {
+        c = next_track(list, f, c);
+    }
+    c
+}
+
+// The questions of a list, but for the room for its values.
+pub(crate) fn check_list(list: &[u8]) -> ReadList
+    ensures { λ r. ⌜ r ≡ readAnswer (contents (now (list .entry))) ⌝ }
+{
+    if list.len() < 2 {
+        return ReadList::Refused(question::HEADER);
+    }
+    let n = list[0] as usize;
+    let d = list[1] as usize;
+    if !layout::count_met(n) {
+        return ReadList::Refused(question::COUNT);
+    }
+    if !layout::dimension_met(d) {
+        return ReadList::Refused(question::DIMENSION);
+    }
+    let c = check_tracks(list, layout::fields(d), n);
+    match c {
+        Checked::End(end) => {
+            if end == list.len() {
+                ReadList::Read {
+                    count: n,
+                    dimension: d,
+                }
+            } else {
+                ReadList::Refused(question::NOTHING_AFTER)
+            }
+        }
+        Checked::Refused(q) => ReadList::Refused(q),
+    }
+}
+
+// Stores field k of an accepted track at an index of the values, and gives the offset after the field.
+fn put_field(list: &[u8], map: usize, k: usize, at: usize, values: &mut [f64], i: usize) -> usize
+    requires { ⌜ (map + k / 8 < length (now list)) × (i < length (now values)) × Accepted (field (now list) map k at) ⌝ }
+    ensures { λ r. ⌜ Puts (λ x. x ∷ []) (field (now (list .entry)) map k at) (now (values .entry)) i r (now (values .exit)) ⌝ }
+{
+    if layout::stands(list, map, k) {
+        values[i] = f64::from_bits(bytes::word(list, at));
+        return at + 8;
+    }
+    values[i] = 0.0;
+    at
+}
+
+// Stores the f fields of an accepted track from an index of the values on, and gives the offset after the track.
+fn put_track(list: &[u8], f: usize, map: usize, values: &mut [f64], i: usize) -> usize
+    requires { ⌜ (f ≤ 64) × (i + f ≤ length (now values)) × Accepted (track (now list) f map) ⌝ }
+    ensures { λ r. ⌜ Puts (λ v. v) (track (now (list .entry)) f map) (now (values .entry)) i r (now (values .exit)) ⌝ }
+{
+    let mut at = map + (f + 7) / 8;
+    for k in 0..f {
+        at = put_field(list, map, k, at, values, i + k);
+    }
+    at
+}
+
+// Stores the fields of the first n tracks.
+fn put_tracks(list: &[u8], f: usize, n: usize, values: &mut [f64]) -> usize
+    requires { ⌜ (f ≤ 64) × (n ≤ 32) × (n * f ≤ length (now values)) × Accepted (tracks (now list) f n) ⌝ }
+    ensures { λ r. ⌜ Puts joined (tracks (now (list .entry)) f n) (now (values .entry)) 0 r (now (values .exit)) ⌝ }
+{
+    let mut at = 2;
+    let mut i = 0;
+    for _ in 0..n {
+        at = put_track(list, f, at, values, i);
+        i += f;
+    }
+    at
+}
+
+// Reads a list: its tracks' fields go to the front of the values, in their order.
+pub fn read_list(list: &[u8], values: &mut [f64]) -> ReadList
+    ensures { λ r. ⌜ r ≡ readAnswer (reading (now (list .entry)) (length (now (values .entry)))) ⌝ }
+    ensures { λ _. ⌜ now (values .exit) ≡ readValues (reading (now (list .entry)) (length (now (values .entry)))) (now (values .entry)) ⌝ }
+{
+    let c = check_list(list);
+    match c {
+        ReadList::Read { count, dimension } => {
+            let f = layout::fields(dimension);
+            if values.len() < count * f {
+                return ReadList::Refused(question::LENGTH);
+            }
+            put_tracks(list, f, count, values);
+            ReadList::Read { count, dimension }
+        }
+        ReadList::Refused(q) => ReadList::Refused(q),
+    }
+}
