@@ -12,53 +12,8 @@ Inv-loop s cases₀ differences₀ at₀ n₀ cases differences at n = n + at �
 abbrev μ-loop : tie.MeasureT-loop
 μ-loop s cases₀ differences₀ at₀ n₀ cases differences at n = length s - at
 
-size-requires : tie.Need-size-requires Inv-loop μ-loop
-size-requires c κs = search needs
-
-loop-holds : tie.Need-loop-holds Inv-loop μ-loop
-loop-holds c = search needs
-
-sub-replay-record : tie.Need-sub-replay-record Inv-loop μ-loop
-sub-replay-record c = search needs
-
-part-replay-record-start : tie.Need-part-replay-record-start Inv-loop μ-loop
-part-replay-record-start c = search needs
-
-part-replay-record-end : tie.Need-part-replay-record-end Inv-loop μ-loop
-part-replay-record-end c = search needs
-
-replay-record-requires : tie.Need-replay-record-requires Inv-loop μ-loop
-replay-record-requires c κs = search needs
-
-add-at : tie.Need-add-at Inv-loop μ-loop
-add-at c = search needs
-
-size-requires-2 : tie.Need-size-requires-2 Inv-loop μ-loop
-size-requires-2 c κs = search needs
-
-loop-less : tie.Need-loop-less Inv-loop μ-loop
-loop-less c = search needs
-
-loop-again : tie.Need-loop-again Inv-loop μ-loop
-loop-again c = search needs
-
-returns : tie.Need-returns Inv-loop μ-loop
-returns c = search needs
-
 pub replay-block-spec : {M : Type 1} → statement M
 replay-block-spec =
     tie.close
-    (tie.spec
-    Inv-loop
-    μ-loop
-    size-requires
-    loop-holds
-    sub-replay-record
-    part-replay-record-start
-    part-replay-record-end
-    replay-record-requires
-    add-at
-    size-requires-2
-    loop-less
-    loop-again
-    returns)
+    (tie.spec Inv-loop μ-loop (λ c κs. search needs) (λ c. search needs) (λ c. search needs) (λ c. search needs) (λ c. search needs) (λ c κs. search needs)
+    (λ c. search needs) (λ c κs. search needs) (λ c. search needs) (λ c. search needs) (λ c. search needs))

@@ -50,7 +50,9 @@ returns c = let x = c .before .args .x in of-negative x (subst T (sym (c .if1 .t
 
 returns-2 : tie.Need-returns-2
 unfolding ofBits
-returns-2 c = let x = c .before .before .args .x in of-zero x (subst T (sym (c .before .before .good .0 .1)) tt) (subst T (sym (c .if2 .taken) ∙ equals-zero x) tt)
+returns-2 c =
+    let start = c .before .before in
+    let x = start .args .x in of-zero x (subst T (sym (start .good .0 .1)) tt) (subst T (sym (c .if2 .taken) ∙ equals-zero x) tt)
 
 returns-3 : tie.Need-returns-3
 unfolding ofBits

@@ -27,7 +27,8 @@ loop-again c =
 
 returns : tie.Need-returns Inv-loop μ-loop
 returns c =
-    let at-loop = c .before .before in
+    let at-loop-place = c .before .before in
+    let at-loop = at-loop-place in
     let l = at-loop .loop in (
       c .pattern .ensures .root _ (subnormal-argument (at-loop .before .args .b) (l .m) (l .shift) (at-loop .before .pre .1) (l .inv .2) (l .inv .0) (c .before .loop-test .left)),
       c .pattern .ensures .finite,
