@@ -60,7 +60,8 @@ module _ {M : Type 1} (𝓤 : URA M) (H : Heap 𝓤) (A : Atoms 𝓤) (W : Given
   apart pre asked fits =
       qed W ((‵ (flft κ q) ⊛ ‵ ftrue) ∷ ‵ (owns (B (κ, tt) ∷ []) (d, tt) (mach d ∷ [], tt)) ∷ []) ∵
       move ! (1 ∷ []) $ fsplit ! $ move ! (1 ∷ []) $ drop ! $ use1 W (‵ (Own κ d) ⊛ ‵ (Own κ d)) (LL.copy (D κ) (T′.the-copy (namedLft 1 0 tt (κ, tt))) 𝓤 H A W .twice d (mach d ∷ [])) $ split ! $
-      use1 W (given (mach d ∷ [] ≡ mach d ∷ []) (‵ (all-own (D κ .parts) (L κ) (vd κ d)))) (own-open 𝓤 H A W (D κ) (L κ) (vd κ d) (mach d)) $ learn ! (λ _. use1 W (‵ (ownAt (D κ .parts) (L κ) 0 (d .list)) ⊛ ‵ (rest (D κ .parts) (L κ) 0 (vd κ d))) (own-out 𝓤 H A W (D κ .parts) (L κ) 0 (vd κ d)) $ split ! $
+      use1 W (given (mach d ∷ [] ≡ mach d ∷ []) (‵ (all-own (D κ .parts) (L κ) (vd κ d)))) (own-open 𝓤 H A W (D κ) (L κ) (vd κ d) (mach d)) $
+      learn ! (λ _. use1 W (‵ (ownAt (D κ .parts) (L κ) 0 (d .list)) ⊛ ‵ (rest (D κ .parts) (L κ) 0 (vd κ d))) (own-out 𝓤 H A W (D κ .parts) (L κ) 0 (vd κ d)) $ split ! $
       -- [what the list owns; what the offset owns; what the reader owns; the token]
       move ! (1 ∷ []) $ drop ! $ nothing ! $ owned ! usize (Is usize) (uint-makes 𝓤 H A W w64) (d .at) _ (refl, fits) $ fjoin ! $ move ! (1 ∷ 0 ∷ []) $ fjoin ! $
       move ! (2 ∷ 0 ∷ []) $ use2 W (raw pre) asked $ frame ! $ done !)

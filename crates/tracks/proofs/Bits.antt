@@ -1,4 +1,5 @@
--- Laws of a byte and its bits, both ways, and of tests that all fail.
+-- Laws of a byte and its bits, and of tests that all fail. `byte-packed` and `packed-bit` lead from a byte to its bits and back, `none-each` and `none-all`
+-- from no test to each.
 use Prim.Native.Nat.{ℕ, zero, suc, _+_, _-_, _*_, _/_, _%_, _^_, _<_, _≤_}
 use native.Mathlib.Omega.{arith}
 use native.Mathlib.Numerals.{add-one}
@@ -62,7 +63,9 @@ packed-same s t (suc n) h = rw (packed-same s t n (λ i l. h i (omega arith)), h
 above : (p c i m : ℕ) → (p + c * 2 ^ (i + suc m)) / 2 ^ i % 2 ≡ p / 2 ^ i % 2
 above p c i m =
     let e : c * 2 ^ (i + suc m) ≡ c * 2 ^ m * 2 * 2 ^ i =
-    ap (λ (k : ℕ). c * k) (pow-add 2 i (suc m) ∙ mul-comm (2 ^ i) (2 ^ suc m) ∙ ap (λ (k : ℕ). k * 2 ^ i) (pow-suc 2 m)) ∙ sym (mul-assoc c (2 ^ m * 2) (2 ^ i)) ∙ ap (λ (k : ℕ). k * 2 ^ i) (sym (mul-assoc c (2 ^ m) 2)) in
+    ap (λ (k : ℕ). c * k) (pow-add 2 i (suc m) ∙ mul-comm (2 ^ i) (2 ^ suc m) ∙ ap (λ (k : ℕ). k * 2 ^ i) (pow-suc 2 m))
+    ∙ sym (mul-assoc c (2 ^ m * 2) (2 ^ i))
+    ∙ ap (λ (k : ℕ). k * 2 ^ i) (sym (mul-assoc c (2 ^ m) 2)) in
     let d : (p + c * 2 ^ m * 2 * 2 ^ i) / 2 ^ i ≡ p / 2 ^ i + c * 2 ^ m * 2 = add-mul-div-right p (c * 2 ^ m * 2) (pow-pos i) in
     ap (λ (k : ℕ). (p + k) / 2 ^ i % 2) e ∙ ap (λ (k : ℕ). k % 2) d ∙ even (p / 2 ^ i) (c * 2 ^ m)
   where
@@ -83,7 +86,9 @@ packed-bit test n i h = bit-back (test i) (packed test n / 2 ^ i) (by n h)
         ap (λ (k : ℕ). (packed test n + k) / 2 ^ i % 2) (weighed (test n) (2 ^ n))
         ∙ ⊎-elim
         (λ (e : i ≡ n). ap (λ (k : ℕ). (packed test n + bit (test n) * 2 ^ n) / 2 ^ k % 2) e ∙ last (packed test n) (test n) n (packed-lt test n) ∙ ap (λ (k : ℕ). bit (test k)) (sym e))
-        (λ (l : i < n). let m : i + suc (n - suc i) ≡ n = omega arith in ap (λ (k : ℕ). (packed test n + bit (test n) * 2 ^ k) / 2 ^ i % 2) (sym m) ∙ above (packed test n) (bit (test n)) i (n - suc i) ∙ by n l)
+        (λ (l : i < n).
+        let m : i + suc (n - suc i) ≡ n = omega arith in
+        ap (λ (k : ℕ). (packed test n + bit (test n) * 2 ^ k) / 2 ^ i % 2) (sym m) ∙ above (packed test n) (bit (test n)) i (n - suc i) ∙ by n l)
         (eq-or-lt-of-le (le-of-suc-le-suc h))
 
 -- ---- tests that all fail

@@ -1,4 +1,5 @@
--- Laws of items that are read one after another: each step of a loop over them, its way out, and what an accepted run says of its steps.
+-- Laws of items that are read one after another. `ends-next` is the step of a loop that checks them, `items-more` and `items-at` that of a loop that takes
+-- them; `items-ind` says what holds of an accepted run, `items-back` and `items-get` what its items were.
 use Prim.Native.Nat.{ℕ, zero, suc, _+_, _-_, _<_}
 use native.Mathlib.Omega.{arith}
 use native.Mathlib.Nat.{add-zero, add-suc, eq-or-lt-of-le}
@@ -70,16 +71,20 @@ module _ {A : Type 0} (read : ℕ → ℕ → Outcome (Item A)) (start : ℕ) wh
       let a = ended (items read start k) at p in
       rw (items-stop k n q (a .0) h (a .1) (ap (read k) (a .2) ∙ stopped (read k at) q r)) refl
 
-  -- an accepted run: what was read before item k, and item k
+  -- what was read before item k, and item k
+  abbrev Back : ℕ → Type 0
+  Back k = (xs : Item (List A)) × (x : Item A) × (items read start k ≡ answered xs) × (read k (xs .next) ≡ answered x)
+
+  -- an accepted run has them
   pub items-back : (k n : ℕ) (ys : Item (List A)) → k < n → items read start n ≡ answered ys
-      → (xs : Item (List A)) × (x : Item A) × (items read start k ≡ answered xs) × (read k (xs .next) ≡ answered x)
+      → Back k
   items-back k n ys h e = split (items read start k) refl
     where
-      one : (xs : Item (List A)) (o : Outcome (Item A)) → items read start k ≡ answered xs → read k (xs .next) ≡ o → (xs : Item (List A)) × (x : Item A) × (items read start k ≡ answered xs) × (read k (xs .next) ≡ answered x)
+      one : (xs : Item (List A)) (o : Outcome (Item A)) → items read start k ≡ answered xs → read k (xs .next) ≡ o → Back k
       one xs (answered x) p q = (xs, x, p, q)
       one xs (refused r) p q = never-both (sym e ∙ items-stop k n r xs h p q)
 
-      split : (o : Outcome (Item (List A))) → items read start k ≡ o → (xs : Item (List A)) × (x : Item A) × (items read start k ≡ answered xs) × (read k (xs .next) ≡ answered x)
+      split : (o : Outcome (Item (List A))) → items read start k ≡ o → Back k
       split (answered xs) p = one xs (read k (xs .next)) p refl
       split (refused r) p =
           let m : k + (n - k) ≡ n = omega arith in
@@ -126,5 +131,6 @@ module _ {A : Type 0} (read : ℕ → ℕ → Outcome (Item A)) (start : ℕ) wh
             (eq-or-lt-of-le (omega arith)),
       ))
 
-  pub items-get : (d : A) (n : ℕ) (ys : Item (List A)) → items read start n ≡ answered ys → (j : ℕ) → j < n → (xs : Item (List A)) (x : Item A) → items read start j ≡ answered xs → read j (xs .next) ≡ answered x → getD (ys .value) j d ≡ x .value
+  pub items-get : (d : A) (n : ℕ) (ys : Item (List A)) → items read start n ≡ answered ys → (j : ℕ) → j < n
+      → (xs : Item (List A)) (x : Item A) → items read start j ≡ answered xs → read j (xs .next) ≡ answered x → getD (ys .value) j d ≡ x .value
   items-get d n ys e = run d n ys e .1

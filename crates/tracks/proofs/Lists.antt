@@ -1,4 +1,5 @@
--- Laws of lists one after another, of lists made by a rule, and of their places.
+-- Laws of lists one after another and of their places: `flatMap-more` and `joined-more` for one list more, `row` and `row-next` for its place, `over-two`
+-- for two elements in front.
 use Prim.Native.Nat.{ℕ, zero, suc, _+_, _-_, _*_, _<_, _≤_}
 use native.Mathlib.Omega.{arith}
 use native.Mathlib.Nat.{mul-le-mul-right, suc-mul, le-of-suc-le-suc, add-zero, le-refl}
@@ -51,7 +52,14 @@ flatMap-part g h j n le = let e : j + (n - j) ≡ n = omega arith in subst (λ (
     grows zero = rw add-zero (le-refl _)
     grows (suc i) =
         let e : j + suc i ≡ j + i + 1 = omega arith in
-        omega (arith, grows i, ap (λ (k : ℕ). length (flatMap g (tabulate k h))) e, ap (λ u. length (flatMap g u)) (tabulate-more (j + i) h), ap length (flatMap-more g (tabulate (j + i) h) (h (j + i))), length-append (flatMap g (tabulate (j + i) h)) (g (h (j + i))))
+        omega (
+          arith,
+          grows i,
+          ap (λ (k : ℕ). length (flatMap g (tabulate k h))) e,
+          ap (λ u. length (flatMap g u)) (tabulate-more (j + i) h),
+          ap length (flatMap-more g (tabulate (j + i) h) (h (j + i))),
+          length-append (flatMap g (tabulate (j + i) h)) (g (h (j + i))),
+        )
 
 pub map-take : {A B : Type 0} (g : A → B) (n : ℕ) (l : List A) → map g (take n l) ≡ take n (map g l)
 map-take g zero l = refl

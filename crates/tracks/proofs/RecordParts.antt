@@ -1,5 +1,6 @@
--- The parts that are handed out: at the offsets of an accepted list's tracks they are the tracks' records, in order the list without its first two
--- bytes, and two of them are equal exactly if the tracks' fields are.
+-- The parts that are handed out. `record-part` and `record-fields`: at a track's offset the part is the track's record, up to the next offset.
+-- `records-in-order`: in order they are the list without its first two bytes. `offsets-stored`: what `track_offsets` leaves. `record-nowhere`: elsewhere
+-- the part is empty. `reader-start` to `reader-ends`: a reader goes through them. `equal-records`: equal parts have equal fields.
 use Prim.Native.Nat.{ℕ, zero, suc, _+_, _-_, _<_, _≤_}
 use native.Mathlib.Omega.{arith}
 use native.Mathlib.Nat.{add-zero}
@@ -68,7 +69,7 @@ module _ (l : List ℕ) (h : Bytes l) (c : TrackList) (ok : contents l ≡ answe
   step : (j : ℕ) → j < n → Step j
   unfolding tracks
   step j lt =
-      let b = items-back (λ _. track l f) 2 j (n) _ lt (whole .read) in
+      let b = items-back (λ _. track l f) 2 j n _ lt (whole .read) in
       let m : tracks l f (suc j) ≡ answered (push (b .0) (b .1)) = ap (tracks l f) (sym (add-one j)) ∙ items-more (λ _. track l f) 2 j (b .0) (b .1) (b .2) (b .3) in
       record { before = b .0; here = b .1; so-far = b .2; read = ap (track l f) (offset-is j (b .0) (b .2)) ∙ b .3; next = sym (offset-is (suc j) (push (b .0) (b .1)) m); more = m }
 
@@ -110,7 +111,7 @@ module _ (l : List ℕ) (h : Bytes l) (c : TrackList) (ok : contents l ≡ answe
       let z : 0 + j ≡ j = omega arith in
       let w = subst (λ (k : ℕ). recordEnd l f (offset l k) (offset l 0) (suc (j + (n - suc j))) ≡ offset l (suc k)) z (walk j 0 (n - suc j) (omega arith)) in
       ap (recordIn l (offset l j)) ok
-      ∙ ap (part l (offset l j)) (ap (λ (k : ℕ). recordEnd l f (offset l j) k (n)) (sym reader-start) ∙ ap (recordEnd l f (offset l j) (offset l 0)) (sym e) ∙ w)
+      ∙ ap (part l (offset l j)) (ap (λ (k : ℕ). recordEnd l f (offset l j) k n) (sym reader-start) ∙ ap (recordEnd l f (offset l j) (offset l 0)) (sym e) ∙ w)
 
   -- The last track ends where the list ends.
   pub offset-last : offset l n ≡ length l
@@ -133,7 +134,7 @@ module _ (l : List ℕ) (h : Bytes l) (c : TrackList) (ok : contents l ≡ answe
       let s = step j lt in
       let b = track-read l f (offset l j) h (s .here) (s .read) .bytes in
       let v : getD (c .tracks) j [] ≡ s .here .value =
-      items-get (λ _. track l f) 2 [] (n) _ (whole .read) j lt (s .before) (s .here) (s .so-far) (ap (track l f) (sym (offset-is j (s .before) (s .so-far))) ∙ s .read) in
+      items-get (λ _. track l f) 2 [] n _ (whole .read) j lt (s .before) (s .here) (s .so-far) (ap (track l f) (sym (offset-is j (s .before) (s .so-far))) ∙ s .read) in
       record-part j lt ∙ ap (part l (offset l j)) (sym (s .next)) ∙ b .bytes ∙ ap recordOf (sym v)
 
   -- The parts at the offsets, in order, are the list without its two header bytes.
@@ -156,7 +157,10 @@ module _ (l : List ℕ) (h : Bytes l) (c : TrackList) (ok : contents l ≡ answe
   pub record-nowhere : (at : ℕ) → ((j : ℕ) → j < n → offset l j ≡ at → ⊥) → recordAt l at ≡ []
   unfolding recordAt recordEnd
   record-nowhere at away =
-      ap (recordIn l at) ok ∙ ap (part l at) (ap (λ (k : ℕ). recordEnd l f at k (n)) (sym reader-start) ∙ none (n) 0 (omega arith)) ∙ (let z : 0 - at ≡ 0 = omega arith in ap (λ (k : ℕ). take k (drop at l)) z)
+      let z : 0 - at ≡ 0 = omega arith in
+      ap (recordIn l at) ok
+      ∙ ap (part l at) (ap (λ (k : ℕ). recordEnd l f at k n) (sym reader-start) ∙ none n 0 (omega arith))
+      ∙ ap (λ (k : ℕ). take k (drop at l)) z
     where
       none : (m i : ℕ) → i + m ≡ n → recordEnd l f at (offset l i) m ≡ 0
       none zero i e = refl
@@ -177,10 +181,10 @@ module _ (l : List ℕ) (h : Bytes l) (c : TrackList) (ok : contents l ≡ answe
   unfolding atEnd
   reader-more j lt = ne-eqb (length (recordAt l (offset l j))) 0 (λ z. (let p = part-length j lt in let r = rises j lt in omega (arith, z, p, r)))
 
-  pub reader-ends : atEnd l (offset l (n)) ≡ true
+  pub reader-ends : atEnd l (offset l n) ≡ true
   unfolding atEnd
   reader-ends =
-      ap (λ (p : List ℕ). eqb (length p) 0) (record-nowhere (offset l (n)) (λ j lt e.
+      ap (λ (p : List ℕ). eqb (length p) 0) (record-nowhere (offset l n) (λ j lt e.
       let m : suc (j + (n - suc j)) ≡ n = omega arith in
       let r = later j (n - suc j) (omega arith) in
       omega (arith, e, r, ap (offset l) m)))

@@ -1,4 +1,5 @@
--- Laws of the records that a list is walked through.
+-- Laws of the records that a list is walked through. `end-here`, `end-later` and `end-refused` are the steps of the walk, `placing-fits` and its neighbours
+-- say what question 2 decides on offsets, `same-equal` and `same-refl` that the same bytes are equal lists.
 use Prim.Native.Nat.{ℕ, suc, _+_, _-_, _<_, _≤_}
 use native.Mathlib.Omega.{arith}
 use mathlib.Core.Path.{_≡_, refl, ap}

@@ -1,4 +1,5 @@
--- The return trip, both ways: what is read is written as the same bytes, and what is written is read as the same values.
+-- The return trip, both ways. `accepted-list`: an accepted list is the list of its tracks. `list-accepted`: the list of tracks is accepted. Of values,
+-- `read-then-written`: what is read is written as the same bytes, and `written-then-read`: what is written is read as the same values.
 use Prim.Native.Nat.{ℕ, zero, suc, _+_, _-_, _*_, _<_, _≤_}
 use native.Mathlib.Omega.{arith}
 use native.Mathlib.Nat.{eq-or-lt-of-le, zero-mul, suc-mul}

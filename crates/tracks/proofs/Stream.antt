@@ -1,4 +1,5 @@
--- Laws of items that stand one after another in a list of bytes: reading them gives back what their bytes were made of, and the other way round.
+-- Laws of items that stand one after another in a list of bytes. `read-bytes`: accepted items are the bytes that they are read from. `bytes-read`: the bytes
+-- of items are read as those items.
 use Prim.Native.Nat.{ℕ, zero, suc, _+_, _-_, _<_, _≤_}
 use native.Mathlib.Omega.{arith}
 use native.Mathlib.Nat.{add-zero}
@@ -18,7 +19,8 @@ pub part-join : (l : List ℕ) (a b c : ℕ) → a ≤ b → b ≤ c → part l 
 part-join l a b c h k =
     let e : b - a + (c - b) ≡ c - a = omega arith in
     let d : a + (b - a) ≡ b = omega arith in
-    sym (ap (λ (n : ℕ). take n (drop a l)) (sym e) ∙ take-add (b - a) (c - b) (drop a l) ∙ ap (λ (u : List ℕ). take (b - a) (drop a l) ++ take (c - b) u) (drop-drop (b - a) a l ∙ ap (λ (n : ℕ). drop n l) d))
+    let rest = ap (λ (u : List ℕ). take (b - a) (drop a l) ++ take (c - b) u) (drop-drop (b - a) a l ∙ ap (λ (n : ℕ). drop n l) d) in
+    sym (ap (λ (n : ℕ). take n (drop a l)) (sym e) ∙ take-add (b - a) (c - b) (drop a l) ∙ rest)
 
 pub part-none : (l : List ℕ) (a : ℕ) → part l a a ≡ []
 part-none l a = let e : a - a ≡ 0 = omega arith in ap (λ (n : ℕ). take n (drop a l)) e
@@ -31,7 +33,11 @@ pub record Part (l : List ℕ) (at next : ℕ) (s : List ℕ) : Type 0 where
 
 pub parts-join : (l : List ℕ) {a b c : ℕ} {s t : List ℕ} → Part l a b s → Part l b c t → Part l a c (s ++ t)
 parts-join l {a} {b} {c} {s} {t} p q =
-    record { from = omega (arith, p .from, q .from); within = q .within; bytes = sym (part-join l a b c (p .from) (q .from)) ∙ ap (λ (u : List ℕ). u ++ part l b c) (p .bytes) ∙ ap (λ (u : List ℕ). s ++ u) (q .bytes) }
+    record {
+      from = omega (arith, p .from, q .from);
+      within = q .within;
+      bytes = sym (part-join l a b c (p .from) (q .from)) ∙ ap (λ (u : List ℕ). u ++ part l b c) (p .bytes) ∙ ap (λ (u : List ℕ). s ++ u) (q .bytes);
+    }
 
 module _ {A : Type 0} (enc : A → List ℕ) (l : List ℕ) (read : ℕ → ℕ → Outcome (Item A)) (start : ℕ) where
   -- accepted items are the bytes that they are read from
@@ -56,7 +62,9 @@ module _ {A : Type 0} (enc : A → List ℕ) (l : List ℕ) (read : ℕ → ℕ 
         let u = flatMap enc (take k vs) in
         let w = flatMap enc (drop k vs) ++ rest in
         let e : flatMap enc vs ++ rest ≡ u ++ w =
-        ap (λ (v : List A). flatMap enc v ++ rest) (sym (take-append-drop k vs)) ∙ ap (λ (v : List ℕ). v ++ rest) (flatMap-append enc (take k vs) (drop k vs)) ∙ append-assoc u (flatMap enc (drop k vs)) rest in
+        ap (λ (v : List A). flatMap enc v ++ rest) (sym (take-append-drop k vs))
+        ∙ ap (λ (v : List ℕ). v ++ rest) (flatMap-append enc (take k vs) (drop k vs))
+        ∙ append-assoc u (flatMap enc (drop k vs)) rest in
         sym (drop-drop (length u) start l) ∙ ap (drop (length u)) (here ∙ e) ∙ drop-at u w (length u) refl
 
     prefix : (k : ℕ) → k ≤ length vs → items read start k ≡ answered (record { value = take k vs; next = place k })

@@ -1,4 +1,5 @@
--- A track and its bytes: what is read is what its bytes are made of, and the bytes of a track are read as that track.
+-- A track and its bytes. `track-read`: an accepted track is the record of its fields, which are finite words. `track-of`: the record of such fields is
+-- read as that track.
 use Prim.Native.Nat.{ℕ, _+_, _-_, _*_, _/_, _%_, _^_, _<_, _≤_}
 use native.Mathlib.Omega.{arith}
 use native.Mathlib.Nat.{add-sub-cancel-left, eq-or-lt-of-le}
@@ -36,7 +37,10 @@ field-part l map h k at x le e =
     record {
       from = omega (arith, n);
       within = omega (arith, n, s .1 .there);
-      bytes = ap (part l at) n ∙ ap (λ (k : ℕ). take k (drop at l)) (add-sub-cancel-left at 8) ∙ word-bytes l at h (s .1 .there) ∙ ap (bytes 8) (sym v) ∙ sym (field-some (x .value) (λ z. eqb-false (word l at) 0 (s .1 .nonzero) (sym v ∙ z)));
+      bytes = ap (part l at) n ∙ ap (λ (k : ℕ). take k (drop at l)) (add-sub-cancel-left at 8)
+          ∙ word-bytes l at h (s .1 .there)
+          ∙ ap (bytes 8) (sym v)
+          ∙ sym (field-some (x .value) (λ z. eqb-false (word l at) 0 (s .1 .nonzero) (sym v ∙ z)));
     })
     (λ (s : (stands l map k ≡ false) × (x ≡ record { value = 0; next = at })).
     let n : x .next ≡ at = ap (λ (y : Item ℕ). y .next) (s .1) in
@@ -151,7 +155,9 @@ field-of l map k at x rest s fin small e = split (eqb x 0) refl
     split true p =
         let z : x ≡ 0 = eqb-true x 0 p in
         let n : at ≡ at + length (fieldBytes x) = omega (arith, ap length (field-none x z)) in
-        ap (λ (c : Bool). storedIf c l at) (s ∙ ap not p) ∙ ap (λ (i : ℕ). answered (record { value = 0; next = i })) n ∙ ap (λ (y : ℕ). answered (record { value = y; next = at + length (fieldBytes x) })) (sym z)
+        ap (λ (c : Bool). storedIf c l at) (s ∙ ap not p)
+        ∙ ap (λ (i : ℕ). answered (record { value = 0; next = i })) n
+        ∙ ap (λ (y : ℕ). answered (record { value = y; next = at + length (fieldBytes x) })) (sym z)
     split false p =
         let g : fieldBytes x ≡ bytes 8 x = field-some x (eqb-false x 0 p) in
         let d : drop at l ≡ bytes 8 x ++ rest = e ∙ ap (λ (u : List ℕ). u ++ rest) g in

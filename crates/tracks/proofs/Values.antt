@@ -1,4 +1,5 @@
--- Laws of values and their bits, and of tracks and their values one after another.
+-- Laws of values and their bits, and of tracks and their values one after another. `patterns-doubles` and `doubles-patterns` lead from bits to values and
+-- back, `joined-tracks` and `tracks-joined` from tracks to their values and back.
 use Prim.Native.Nat.{ℕ, zero, suc, _+_, _*_, _<_, _≤_}
 use native.Mathlib.Omega.{arith}
 use native.Mathlib.Nat.{zero-mul, suc-mul, le-of-suc-le-suc, add-comm}
@@ -94,7 +95,8 @@ unfolding joined flatMap
 cut-at f [] h k lt = absurd (omega arith)
 cut-at f (t ∷ ts) h zero lt = ap (λ (i : ℕ). take f (drop i (t ++ joined ts))) (zero-mul f) ∙ take-at t (joined ts) f (h 0 lt)
 cut-at f (t ∷ ts) h (suc k) lt =
-    ap (λ (i : ℕ). take f (drop i (t ++ joined ts))) (suc-mul k f ∙ add-comm (k * f) f) ∙ ap (take f) (sym (drop-drop (k * f) f (t ++ joined ts)) ∙ ap (drop (k * f)) (drop-at t (joined ts) f (h 0 (omega arith))))
+    ap (λ (i : ℕ). take f (drop i (t ++ joined ts))) (suc-mul k f ∙ add-comm (k * f) f)
+    ∙ ap (take f) (sym (drop-drop (k * f) f (t ++ joined ts)) ∙ ap (drop (k * f)) (drop-at t (joined ts) f (h 0 (omega arith))))
     ∙ cut-at f ts (λ i l. h (suc i) (omega arith)) k (le-of-suc-le-suc lt)
 
 -- values of tracks, one after another, are cut into the tracks

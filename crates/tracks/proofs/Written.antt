@@ -1,4 +1,5 @@
--- Laws of the bytes of fields and of maps, as a loop writes them.
+-- Laws of the bytes of fields, maps and records, as a loop writes them. `stored-more`, `packed-more` and `records-more` are the steps of the loops,
+-- `list-length` is the length of a whole list, `written-met` gives each question of a list that is written.
 use Prim.Native.Nat.{ℕ, zero, suc, _+_, _*_, _^_, _<_, _≤_}
 use native.Mathlib.Omega.{arith}
 use native.Mathlib.Nat.{zero-mul, suc-mul, le-of-suc-le-suc, pow-suc}
@@ -91,7 +92,12 @@ stored-more v k h = ap storedBytes (take-more v k h) ∙ flatMap-more fieldBytes
 pub stored-part : (v : List ℕ) (k : ℕ) → length (storedBytes (take k v)) ≤ length (storedBytes v)
 unfolding storedBytes
 stored-part v k =
-    omega (arith, ap (λ (u : List ℕ). length (flatMap fieldBytes u)) (take-append-drop k v), ap length (flatMap-append fieldBytes (take k v) (drop k v)), length-append (flatMap fieldBytes (take k v)) (flatMap fieldBytes (drop k v)))
+    omega (
+      arith,
+      ap (λ (u : List ℕ). length (flatMap fieldBytes u)) (take-append-drop k v),
+      ap length (flatMap-append fieldBytes (take k v) (drop k v)),
+      length-append (flatMap fieldBytes (take k v)) (flatMap fieldBytes (drop k v)),
+    )
 
 -- no field takes more than eight bytes
 pub stored-size : (v : List ℕ) → length (storedBytes v) ≤ 8 * length v

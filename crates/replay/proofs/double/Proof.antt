@@ -1,5 +1,5 @@
 -- `double` meets its contract: the pattern was tested for a NaN's.
-use mathlib.Core.Path.{_≡_, sym, subst}
+use mathlib.Core.Path.{sym, subst}
 use mathlib.Core.Bool.{Bool, not}
 use lib.Dec.{T}
 use lib.Ieee.{ofBits, div}

@@ -37,7 +37,8 @@ returns-3 : tie.Need-returns-3
 unfolding contents
 returns-3 c =
     let x = c .before .before .before .before .before .before .before .before .args in
-    simp (le-leb 2 (length (now (x .list))) (omega arith), sym (c .before .before .before .count-met .ensures) ∙ not-false _ (c .before .before .if2 .left), sym (c .before .dimension-met .ensures) ∙ not-true _ (c .if3 .taken))
+    let counted = sym (c .before .before .before .count-met .ensures) ∙ not-false _ (c .before .before .if2 .left) in
+    simp (le-leb 2 (length (now (x .list))) (omega arith), counted, sym (c .before .dimension-met .ensures) ∙ not-true _ (c .if3 .taken))
 
 fields-requires : tie.Need-fields-requires
 fields-requires c κs = dimension-small _ (sym (c .before .dimension-met .ensures) ∙ not-false _ (c .if3 .left))

@@ -3,7 +3,7 @@ use mathlib.Core.Path.{_≡_, sym, ap, _∙_}
 use mathlib.Core.Bool.{Bool, true, false, not}
 use Rattle.kernel.specs.Answer.{answered, ask}
 use Rattle.tracks.specs.Steps.{ends}
-use Prim.Native.Nat.{_+_}
+use Prim.Native.Nat.{ℕ, _+_}
 use native.Mathlib.Omega.{arith}
 use borrow.Author.Tests.{le-leb, lt-leb, eq-eqb, ne-eqb, not-true, not-false}
 use denote.Ref.{now}
@@ -27,13 +27,19 @@ returns-2 c =
     let e : finiteBits (word (now (x .list)) (x .at)) ≡ false = ap finiteBits (sym (c .before .before .word .ensures)) ∙ sym (c .before .finite .ensures) ∙ not-true _ (c .if2 .taken) in
     simp (le-leb (x .at + 8) (length (now (x .list))) (omega arith), e)
 
+-- where it began, and the bits that it reads
+abbrev start-of : tie.Else2 → tie.Start
+start-of c = c .before .before .before .before .before
+
+abbrev bits-of : tie.Else2 → ℕ
+bits-of c = let x = start-of c .args in word (now (x .list)) (x .at)
+
 -- where 12 and 14 are met, 15 decides
-met : (c : tie.Else2) {b : Bool} → eqb (word (now (c .before .before .before .before .before .args .list)) (c .before .before .before .before .before .args .at)) 0 ≡ b
-    → ends (stored (now (c .before .before .before .before .before .args .list)) (c .before .before .before .before .before .args .at))
-    ≡ ends (ask 15 (not b) (answered (record { value = word (now (c .before .before .before .before .before .args .list)) (c .before .before .before .before .before .args .at); next = c .before .before .before .before .before .args .at + 8 })))
+met : (c : tie.Else2) {b : Bool} → eqb (bits-of c) 0 ≡ b → let x = start-of c .args in
+    ends (stored (now (x .list)) (x .at)) ≡ ends (ask 15 (not b) (answered (record { value = bits-of c; next = x .at + 8 })))
 unfolding stored
 met c e =
-    let x = c .before .before .before .before .before .args in
+    let x = start-of c .args in
     let g : finiteBits (word (now (x .list)) (x .at)) ≡ true = ap finiteBits (sym (c .before .before .word .ensures)) ∙ sym (c .before .finite .ensures) ∙ not-false _ (c .if2 .left) in
     simp (le-leb (x .at + 8) (length (now (x .list))) (omega arith), g, e)
 

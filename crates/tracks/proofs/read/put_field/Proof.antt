@@ -5,7 +5,7 @@ use native.Mathlib.Omega.{arith}
 use mathlib.Core.List.{[], _∷_}
 use denote.Ref.{now}
 use lib.Ieee.{binary64, ofBits}
-use Rattle.kernel.specs.Answer.{answered}
+use Rattle.kernel.specs.Answer.{Outcome, answered}
 use Rattle.tracks.specs.Read.{Item, field}
 use Rattle.kernel.specs.Lists.{over}
 use Rattle.tracks.proofs.Accepted.{Stored, field-stored, field-absent, finite-no-nan}
@@ -14,21 +14,34 @@ use borrow.Author.Needs.{needs}
 use Rattle.tracks.proofs.read.put_field.Statement.{statement}
 use Rattle.tracks.proofs.read.put_field.Tie as tie
 
+-- the places, each from a later one
+abbrev start-of : tie.Then1 → tie.Start
+start-of c = c .before .before .before .before
+
+abbrev standing : tie.After-word → tie.Then1
+standing c = c .before
+
+-- the field that is read
+abbrev given : tie.Start → Outcome (Item ℕ)
+given c = let x = c .args in field (now (x .list)) (x .map) (x .k) (x .at)
+
 -- the field that is stored
-held : (c : tie.Then1) {y : Item ℕ} → field (now (c .before .before .before .before .args .list)) (c .before .before .before .before .args .map) (c .before .before .before .before .args .k) (c .before .before .before .before .args .at) ≡ answered y
-    → Stored (now (c .before .before .before .before .args .list)) (c .before .before .before .before .args .at) y
-held c e = let x = c .before .before .before .before .args in field-stored (now (x .list)) (x .map) (x .k) (x .at) (sym (c .before .stands .ensures) ∙ c .if1 .taken) e
+held : (c : tie.Then1) {y : Item ℕ} → given (start-of c) ≡ answered y → Stored (now (start-of c .args .list)) (start-of c .args .at) y
+held c e = let x = start-of c .args in field-stored (now (x .list)) (x .map) (x .k) (x .at) (sym (c .before .stands .ensures) ∙ c .if1 .taken) e
+
+accepted : (c : tie.Then1) → Stored (now (start-of c .args .list)) (start-of c .args .at) (start-of c .pre .2 .0)
+accepted c = held c (start-of c .pre .2 .1)
 
 float-from-bits-values : tie.Need-float-from-bits-values
-float-from-bits-values c = finite-no-nan _ (rw (c .word .ensures) (held (c .before) (c .before .before .before .before .before .pre .2 .1) .finite))
+float-from-bits-values c = finite-no-nan _ (rw (c .word .ensures) (accepted (standing c) .finite))
 
 add-result : tie.Need-add-result
-add-result c = omega (arith, held (c .before) (c .before .before .before .before .before .pre .2 .1) .there)
+add-result c = omega (arith, accepted (standing c) .there)
 
 returns : tie.Need-returns
 returns c y e =
-    let x = c .before .before .before .before .before .args in
-    let s = held (c .before) e in
+    let x = start-of (standing c) .args in
+    let s = held (standing c) e in
     (sym (s .next), over-set _ _ _ (omega arith) ∙ ap (λ (b : ℕ). over (now (x .values)) (x .i) (ofBits binary64 b ∷ [])) (c .word .ensures ∙ sym (s .value)))
 
 returns-2 : tie.Need-returns-2

@@ -22,7 +22,8 @@ use Rattle.tracks.proofs.read.put_track.Tie as tie
 
 abbrev Inv-loop : tie.InvT-loop
 Inv-loop list f map values₀ i at₀ k₀ values at k =
-    (k ≤ f) × (length values ≡ length values₀) × ((xs : Item (List ℕ)) × (items (field list map) (map + mapBytes f) k ≡ answered xs) × (at ≡ xs .next) × (values ≡ over values₀ i (doubles (xs .value))))
+    (k ≤ f) × (length values ≡ length values₀)
+    × ((xs : Item (List ℕ)) × (items (field list map) (map + mapBytes f) k ≡ answered xs) × (at ≡ xs .next) × (values ≡ over values₀ i (doubles (xs .value))))
 
 abbrev μ-loop : tie.MeasureT-loop
 μ-loop list f map values₀ i at₀ k₀ values at k = f - k

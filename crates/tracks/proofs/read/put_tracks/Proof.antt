@@ -28,15 +28,19 @@ Inv-loop list f n values₀ at₀ i₀ j₀ values at i j =
 abbrev μ-loop : tie.MeasureT-loop
 μ-loop list f n values₀ at₀ i₀ j₀ values at i j = n - j
 
+-- where a turn has begun
+abbrev start-of : tie.In-loop Inv-loop μ-loop → tie.Start Inv-loop μ-loop
+start-of c = c .before .before .before .before
+
 -- the track of a turn, and its place
-next : (c : tie.In-loop Inv-loop μ-loop) → (y : Item (List ℕ)) × (track (now (c .before .before .before .before .args .list)) (c .before .before .before .before .args .f) (c .before .loop .inv .3 .0 .next) ≡ answered y)
+next : (c : tie.In-loop Inv-loop μ-loop) → let x = start-of c .args in (y : Item (List ℕ)) × (track (now (x .list)) (x .f) (c .before .loop .inv .3 .0 .next) ≡ answered y)
 unfolding tracks
 next c =
     let i = c .before .loop in
-    items-at _ _ (i .counter) _ (i .inv .3 .0) _ (c .loop-test .taken) (c .before .before .before .before .pre .3 .1) (i .inv .3 .1)
+    items-at _ _ (i .counter) _ (i .inv .3 .0) _ (c .loop-test .taken) (start-of c .pre .3 .1) (i .inv .3 .1)
 
-room : (c : tie.In-loop Inv-loop μ-loop) → c .before .loop .i + c .before .before .before .before .args .f ≤ c .before .before .before .before .args .n * c .before .before .before .before .args .f
-room c = let x = c .before .before .before .before .args in omega (arith, row (x .n) (x .f) (c .before .loop .counter) (c .loop-test .taken))
+room : (c : tie.In-loop Inv-loop μ-loop) → let x = start-of c .args in c .before .loop .i + x .f ≤ x .n * x .f
+room c = let x = start-of c .args in omega (arith, row (x .n) (x .f) (c .before .loop .counter) (c .loop-test .taken))
 
 loop-holds : tie.Need-loop-holds Inv-loop μ-loop
 unfolding tracks items joined flatMap
@@ -44,7 +48,7 @@ loop-holds c = (omega arith, sym (zero-mul _), refl, (record { value = []; next 
 
 put-track-requires : tie.Need-put-track-requires Inv-loop μ-loop
 put-track-requires c κs =
-    let x = c .before .before .before .before .before .args in
+    let x = start-of (c .before) .args in
     let i = c .before .before .loop in
     let n = next (c .before) in
     (omega arith, omega (arith, room (c .before)), (n .0, ap (track (now (x .list)) (x .f)) (i .inv .3 .2) ∙ n .1))
@@ -55,10 +59,11 @@ add-i c = omega (arith, room (c .before .before .before .before))
 loop-again : tie.Need-loop-again Inv-loop μ-loop
 unfolding tracks
 loop-again c =
-    let x = c .before .before .before .before .before .before .before .before .args in
-    let i = c .before .before .before .before .before .loop in
+    let t = c .before .before .before .before in
+    let x = start-of t .args in
+    let i = t .before .loop in
     let xs = i .inv .3 .0 in
-    let n = next (c .before .before .before .before) in
+    let n = next t in
     let w = c .before .before .put-track .ensures (n .0) (ap (track (now (x .list)) (x .f)) (i .inv .3 .2) ∙ n .1) in
     let long : length (n .0 .value) ≡ x .f = track-met (now (x .list)) (x .f) (xs .next) (n .0) (n .1) .long in
     let after : joined (push xs (n .0) .value) ≡ joined (xs .value) ++ n .0 .value = joined-more (xs .value) (n .0 .value) in (
@@ -71,7 +76,7 @@ loop-again c =
         w .0,
         omega (arith, ap length after, length-append (joined (xs .value)) (n .0 .value)),
         w .1 ∙ ap (λ (v : List Float). over v (i .i) (doubles (n .0 .value))) (i .inv .3 .4)
-            ∙ over-doubles (now (x .values)) 0 (i .i) (joined (xs .value)) (n .0 .value) (omega arith) (omega (arith, room (c .before .before .before .before)))
+            ∙ over-doubles (now (x .values)) 0 (i .i) (joined (xs .value)) (n .0 .value) (omega arith) (omega (arith, room t))
             ∙ ap (λ (v : List ℕ). over (now (x .values)) 0 (doubles v)) (sym after),
       ),
     )

@@ -1,17 +1,16 @@
 -- `read_list` meets its contract: the list's questions, question 2, and then the values.
 use mathlib.Core.Path.{_≡_, sym, ap, _∙_}
-use Prim.Native.Nat.{ℕ, _*_, _≤_}
+use Prim.Native.Nat.{ℕ, _*_}
 use native.Mathlib.Nat.{mul-le-mul-right}
 use native.Mathlib.Omega.{arith}
 use mathlib.Core.List.{List}
-use borrow.Author.Tests.{leb-true}
 use denote.Ref.{now}
 use lib.ListN.{length}
 use Rattle.kernel.specs.Answer.{Outcome, answered}
 use Rattle.tracks.specs.Layout.{fields}
 use Rattle.tracks.specs.Read.{TrackList, tracks, contents, reading}
 use Rattle.tracks.specs.Calls.{readAnswer, readValues}
-use Rattle.tracks.proofs.Accepted.{Whole, contents-met, dimension-small, read-accepted, read-refused, reading-fits, reading-short, reading-refused}
+use Rattle.tracks.proofs.Accepted.{Known, known-list, read-refused, reading-fits, reading-short, reading-refused}
 use borrow.Author.Needs.{needs}
 use Rattle.tracks.proofs.read.read_list.Statement.{statement}
 use Rattle.tracks.proofs.read.read_list.Tie as tie
@@ -30,28 +29,22 @@ abbrev list-of : tie.After-known-told → List ℕ
 list-of c = now (start-of c .args .list)
 
 -- what the answer of `check_list` says of the list
-accepted : (c : tie.After-known-told) → (t : TrackList) × (contents (list-of c) ≡ answered t) × (c .before .c .given .0 .0 ≡ length (t .tracks)) × (c .before .c .given .0 .1 .0 ≡ t .dimension)
-accepted c = read-accepted (contents (list-of c)) (sym (c .before .before .before .check-list .ensures) ∙ c .before .c .given .1)
-
-whole : (c : tie.After-known-told) → Whole (list-of c) (accepted c .0)
-whole c = contents-met _ (accepted c .1)
-
-few : (c : tie.After-known-told) → c .before .c .given .0 .0 ≤ 32
-few c = rw (accepted c .2) (leb-true _ 32 (whole c .few))
+told : (c : tie.After-known-told) → Known (list-of c) (c .before .c .given .0 .0) (c .before .c .given .0 .1 .0)
+told c = known-list (list-of c) (c .before .before .before .check-list .ensures) (c .before .c .given .1)
 
 -- the fields of its tracks
-sized : (c : tie.After-fields) → c .fields .result ≡ fields (accepted (known c) .0 .dimension)
-sized c = c .fields .ensures .0 ∙ ap fields (accepted (known c) .3)
+sized : (c : tie.After-fields) → c .fields .result ≡ fields (told (known c) .held .dimension)
+sized c = c .fields .ensures .0 ∙ ap fields (told (known c) .dimension)
 
-needed : (c : tie.After-fields) → let t = accepted (known c) .0 in known c .before .c .given .0 .0 * c .fields .result ≡ length (t .tracks) * fields (t .dimension)
-needed c = let a = accepted (known c) in ap (λ (n : ℕ). n * c .fields .result) (a .2) ∙ ap (λ (f : ℕ). length (a .0 .tracks) * f) (sized c)
+needed : (c : tie.After-fields) → let t = told (known c) .held in known c .before .c .given .0 .0 * c .fields .result ≡ length (t .tracks) * fields (t .dimension)
+needed c = let a = told (known c) in ap (λ (n : ℕ). n * c .fields .result) (a .count) ∙ ap (λ (f : ℕ). length (a .held .tracks) * f) (sized c)
 
 read : (c : tie.After-fields) → let l = list-of (known c) in
-    tracks l (c .fields .result) (known c .before .c .given .0 .0) ≡ answered (record { value = accepted (known c) .0 .tracks; next = length l })
+    tracks l (c .fields .result) (known c .before .c .given .0 .0) ≡ answered (record { value = told (known c) .held .tracks; next = length l })
 read c =
     let l = list-of (known c) in
-    let a = accepted (known c) in
-    ap (tracks l (c .fields .result)) (a .2) ∙ ap (λ (f : ℕ). tracks l f (length (a .0 .tracks))) (sized c) ∙ whole (known c) .read
+    let a = told (known c) in
+    ap (tracks l (c .fields .result)) (a .count) ∙ ap (λ (f : ℕ). tracks l f (length (a .held .tracks))) (sized c) ∙ a .whole .read
 
 -- what is answered, and what is left in the values
 both : (c : tie.Start) {o : Outcome TrackList} → reading (now (c .args .list)) (length (now (c .args .values))) ≡ o
@@ -60,26 +53,26 @@ both : (c : tie.Start) {o : Outcome TrackList} → reading (now (c .args .list))
 both c e = (sym (ap readAnswer e), sym (ap (λ (o : Outcome TrackList). readValues o (now (c .args .values))) e))
 
 fields-requires : tie.Need-fields-requires
-fields-requires c κs = rw (accepted c .3) (dimension-small _ (whole c .sized))
+fields-requires c κs = told c .small
 
 mul-if1 : tie.Need-mul-if1
-mul-if1 c = omega (arith, few (known c), c .fields .ensures .1, mul-le-mul-right (c .fields .result) (few (known c)))
+mul-if1 c = omega (arith, told (known c) .few, c .fields .ensures .1, mul-le-mul-right (c .fields .result) (told (known c) .few))
 
 returns : tie.Need-returns
 returns c =
     let t = c .before in
-    both (begun t) (reading-short _ _ (accepted (known t) .1) (omega (arith, needed t, c .if1 .taken)))
+    both (begun t) (reading-short _ _ (told (known t) .accepted) (omega (arith, needed t, c .if1 .taken)))
 
 put-tracks-requires : tie.Need-put-tracks-requires
-put-tracks-requires c κs = (omega arith, few (known (c .before .before)), c .before .if1 .left, (_, read (c .before .before)))
+put-tracks-requires c κs = (omega arith, told (known (c .before .before)) .few, c .before .if1 .left, (_, read (c .before .before)))
 
 returns-2 : tie.Need-returns-2
 returns-2 c =
     let t = c .before .before .before .before .before in
-    let a = accepted (known t) in
-    let b = both (begun t) (reading-fits _ _ (a .1) (omega (arith, needed t, c .before .before .before .before .if1 .left))) in
-    let told = sym (known t .before .c .given .1) ∙ known t .before .before .before .check-list .ensures in
-    (told ∙ ap readAnswer (a .1) ∙ b .0, c .before .before .put-tracks .ensures _ (read t) .1 ∙ b .1)
+    let a = told (known t) in
+    let b = both (begun t) (reading-fits _ _ (a .accepted) (omega (arith, needed t, c .before .before .before .before .if1 .left))) in
+    let answer = sym (known t .before .c .given .1) ∙ known t .before .before .before .check-list .ensures in
+    (answer ∙ ap readAnswer (a .accepted) ∙ b .0, c .before .before .put-tracks .ensures _ (read t) .1 ∙ b .1)
 
 returns-3 : tie.Need-returns-3
 returns-3 c =

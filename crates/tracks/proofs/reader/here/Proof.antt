@@ -24,7 +24,6 @@ use denote.RattleType.{owns}
 use denote.Laws.{Is, shows}
 use denote.Builtin.{u8, usize}
 use denote.Ref.{RefT, now}
-use denote.Signature.{namedLft}
 use denote.Slice.{ShrSlice, shr-slice-lawful}
 use denote.Steps.{peeks, heard, nothing}
 use denote.Struct.Laws as LL
@@ -38,8 +37,7 @@ use denote.Exit.{yes}
 use denote.Triple.Clauses.{ensured, lasts}
 use Rattle.tracks.specs.Record.{recordAt, OwnBytes}
 use Rattle.tracks.specs.declared.reader.Reader.{Reader}
-use Rattle.tracks.proofs.Apart.{B, mach, passed, Own, apart}
-use Rattle.tracks.proofs.reader.Reader as T
+use Rattle.tracks.proofs.Apart.{B, mach, passed, Own, apart, D, L}
 use Rattle.tracks.proofs.reader.Reader.Laws as T′
 use Rattle.tracks.proofs.record.record as called
 use Rattle.tracks.proofs.record.record.Symbol as called-def
@@ -72,8 +70,12 @@ module _ {M : Type 1} (𝓤 : URA M) (H : Heap 𝓤) (A : Atoms 𝓤) (W : Given
   asked : ent 𝓤 (onEntry 𝓤 H A called.signature (κ, tt) (q, tt) (d .list, (d .at, tt)) (passed d)) (Called 𝓤 H A mem run .pre to)
   asked = qed W ((‵ (flft κ q) ⊛ ‵ ftrue) ∷ ‵ (owns (ShrSlice (named 0) κ u8 ∷ usize ∷ []) (d .list, (d .at, tt)) (passed d)) ∷ []) ∵ join ! $ frame ! $ done !
 
+  -- what the callee ensures of its result
+  abbrev Ensured : RefT (List ℕ) → SProp 𝓤
+  Ensured r = ensured 𝓤 H A called.ended (called.clauses 𝓤 H A mem run) (κ, tt) (d .list, (d .at, tt)) tt r
+
   -- of the callee's `ensured`, the clause alone: it has no `&mut`, so what is said of last values is dropped
-  said : (r : RefT (List ℕ)) → ent 𝓤 (ensured 𝓤 H A called.ended (called.clauses 𝓤 H A mem run) (κ, tt) (d .list, (d .at, tt)) tt r) (fact 𝓤 (Found r))
+  said : (r : RefT (List ℕ)) → ent 𝓤 (Ensured r) (fact 𝓤 (Found r))
   said r = exE 𝓤 _ (λ ws. snd∗ 𝓤 (sem 𝓤 H A (lasts called.ended (κ, tt) (d .list, (d .at, tt)) ws)) (fact 𝓤 (Found r)))
 
   exits : (r : RefT (List ℕ)) (u : Val) → Found r → ent 𝓤 (⋆ 𝓤 H A (‵ (ShrSlice (named 0) κ u8 .own r (u ∷ [])) ∷ (‵ (flft κ q) ⊛ ‵ ftrue) ∷ ‵ (Own κ d) ∷ [])) (Post u)
@@ -91,7 +93,8 @@ module _ {M : Type 1} (𝓤 : URA M) (H : Heap 𝓤) (A : Atoms 𝓤) (W : Given
         assigns ! (of-opd ! (load ! (from ! (fld ! refl (stop !))) (look-in ! 4 (sub ! 1 refl (whole !))))) (from ! (stop !)) (init ! 0 refl (tt, wt .1 .1 .0)) $
         move ! (8 ∷ []) $ use1 W (raw (Called 𝓤 H A mem run .pre to) ⊛ ‵ (Own κ d)) (apart 𝓤 H A W κ q d (Called 𝓤 H A mem run .pre to) asked (wt .1 .1 .0 .fits)) $ split ! $
         calls-at ! fm (Called 𝓤 H A mem run) known to (and-then ! (load ! (from ! (stop !)) (look ! 4 refl)) (and-then ! (load ! (from ! (stop !)) (look ! 2 refl)) (no-more !))) (λ u.
-        use1 W (later (some (λ (r : RefT (List ℕ)). ((‵ (flft κ q) ⊛ ‵ ftrue) ⊛ ‵ (ShrSlice (named 0) κ u8 .own r (u ∷ []))) ⊛ raw (ensured 𝓤 H A called.ended (called.clauses 𝓤 H A mem run) (κ, tt) (d .list, (d .at, tt)) tt r)))) (id⊢ 𝓤 _) $ await ! tt $ pick ! (λ r.
+        use1 W (later (some (λ (r : RefT (List ℕ)). ((‵ (flft κ q) ⊛ ‵ ftrue) ⊛ ‵ (ShrSlice (named 0) κ u8 .own r (u ∷ []))) ⊛ raw (Ensured r)))) (id⊢ 𝓤 _) $
+        await ! tt $ pick ! (λ r.
         split ! $ move ! (1 ∷ []) $ use1 W (raw (fact 𝓤 (Found r))) (said r) $ heard ! (Found r) (λ e. split ! $ move ! (1 ∷ []) $
         -- [the result; the token; what the struct owns; _3; …; _2; …; _1; …; room for _0; …]
         peeks ! (ShrSlice (named 0) κ u8) (Is (ShrSlice (named 0) κ u8)) (shows 𝓤 H A (ShrSlice (named 0) κ u8)) r (u ∷ []) (λ is.
@@ -102,13 +105,20 @@ module _ {M : Type 1} (𝓤 : URA M) (H : Heap 𝓤) (A : Atoms 𝓤) (W : Given
 module _ {M : Type 1} (𝓤 : URA M) (H : Heap 𝓤) (A : Atoms 𝓤) (W : Given 𝓤 H A) (mem : Memory → SProp 𝓤) (run : Routine → Fun 𝓤) where
   here-walks : (C : Calls 𝓤 H) (Λ : Loops 𝓤 H) → FmC 𝓤 H (W .laws) C → Triple 𝓤 (C #called) (Called 𝓤 H A mem run)
       → Walks 𝓤 H A here.ended stayed (WpFn 𝓤 H C Λ code.function) (here.clauses 𝓤 H A mem run)
-  here-walks C Λ fm known = walked 𝓤 H A here.ended stayed (here.clauses 𝓤 H A mem run) (WpFn 𝓤 H C Λ code.function) (λ κs. (LL.vals (T.the-type (namedLft 1 0 tt κs)) (T′.the-laws (namedLft 1 0 tt κs)), tt)) (λ κs. (LL.tells (T.the-type (namedLft 1 0 tt κs)) (T′.the-laws (namedLft 1 0 tt κs)), tt))
-      (λ κs qs bounds a g are. via 𝓤 _ (fst∗ 𝓤 _ (emp 𝓤)) (walk 𝓤 H A W mem run (κs .0) (qs .0) (a .0) C Λ fm known (LL.lawful (T.the-type (namedLft 1 0 tt κs)) (T′.the-laws (namedLft 1 0 tt κs)) 𝓤 H A W .typed (a .0) _ (are .0) .0)))
+  here-walks C Λ fm known =
+      walked 𝓤 H A here.ended stayed (here.clauses 𝓤 H A mem run) (WpFn 𝓤 H C Λ code.function)
+      (λ κs. (LL.vals (D (κs .0)) (L (κs .0)), tt))
+      (λ κs. (LL.tells (D (κs .0)) (L (κs .0)), tt))
+      (λ κs qs bounds a g are.
+      let typed = LL.lawful (D (κs .0)) (L (κs .0)) 𝓤 H A W .typed (a .0) _ (are .0) .0 in
+      via 𝓤 _ (fst∗ 𝓤 _ (emp 𝓤)) (walk 𝓤 H A W mem run (κs .0) (qs .0) (a .0) C Λ fm known typed))
 
 here-meets : {M : Type 1} (𝓤 : URA M) (H : Heap 𝓤) (A : Atoms 𝓤) (W : Given 𝓤 H A) (mem : Memory → SProp 𝓤) (run : Routine → Fun 𝓤) (𝓣 : Tables 𝓤 H)
     → Triple 𝓤 (𝓣 .C #called) (Called 𝓤 H A mem run)
     → Meets 𝓤 H A here.signature (WpFn 𝓤 H (𝓣 .C) (𝓣 .Λ) code.function) (here.spec 𝓤 H A mem run)
-here-meets 𝓤 H A W mem run 𝓣 known-called = walk-meets 𝓤 H A here.ended stayed W (goes-none 𝓤 H A W 1 B yes (λ κs x f. refl), tt) (here.clauses 𝓤 H A mem run) (WpFn 𝓤 H (𝓣 .C) (𝓣 .Λ) code.function) (WpFn-mono 𝓤 H (W .laws) 𝓣 code.function)
+here-meets 𝓤 H A W mem run 𝓣 known-called =
+    walk-meets 𝓤 H A here.ended stayed W (goes-none 𝓤 H A W 1 B yes (λ κs x f. refl), tt) (here.clauses 𝓤 H A mem run)
+    (WpFn 𝓤 H (𝓣 .C) (𝓣 .Λ) code.function) (WpFn-mono 𝓤 H (W .laws) 𝓣 code.function)
     (here-walks 𝓤 H A W mem run (𝓣 .C) (𝓣 .Λ) (fmOf 𝓤 H (W .laws) 𝓣) known-called)
 
 pub here-spec : {M : Type 1} → stated.statement M

@@ -42,7 +42,6 @@ use denote.Triple.Clauses.{ensured, lasts}
 use Rattle.tracks.specs.Record.{nextOffset}
 use Rattle.tracks.specs.declared.reader.Reader.{Reader}
 use Rattle.tracks.proofs.Apart.{B, mach, passed, Own, D, L, vd, apart}
-use Rattle.tracks.proofs.reader.Reader as T
 use Rattle.tracks.proofs.reader.Reader.Laws as T′
 use Rattle.tracks.proofs.record.next_offset as called
 use Rattle.tracks.proofs.record.next_offset.Symbol as called-def
@@ -74,8 +73,12 @@ module _ {M : Type 1} (𝓤 : URA M) (H : Heap 𝓤) (A : Atoms 𝓤) (W : Given
   asked : ent 𝓤 (onEntry 𝓤 H A called.signature (κ, tt) (q, tt) (d .list, (d .at, tt)) (passed d)) (Called 𝓤 H A mem run .pre to)
   asked = qed W ((‵ (flft κ q) ⊛ ‵ ftrue) ∷ ‵ (owns (ShrSlice (named 0) κ u8 ∷ usize ∷ []) (d .list, (d .at, tt)) (passed d)) ∷ []) ∵ join ! $ frame ! $ done !
 
+  -- what the callee ensures of its result
+  abbrev Ensured : ℕ → SProp 𝓤
+  Ensured r = ensured 𝓤 H A called.ended (called.clauses 𝓤 H A mem run) (κ, tt) (d .list, (d .at, tt)) tt r
+
   -- of the callee's `ensured`, the clause alone: it has no `&mut`, so what is said of last values is dropped
-  said : (r : ℕ) → ent 𝓤 (ensured 𝓤 H A called.ended (called.clauses 𝓤 H A mem run) (κ, tt) (d .list, (d .at, tt)) tt r) (fact 𝓤 (r ≡ found))
+  said : (r : ℕ) → ent 𝓤 (Ensured r) (fact 𝓤 (r ≡ found))
   said r = exE 𝓤 _ (λ ws. snd∗ 𝓤 (sem 𝓤 H A (lasts called.ended (κ, tt) (d .list, (d .at, tt)) ws)) (fact 𝓤 (r ≡ found)))
 
   -- the reader at the offset r
@@ -85,8 +88,10 @@ module _ {M : Type 1} (𝓤 : URA M) (H : Heap 𝓤) (A : Atoms 𝓤) (W : Given
   exits : (r : ℕ) (u : Val) → r ≡ found → r < 2 ^ 64 → ent 𝓤 (⋆ 𝓤 H A (‵ (usize .own r (u ∷ [])) ∷ (‵ (flft κ q) ⊛ ‵ ftrue) ∷ ‵ (Own κ d) ∷ [])) (Post (T′.lowered (at r)))
   exits r u e ok =
       qed W (‵ (usize .own r (u ∷ [])) ∷ (‵ (flft κ q) ⊛ ‵ ftrue) ∷ ‵ (Own κ d) ∷ []) ∵
-      suffices ! _ (ends-at 𝓤 H A next.ended stayed (next.clauses 𝓤 H A mem run) W (((κ, tt), (q, tt), tt, (d, tt), (mach d ∷ [], tt)), tt) (T′.lowered (at r)) (at r) (tt, tt) (tt, tt)) $ says ! (refl, e) $
-      drop ! $ frame ! $ use1 W (‵ (Own κ d) ⊛ ‵ (Own κ d)) (LL.copy (D κ) (T′.the-copy (namedLft 1 0 tt (κ, tt))) 𝓤 H A W .twice d (mach d ∷ [])) $ split ! $ nothing ! $ move ! (1 ∷ 0 ∷ []) $ fjoin ! $ frame ! $
+      suffices ! _ (ends-at 𝓤 H A next.ended stayed (next.clauses 𝓤 H A mem run) W (((κ, tt), (q, tt), tt, (d, tt), (mach d ∷ [], tt)), tt) (T′.lowered (at r)) (at r) (tt, tt) (tt, tt)) $
+      says ! (refl, e) $
+      drop ! $ frame ! $ use1 W (‵ (Own κ d) ⊛ ‵ (Own κ d)) (LL.copy (D κ) (T′.the-copy (namedLft 1 0 tt (κ, tt))) 𝓤 H A W .twice d (mach d ∷ [])) $ split ! $ nothing ! $
+      move ! (1 ∷ 0 ∷ []) $ fjoin ! $ frame ! $
       -- [what the reader owns]: the number's facts take the place of the offset's
       owned ! usize (Is usize) (uint-makes 𝓤 H A W w64) r _ (refl, ok) $ move ! (1 ∷ 0 ∷ []) $ by ! (own-put 𝓤 H A W (D κ) (L κ) 1 (vd κ d) r (mach d))
 
@@ -99,26 +104,36 @@ module _ {M : Type 1} (𝓤 : URA M) (H : Heap 𝓤) (A : Atoms 𝓤) (W : Given
         assigns ! (of-opd ! (load ! (from ! (fld ! refl (stop !))) (look-in ! 8 (sub ! 1 refl (whole !))))) (from ! (stop !)) (init ! 2 refl (tt, wt .1 .1 .0)) $
         move ! (12 ∷ []) $ use1 W (raw (Called 𝓤 H A mem run .pre to) ⊛ ‵ (Own κ d)) (apart 𝓤 H A W κ q d (Called 𝓤 H A mem run .pre to) asked (wt .1 .1 .0 .fits)) $ split ! $
         calls-at ! fm (Called 𝓤 H A mem run) known to (and-then ! (load ! (from ! (stop !)) (look ! 6 refl)) (and-then ! (load ! (from ! (stop !)) (look ! 4 refl)) (no-more !))) (λ u.
-        use1 W (later (some (λ (r : ℕ). ((‵ (flft κ q) ⊛ ‵ ftrue) ⊛ ‵ (usize .own r (u ∷ []))) ⊛ raw (ensured 𝓤 H A called.ended (called.clauses 𝓤 H A mem run) (κ, tt) (d .list, (d .at, tt)) tt r)))) (id⊢ 𝓤 _) $ await ! tt $ pick ! (λ r.
+        use1 W (later (some (λ (r : ℕ). ((‵ (flft κ q) ⊛ ‵ ftrue) ⊛ ‵ (usize .own r (u ∷ []))) ⊛ raw (Ensured r)))) (id⊢ 𝓤 _) $
+        await ! tt $ pick ! (λ r.
         split ! $ move ! (1 ∷ []) $ use1 W (raw (fact 𝓤 (r ≡ found))) (said r) $ heard ! (r ≡ found) (λ e. split ! $ move ! (1 ∷ []) $
         -- [the result; the token; what the struct owns; _5; …; _4; …; _3; …; _2; …; _1; …; room for _0; …]
         peeks ! usize (Is usize) (shows 𝓤 H A usize) r (u ∷ []) (λ is.
         land ! (from ! (stop !)) (init ! 9 refl (uint-lawful 𝓤 H A W w64 .typed r _ is .0)) $ rewrite ! 9 (λ (w : Val). ‵ (fat fullShare (tyInt w64) l₂ 0 w)) (ap only (is .0)) refl $
         assigns ! (of-opd ! (load ! (from ! (fld ! refl (stop !))) (look-in ! 11 (sub ! 0 refl (whole !))))) (from ! (stop !)) (init ! 3 refl (tt, wt .1 .0)) $
-        assigns ! (agg ! (and-then ! (load ! (from ! (stop !)) (look ! 3 refl)) (and-then ! (load ! (from ! (stop !)) (look ! 9 refl)) (no-more !)))) (from ! (stop !)) (init ! 13 refl (tt, (wt .1 .0, (record { fits = is .1 }, tt)))) $
+        assigns ! (agg ! (and-then ! (load ! (from ! (stop !)) (look ! 3 refl)) (and-then ! (load ! (from ! (stop !)) (look ! 9 refl)) (no-more !))))
+        (from ! (stop !)) (init ! 13 refl (tt, (wt .1 .0, (record { fits = is .1 }, tt)))) $
         returns ! (look ! 13 refl) $ forget ! 3 refl $ forget ! 5 refl $ forget ! 7 refl $ forget ! 9 refl $ forget ! 11 refl $ forget ! 13 refl $
-        move ! (13 ∷ 14 ∷ []) $ free1 ! $ move ! (11 ∷ 12 ∷ []) $ free1 ! $ move ! (9 ∷ 10 ∷ []) $ free1 ! $ move ! (7 ∷ 8 ∷ []) $ free1 ! $ move ! (5 ∷ 6 ∷ []) $ free1 ! $ move ! (3 ∷ 4 ∷ []) $ free1 ! $ free0 ! $ by ! (exits r u e (is .1))))))))))))
+        move ! (13 ∷ 14 ∷ []) $ free1 ! $ move ! (11 ∷ 12 ∷ []) $ free1 ! $ move ! (9 ∷ 10 ∷ []) $ free1 ! $ move ! (7 ∷ 8 ∷ []) $ free1 ! $ move ! (5 ∷ 6 ∷ []) $
+        free1 ! $ move ! (3 ∷ 4 ∷ []) $ free1 ! $ free0 ! $ by ! (exits r u e (is .1))))))))))))
 
 module _ {M : Type 1} (𝓤 : URA M) (H : Heap 𝓤) (A : Atoms 𝓤) (W : Given 𝓤 H A) (mem : Memory → SProp 𝓤) (run : Routine → Fun 𝓤) where
   next-walks : (C : Calls 𝓤 H) (Λ : Loops 𝓤 H) → FmC 𝓤 H (W .laws) C → Triple 𝓤 (C #called) (Called 𝓤 H A mem run)
       → Walks 𝓤 H A next.ended stayed (WpFn 𝓤 H C Λ code.function) (next.clauses 𝓤 H A mem run)
-  next-walks C Λ fm known = walked 𝓤 H A next.ended stayed (next.clauses 𝓤 H A mem run) (WpFn 𝓤 H C Λ code.function) (λ κs. (LL.vals (T.the-type (namedLft 1 0 tt κs)) (T′.the-laws (namedLft 1 0 tt κs)), tt)) (λ κs. (LL.tells (T.the-type (namedLft 1 0 tt κs)) (T′.the-laws (namedLft 1 0 tt κs)), tt))
-      (λ κs qs bounds a g are. via 𝓤 _ (fst∗ 𝓤 _ (emp 𝓤)) (walk 𝓤 H A W mem run (κs .0) (qs .0) (a .0) C Λ fm known (LL.lawful (T.the-type (namedLft 1 0 tt κs)) (T′.the-laws (namedLft 1 0 tt κs)) 𝓤 H A W .typed (a .0) _ (are .0) .0)))
+  next-walks C Λ fm known =
+      walked 𝓤 H A next.ended stayed (next.clauses 𝓤 H A mem run) (WpFn 𝓤 H C Λ code.function)
+      (λ κs. (LL.vals (D (κs .0)) (L (κs .0)), tt))
+      (λ κs. (LL.tells (D (κs .0)) (L (κs .0)), tt))
+      (λ κs qs bounds a g are.
+      let typed = LL.lawful (D (κs .0)) (L (κs .0)) 𝓤 H A W .typed (a .0) _ (are .0) .0 in
+      via 𝓤 _ (fst∗ 𝓤 _ (emp 𝓤)) (walk 𝓤 H A W mem run (κs .0) (qs .0) (a .0) C Λ fm known typed))
 
 next-meets : {M : Type 1} (𝓤 : URA M) (H : Heap 𝓤) (A : Atoms 𝓤) (W : Given 𝓤 H A) (mem : Memory → SProp 𝓤) (run : Routine → Fun 𝓤) (𝓣 : Tables 𝓤 H)
     → Triple 𝓤 (𝓣 .C #called) (Called 𝓤 H A mem run)
     → Meets 𝓤 H A next.signature (WpFn 𝓤 H (𝓣 .C) (𝓣 .Λ) code.function) (next.spec 𝓤 H A mem run)
-next-meets 𝓤 H A W mem run 𝓣 known-called = walk-meets 𝓤 H A next.ended stayed W (goes-none 𝓤 H A W 1 B yes (λ κs x f. refl), tt) (next.clauses 𝓤 H A mem run) (WpFn 𝓤 H (𝓣 .C) (𝓣 .Λ) code.function) (WpFn-mono 𝓤 H (W .laws) 𝓣 code.function)
+next-meets 𝓤 H A W mem run 𝓣 known-called =
+    walk-meets 𝓤 H A next.ended stayed W (goes-none 𝓤 H A W 1 B yes (λ κs x f. refl), tt) (next.clauses 𝓤 H A mem run)
+    (WpFn 𝓤 H (𝓣 .C) (𝓣 .Λ) code.function) (WpFn-mono 𝓤 H (W .laws) 𝓣 code.function)
     (next-walks 𝓤 H A W mem run (𝓣 .C) (𝓣 .Λ) (fmOf 𝓤 H (W .laws) 𝓣) known-called)
 
 pub next-spec : {M : Type 1} → stated.statement M

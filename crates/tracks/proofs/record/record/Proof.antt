@@ -5,11 +5,10 @@ use native.Mathlib.Omega.{arith}
 use mathlib.Core.List.{List}
 use denote.Ref.{now}
 use lib.ListN.{length, take, drop}
-use Rattle.kernel.specs.Answer.{answered}
 use Rattle.tracks.specs.Layout.{part, fields}
-use Rattle.tracks.specs.Read.{TrackList, contents}
+use Rattle.tracks.specs.Read.{contents}
 use Rattle.tracks.specs.Record.{recordEnd, recordIn, recordAt}
-use Rattle.tracks.proofs.Accepted.{Whole, contents-met, dimension-small, read-accepted, read-refused}
+use Rattle.tracks.proofs.Accepted.{Known, known-list, read-refused}
 use borrow.Author.Needs.{needs}
 use Rattle.tracks.proofs.record.record.Statement.{statement}
 use Rattle.tracks.proofs.record.record.Tie as tie
@@ -28,11 +27,8 @@ abbrev list-of : tie.After-known-told → List ℕ
 list-of c = now (start-of c .args .list)
 
 -- what the answer of `check_list` says of the list
-accepted : (c : tie.After-known-told) → (t : TrackList) × (contents (list-of c) ≡ answered t) × (c .before .c .given .0 .0 ≡ length (t .tracks)) × (c .before .c .given .0 .1 .0 ≡ t .dimension)
-accepted c = read-accepted (contents (list-of c)) (sym (c .before .before .before .check-list .ensures) ∙ c .before .c .given .1)
-
-whole : (c : tie.After-known-told) → Whole (list-of c) (accepted c .0)
-whole c = contents-met _ (accepted c .1)
+told : (c : tie.After-known-told) → Known (list-of c) (c .before .c .given .0 .0) (c .before .c .given .0 .1 .0)
+told c = known-list (list-of c) (c .before .before .before .check-list .ensures) (c .before .c .given .1)
 
 -- the part that is found
 found : (c : tie.After-find-end) → let x = begun c .args in recordAt (now (x .list)) (x .at) ≡ part (now (x .list)) (x .at) (c .find-end .result)
@@ -40,16 +36,16 @@ unfolding recordAt
 found c =
     let x = begun c .args in
     let l = now (x .list) in
-    let a = accepted (known c) in
-    let f = c .before .fields .ensures .0 ∙ ap fields (a .3) in
-    let e = c .find-end .ensures .0 ∙ ap (recordEnd l (c .before .fields .result) (x .at) 2) (a .2) ∙ ap (λ (k : ℕ). recordEnd l k (x .at) 2 (length (a .0 .tracks))) f in
-    ap (recordIn l (x .at)) (a .1) ∙ ap (part l (x .at)) (sym e)
+    let a = told (known c) in
+    let f = c .before .fields .ensures .0 ∙ ap fields (a .dimension) in
+    let e = c .find-end .ensures .0 ∙ ap (recordEnd l (c .before .fields .result) (x .at) 2) (a .count) ∙ ap (λ (k : ℕ). recordEnd l k (x .at) 2 (length (a .held .tracks))) f in
+    ap (recordIn l (x .at)) (a .accepted) ∙ ap (part l (x .at)) (sym e)
 
 fields-requires : tie.Need-fields-requires
-fields-requires c κs = rw (accepted c .3) (dimension-small _ (whole c .sized))
+fields-requires c κs = told c .small
 
 find-end-requires : tie.Need-find-end-requires
-find-end-requires c κs = omega (arith, c .fields .ensures .1, whole (c .before) .two)
+find-end-requires c κs = omega (arith, c .fields .ensures .1, told (c .before) .whole .two)
 
 returns : tie.Need-returns
 returns c =

@@ -12,7 +12,7 @@ use Rattle.tracks.specs.Read.{TrackList, tracks, dimension, contents}
 use Rattle.tracks.specs.Record.{endOf, offset, placing}
 use Rattle.tracks.specs.Calls.{readAnswer, offsetsLeft, trackOffsets}
 use Rattle.tracks.specs.declared.read.ReadList.{ReadList}
-use Rattle.tracks.proofs.Accepted.{Whole, contents-met, dimension-small, read-accepted, read-refused}
+use Rattle.tracks.proofs.Accepted.{Known, known-list, contents-met, read-refused}
 use Rattle.tracks.proofs.Records.{placing-fits, placing-short, placing-refused}
 use borrow.Author.Needs.{needs}
 use Rattle.tracks.proofs.record.track_offsets.Statement.{statement}
@@ -29,11 +29,8 @@ abbrev list-of : tie.After-known-told → List ℕ
 list-of c = now (start-of c .args .list)
 
 -- what the answer of `check_list` says of the list
-accepted : (c : tie.After-known-told) → (t : TrackList) × (contents (list-of c) ≡ answered t) × (c .before .c .given .0 .0 ≡ length (t .tracks)) × (c .before .c .given .0 .1 .0 ≡ t .dimension)
-accepted c = read-accepted (contents (list-of c)) (sym (c .before .before .before .check-list .ensures) ∙ c .before .c .given .1)
-
-whole : (c : tie.After-known-told) → Whole (list-of c) (accepted c .0)
-whole c = contents-met _ (accepted c .1)
+told : (c : tie.After-known-told) → Known (list-of c) (c .before .c .given .0 .0) (c .before .c .given .0 .1 .0)
+told c = known-list (list-of c) (c .before .before .before .check-list .ensures) (c .before .c .given .1)
 
 -- what is answered, and what is left in the slice
 both : (c : tie.Start) (o : Outcome TrackList) {r : ReadList} {new : List ℕ} → let l = now (c .args .list) in let old = now (c .args .offsets) in
@@ -46,17 +43,16 @@ both c o {r} {new} e p q =
 returns : tie.Need-returns
 returns c =
     let t = c .before in
-    let a = accepted t in
-    let n = a .2 in
-    both (start-of t) (refused 2) (placing-short _ _ (a .1) (omega (arith, n, c .if1 .taken))) refl refl
+    let a = told t in
+    both (start-of t) (refused 2) (placing-short _ _ (a .accepted) (omega (arith, a .count, c .if1 .taken))) refl refl
 
 fields-requires : tie.Need-fields-requires
-fields-requires c κs = rw (accepted (c .before) .3) (dimension-small _ (whole (c .before) .sized))
+fields-requires c κs = told (c .before) .small
 
 put-offsets-requires : tie.Need-put-offsets-requires
 put-offsets-requires c κs =
     let t = c .before in
-    (omega (arith, t .fields .ensures .1), whole (known t) .two, omega (arith, t .before .if1 .left))
+    (omega (arith, t .fields .ensures .1), told (known t) .whole .two, omega (arith, t .before .if1 .left))
 
 -- the offsets that are stored are the list's
 same-offsets : (l : List ℕ) {c : TrackList} {n f : ℕ} → contents l ≡ answered c → n ≡ length (c .tracks) → f ≡ fields (c .dimension) → (old : List ℕ)
@@ -70,10 +66,10 @@ returns-2 : tie.Need-returns-2
 returns-2 c =
     let t = c .before .before .before .before in
     let s = start-of (known t) in
-    let a = accepted (known t) in
-    let told = sym (known t .before .c .given .1) ∙ known t .before .before .before .check-list .ensures ∙ ap readAnswer (a .1) in
-    both s (answered (a .0)) (placing-fits _ _ (a .1) (omega (arith, a .2, t .before .if1 .left))) told
-    (c .before .before .put-offsets .ensures ∙ same-offsets (now (s .args .list)) (a .1) (a .2) (t .fields .ensures .0 ∙ ap fields (a .3)) (now (s .args .offsets)))
+    let a = told (known t) in
+    let answer = sym (known t .before .c .given .1) ∙ known t .before .before .before .check-list .ensures ∙ ap readAnswer (a .accepted) in
+    both s (answered (a .held)) (placing-fits _ _ (a .accepted) (omega (arith, a .count, t .before .if1 .left))) answer
+    (c .before .before .put-offsets .ensures ∙ same-offsets (now (s .args .list)) (a .accepted) (a .count) (t .fields .ensures .0 ∙ ap fields (a .dimension)) (now (s .args .offsets)))
 
 returns-3 : tie.Need-returns-3
 returns-3 c =

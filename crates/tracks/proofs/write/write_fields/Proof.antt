@@ -37,7 +37,8 @@ room : (c : tie.After-bits-at Inv-loop μ-loop) → c .before .before .loop .at 
 room c =
     let p = patterns (now (c .before .before .before .before .before .args .v)) in
     let k = c .before .before .loop .k in
-    omega (arith, c .before .before .before .before .before .pre, c .before .before .loop .inv .3, ap length (next c), length-append (storedBytes (take k p)) (fieldBytes (c .bits-at .result)), stored-part p (k + 1))
+    let both = length-append (storedBytes (take k p)) (fieldBytes (c .bits-at .result)) in
+    omega (arith, c .before .before .before .before .before .pre, c .before .before .loop .inv .3, ap length (next c), both, stored-part p (k + 1))
 
 write-field-requires : tie.Need-write-field-requires Inv-loop μ-loop
 write-field-requires c κs = omega (arith, room (c .before), c .before .before .before .loop .inv .2)

@@ -20,26 +20,38 @@ use borrow.Author.Needs.{needs}
 use Rattle.tracks.proofs.write.write_list.Statement.{statement}
 use Rattle.tracks.proofs.write.write_list.Tie as tie
 
+-- where it began, from a later place
+abbrev start-of : tie.After-known-told → tie.Start
+start-of c = c .before .before .before .before .before .before
+
+-- what it is to write
+abbrev bits-of : tie.Start → List ℕ
+bits-of c = patterns (now (c .args .values))
+
+abbrev given : tie.Start → Outcome (List ℕ)
+given c = written (c .args .n) (c .args .d) (bits-of c) (length (now (c .args .out)))
+
+abbrev records-of : tie.Start → ℕ → List ℕ
+records-of c f = recordsOf (tracksOf (c .args .n) f (bits-of c))
+
 -- what the answer of `check_write` says
-accepted : (c : tie.After-known-told) → let x = c .before .before .before .before .before .before .args in
-    (l : List ℕ) × (written (x .n) (x .d) (patterns (now (x .values))) (length (now (x .out))) ≡ answered l) × (c .before .c .given .0 .0 ≡ length l)
+accepted : (c : tie.After-known-told) → (l : List ℕ) × (given (start-of c) ≡ answered l) × (c .before .c .given .0 .0 ≡ length l)
 accepted c = write-accepted _ (sym (c .before .before .before .check-write .ensures) ∙ c .before .c .given .1)
 
-listed : (c : tie.After-known-told) → let x = c .before .before .before .before .before .before .args in Listed (x .n) (x .d) (patterns (now (x .values))) (length (now (x .out))) (accepted c .0)
-listed c = let x = c .before .before .before .before .before .before .args in written-met (x .n) (x .d) (patterns (now (x .values))) (length (now (x .out))) (accepted c .1)
+listed : (c : tie.After-known-told) → let x = start-of c .args in Listed (x .n) (x .d) (bits-of (start-of c)) (length (now (x .out))) (accepted c .0)
+listed c = let x = start-of c .args in written-met (x .n) (x .d) (bits-of (start-of c)) (length (now (x .out))) (accepted c .1)
 
-small : (c : tie.After-known-told) → let x = c .before .before .before .before .before .before .args in (x .n ≤ 32) × (x .d ≤ 9)
-small c = let x = c .before .before .before .before .before .before .args in (leb-true (x .n) 32 (listed c .few), dimension-small (x .d) (listed c .sized))
+small : (c : tie.After-known-told) → let x = start-of c .args in (x .n ≤ 32) × (x .d ≤ 9)
+small c = let x = start-of c .args in (leb-true (x .n) 32 (listed c .few), dimension-small (x .d) (listed c .sized))
 
 -- the list is the two bytes and the records
-shape : (c : tie.After-known-told) → let x = c .before .before .before .before .before .before .args in accepted c .0 ≡ x .n ∷ x .d ∷ recordsOf (tracksOf (x .n) (fields (x .d)) (patterns (now (x .values))))
+shape : (c : tie.After-known-told) → let s = start-of c in accepted c .0 ≡ s .args .n ∷ s .args .d ∷ records-of s (fields (s .args .d))
 unfolding listOf tracksOf
 shape c =
-    let x = c .before .before .before .before .before .before .args in
-    let ts = tracksOf (x .n) (fields (x .d)) (patterns (now (x .values))) in
-    listed c .same ∙ ap (λ (k : ℕ). k ∷ x .d ∷ recordsOf ts) (length-tabulate (x .n) _)
+    let s = start-of c in
+    listed c .same ∙ ap (λ (k : ℕ). k ∷ s .args .d ∷ records-of s (fields (s .args .d))) (length-tabulate (s .args .n) _)
 
-room : (c : tie.After-known-told) → let x = c .before .before .before .before .before .before .args in 2 + length (recordsOf (tracksOf (x .n) (fields (x .d)) (patterns (now (x .values))))) ≤ length (now (x .out))
+room : (c : tie.After-known-told) → let s = start-of c in 2 + length (records-of s (fields (s .args .d))) ≤ length (now (s .args .out))
 room c = omega (arith, listed c .fits, ap length (shape c))
 
 cast-out : tie.Need-cast-out
@@ -60,13 +72,12 @@ fields-requires c κs = small c .1
 write-tracks-requires : tie.Need-write-tracks-requires
 write-tracks-requires c κs =
     let t = c .before .before in
-    let x = t .before .before .before .before .before .before .args in
-    let p = patterns (now (x .values)) in
+    let s = start-of t in
     let f = c .before .fields .ensures .0 in (
       omega arith,
       small t .0,
-      omega (arith, length-patterns (now (x .values)), listed t .long, ap (λ (k : ℕ). x .n * k) f),
-      simp length-set (omega (arith, room t, ap (λ (k : ℕ). length (recordsOf (tracksOf (x .n) k p))) f)),
+      omega (arith, length-patterns (now (s .args .values)), listed t .long, ap (λ (k : ℕ). s .args .n * k) f),
+      simp length-set (omega (arith, room t, ap (λ (k : ℕ). length (records-of s k)) f)),
     )
 
 same-length : tie.Need-same-length
@@ -75,19 +86,22 @@ same-length c = c .before .before .write-tracks .kept .1 .1 .1 .0 ∙ simp lengt
 returns : tie.Need-returns
 returns c =
     let t = c .before .before .before .before .before in
-    let x = t .before .before .before .before .before .before .args in
-    let a = accepted t in
-    let rs : ℕ → List ℕ = λ f. recordsOf (tracksOf (x .n) f (patterns (now (x .values)))) in (
+    let f = c .before .before .before .before .fields in
+    let s = start-of t in
+    let x = s .args in
+    let a = accepted t in (
       ap WrittenList.Length (a .2) ∙ sym (ap writeAnswer (a .1)),
-      c .before .before .write-tracks .ensures .1 ∙ over-two (now (x .out)) (x .n) (x .d) (rs (c .before .before .before .before .fields .result)) (omega (arith, room t))
-          ∙ ap (over (now (x .out)) 0) (ap (λ (f : ℕ). x .n ∷ x .d ∷ rs f) (c .before .before .before .before .fields .ensures .0) ∙ sym (shape t)) ∙ sym (ap (λ (o : Outcome (List ℕ)). writeBytes o (now (x .out))) (a .1)),
+      c .before .before .write-tracks .ensures .1
+          ∙ over-two (now (x .out)) (x .n) (x .d) (records-of s (f .result)) (omega (arith, room t))
+          ∙ ap (over (now (x .out)) 0) (ap (λ (k : ℕ). x .n ∷ x .d ∷ records-of s k) (f .ensures .0) ∙ sym (shape t))
+          ∙ sym (ap (λ (o : Outcome (List ℕ)). writeBytes o (now (x .out))) (a .1)),
     )
 
 returns-2 : tie.Need-returns-2
 returns-2 c =
-    let x = c .before .before .before .before .before .before .args in
-    let e = write-refused (written (x .n) (x .d) (patterns (now (x .values))) (length (now (x .out)))) (sym (c .before .before .before .check-write .ensures) ∙ c .before .c2 .given .1) in
-    (sym (ap writeAnswer e), sym (ap (λ (o : Outcome (List ℕ)). writeBytes o (now (x .out))) e))
+    let s = c .before .before .before .before .before .before in
+    let e = write-refused (given s) (sym (c .before .before .before .check-write .ensures) ∙ c .before .c2 .given .1) in
+    (sym (ap writeAnswer e), sym (ap (λ (o : Outcome (List ℕ)). writeBytes o (now (s .args .out))) e))
 
 pub write-list-spec : {M : Type 1} → statement M
 write-list-spec =

@@ -66,7 +66,8 @@ room c =
     let x = c .before .before .before .before .args in
     let i = c .before .loop in
     let p = patterns (now (x .v)) in
-    omega (arith, c .before .before .before .before .pre, i .inv .3, ap length (next c), length-append (recordsOf (tracksOf (i .counter) (x .f) p)) (recordOf (patterns (part c))), records-part (i .counter + 1) (x .n) (x .f) p (omega arith))
+    let both = length-append (recordsOf (tracksOf (i .counter) (x .f) p)) (recordOf (patterns (part c))) in
+    omega (arith, c .before .before .before .before .pre, i .inv .3, ap length (next c), both, records-part (i .counter + 1) (x .n) (x .f) p (omega arith))
 
 write-record-requires : tie.Need-write-record-requires Inv-loop μ-loop
 unfolding part
@@ -89,7 +90,9 @@ loop-again c =
       omega (arith, row-next (x .f) (i .counter)),
       c .before .before .write-record .kept .1 .0 ∙ i .inv .2,
       omega (arith, w .0, i .inv .3, ap length (next t), length-append done more),
-      w .1 ∙ ap (λ (l : List ℕ). over l (i .at) more) (i .inv .4) ∙ over-over (now (x .out)) 2 (i .at) done more (i .inv .3) (omega (arith, room t, i .inv .3)) ∙ ap (over (now (x .out)) 2) (sym (next t)),
+      w .1 ∙ ap (λ (l : List ℕ). over l (i .at) more) (i .inv .4)
+          ∙ over-over (now (x .out)) 2 (i .at) done more (i .inv .3) (omega (arith, room t, i .inv .3))
+          ∙ ap (over (now (x .out)) 2) (sym (next t)),
     )
 
 same-length : tie.Need-same-length Inv-loop μ-loop
