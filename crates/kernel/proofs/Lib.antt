@@ -1,5 +1,6 @@
 pub mod Loops
 pub mod Answers
+pub mod First
 pub mod Lists
 pub mod Whole
 pub mod Doubles

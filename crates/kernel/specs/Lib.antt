@@ -1,5 +1,6 @@
 pub mod Answer
 pub mod Constants
+pub mod First
 pub mod Lists
 pub mod Number
 pub mod Sqrt

@@ -9,10 +9,10 @@ use mathlib.Core.Path.{_≡_, refl, sym, ap, _∙_}
 use borrow.Author.Tests.{eq-eqb, ne-eqb, lt-ltb, le-ltb}
 use lib.Ieee.{Float}
 use Rattle.kernel.specs.Answer.{answered, ask, through}
-use Rattle.dense.specs.Matrix.{nth, at, matrix}
+use Rattle.dense.specs.Matrix.{nth, at, matrix, identity}
 use Rattle.dense.proofs.Laws.{length-matrix, nth-tabulate, by-entries, at-matrix}
 use Rattle.pivoting.specs.Pivot.{rowNorms, someScale, bestOf, swapped, swappedNorms, Stage, pivotAt, pivoted}
-use Rattle.pivoting.specs.Solve.{stepEntry, column, reduced, augmentedEntry, augmented, start, solution, solved, identity, columnOf}
+use Rattle.pivoting.specs.Solve.{stepEntry, column, reduced, augmentedEntry, augmented, start, solution, solved, columnOf}
 use Rattle.pivoting.proofs.Pivots.{pivot-row}
 
 -- Two stages of n rows, with w and v columns, have equal norms and equal first n columns, and column c of the one is column d of the other.

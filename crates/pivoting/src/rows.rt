@@ -7,7 +7,7 @@ ghost use lib.ListN.{length};
 ghost use Rattle.kernel.specs.Number.{sub, mul, div};
 ghost use Rattle.dense.specs.Matrix.{nth, at, matrix};
 ghost use Rattle.kernel.specs.Lists.{tabulate};
-ghost use Rattle.pivoting.specs.Solve.{augmentedEntry, unitEntry};
+ghost use Rattle.pivoting.specs.Solve.{augmentedEntry};
 use dense::shape::entry;
 use dense::vector::copy;
 
