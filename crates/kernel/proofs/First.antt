@@ -53,3 +53,11 @@ module _ (test : ℕ → Bool) where
       go : (k : ℕ) (b : Bool) → test k ≡ b → (j < k → test j ≡ false) → j < cond b k (suc k) → test j ≡ false
       go k true e ih l = ih l
       go k false e ih l = ⊎-elim (λ (s : j ≡ k). ap test s ∙ e) ih (eq-or-lt-of-le (le-of-suc-le-suc l))
+
+-- only the tests below the limit count
+pub first-ext : (n : ℕ) (test other : ℕ → Bool) → ((j : ℕ) → j < n → test j ≡ other j) → firstBelow n test ≡ firstBelow n other
+unfolding firstBelow
+first-ext zero test other h = refl
+first-ext (suc n) test other h =
+    let w = first-within other n in
+    rw (first-ext n test other (λ j l. h j (omega arith)), h (firstBelow n other) (omega arith))

@@ -9,3 +9,6 @@ pub mod Root
 pub mod Signs
 pub mod SquareRoot
 pub mod Existence
+pub mod Sizes
+pub mod Places
+pub mod Order
