@@ -3,3 +3,4 @@ pub mod Answers
 pub mod Laws
 pub mod Signs
 pub mod Matrices
+pub mod Finite

@@ -1,13 +1,13 @@
 -- Vectors and matrices of binary64 numbers as lists, a matrix row by row, and sums by rising index.
 use Prim.Native.Nat.{ℕ, zero, suc, _+_, _*_}
-use mathlib.Core.Bool.{Bool, _&&_, cond}
+use mathlib.Core.Bool.{Bool, true, _&&_, cond}
 use mathlib.Core.List.{List, [], _++_}
 use lib.Dec.{leb, eqb}
 use lib.ListN.{length, getD, take, drop}
 use lib.Ieee.{Float, nan, lt}
-use Rattle.kernel.specs.Constants.{nought}
+use Rattle.kernel.specs.Constants.{nought, one}
 use Rattle.kernel.specs.Lists.{tabulate}
-use Rattle.kernel.specs.Number.{add, abs}
+use Rattle.kernel.specs.Number.{add, abs, finite}
 
 -- x + f 0 + f 1 + .. + f (n - 1), summed from the left
 unfoldable pub sumFrom : Float → ℕ → (ℕ → Float) → Float
@@ -48,11 +48,24 @@ unfolding tabulate
 matrix zero n f = []
 matrix (suc m) n f = matrix m n f ++ tabulate n (f m)
 
+-- entry (i, j) of the identity
+abbrev pub unitEntry : ℕ → ℕ → Float
+unitEntry i j = cond (eqb i j) one nought
+
+-- the n by n identity
+abbrev pub identity : ℕ → List Float
+identity n = matrix n n unitEntry
+
 -- the greatest |entry| among the first n, 0.0 at first: a NaN never raises it
 unfoldable pub maxAbs : List Float → ℕ → Float
 unfolding abs
 maxAbs a zero = nought
 maxAbs a (suc n) = let g = maxAbs a n in cond (lt g (abs (nth a n))) (abs (nth a n)) g
+
+-- questions 3 and 4: the first n entries are finite
+unfoldable pub finiteEntries : List Float → ℕ → Bool
+finiteEntries a zero = true
+finiteEntries a (suc n) = finiteEntries a n && finite (nth a n)
 
 -- question 1: a side is 1 to 16
 unfoldable pub side : ℕ → Bool

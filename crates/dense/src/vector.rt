@@ -4,8 +4,8 @@ ghost use mathlib.Core.Bool.{cond};
 ghost use lib.ListN.{length};
 ghost use lib.Ieee.{lt};
 ghost use Rattle.kernel.specs.Lists.{tabulate};
-ghost use Rattle.kernel.specs.Number.{add, mul, abs};
-ghost use Rattle.dense.specs.Matrix.{nth, total, maxAbs};
+ghost use Rattle.kernel.specs.Number.{add, mul, abs, finite};
+ghost use Rattle.dense.specs.Matrix.{nth, total, maxAbs, finiteEntries};
 
 // Adds s times x to y, entry by entry.
 pub fn add_scaled(s: f64, x: &[f64], n: usize, y: &mut [f64])
@@ -63,4 +63,27 @@ pub fn max_abs(x: &[f64], n: usize) -> f64
         g = raised(g, x[j]);
     }
     g
+}
+
+// Whether x is a number and no infinity.
+pub fn is_finite(x: f64) -> bool
+    ensures { λ r. ⌜ r ≡ finite x ⌝ }
+{
+    if !(x < 1.0 / 0.0) {
+        return false;
+    }
+    -1.0 / 0.0 < x
+}
+
+// Whether the entries of x are finite.
+pub fn are_finite(x: &[f64], n: usize) -> bool
+    requires { ⌜ length (now x) ≡ n ⌝ }
+    ensures { λ r. ⌜ r ≡ finiteEntries (now (x .entry)) n ⌝ }
+{
+    for j in 0..n {
+        if !is_finite(x[j]) {
+            return false;
+        }
+    }
+    true
 }

@@ -17,6 +17,10 @@ one = ofBits binary64 0x3FF0_0000_0000_0000
 abbrev pub two : Float
 two = ofBits binary64 0x4000_0000_0000_0000
 
+-- -1.0
+abbrev pub minusOne : Float
+minusOne = ofBits binary64 0xBFF0_0000_0000_0000
+
 -- `NOLAN_REL_TOL`, 1e-14
 abbrev pub relTol : Float
 relTol = ofBits binary64 0x3D06_849B_86A1_2B9B
@@ -24,6 +28,10 @@ relTol = ofBits binary64 0x3D06_849B_86A1_2B9B
 -- `NOLAN_MIN_SCALE`, 1e-150
 abbrev pub minScale : Float
 minScale = ofBits binary64 0x20CA_2FE7_6A3F_9475
+
+-- 1e150, past which a rotation takes the limit of its tangent
+abbrev pub farTheta : Float
+farTheta = ofBits binary64 0x5F13_8D35_2E50_96AF
 
 -- `f64::MIN_POSITIVE`, the least normal number
 abbrev pub minPositive : Float

@@ -8,9 +8,9 @@ use lib.Ieee.{Float}
 use lib.ListN.{length}
 use Rattle.kernel.specs.Answer.{ask, through}
 use Rattle.kernel.proofs.Lists.{length-tabulate, tabulate-ext}
-use Rattle.dense.specs.Matrix.{side, long}
+use Rattle.dense.specs.Matrix.{unitEntry, identity, side, long}
 use Rattle.dense.proofs.Laws.{at-matrix}
-use Rattle.pivoting.specs.Solve.{solved, unitEntry, identity, unitVector, matSolve, matInv, columnOf}
+use Rattle.pivoting.specs.Solve.{solved, unitVector, matSolve, matInv, columnOf}
 use Rattle.pivoting.proofs.Columns.{solved-column}
 
 identity-column : (n j : ℕ) → j < n → columnOf n n j (identity n) ≡ unitVector n j

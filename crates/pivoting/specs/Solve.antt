@@ -6,8 +6,7 @@ use lib.Dec.{eqb, ltb}
 use lib.Ieee.{Float}
 use Rattle.kernel.specs.Number.{sub, mul, div}
 use Rattle.kernel.specs.Answer.{Outcome, answered, ask, through}
-use Rattle.kernel.specs.Constants.{nought, one}
-use Rattle.dense.specs.Matrix.{at, rowOf, matrix, side, long, maxAbs}
+use Rattle.dense.specs.Matrix.{at, rowOf, matrix, unitEntry, identity, side, long, maxAbs}
 use Rattle.kernel.specs.Lists.{tabulate}
 use Rattle.dense.specs.declared.Written.{Written}
 use Rattle.dense.specs.declared.Written.the-variants as written
@@ -68,14 +67,6 @@ solved a b n r =
     ask 5 (someScale n (rowNorms a n))
     (ask 6 (pivoted n (n + r) (reduced n (n + r) (start a b n r)) n)
     (answered (solution a b n r)))
-
--- entry (i, j) of the identity
-abbrev pub unitEntry : ℕ → ℕ → Float
-unitEntry i j = cond (eqb i j) one nought
-
--- the n by n identity
-abbrev pub identity : ℕ → List Float
-identity n = matrix n n unitEntry
 
 -- unit vector j of n entries: 1.0 at j, 0.0 elsewhere
 abbrev pub unitVector : ℕ → ℕ → List Float

@@ -4,15 +4,16 @@ ghost use Prim.Native.Nat.{_+_, _*_, _<_, _≤_};
 ghost use lib.ListN.{length};
 ghost use Rattle.kernel.specs.Lists.{tabulate};
 ghost use Rattle.dense.specs.Answer.{Leaves, given};
-ghost use Rattle.dense.specs.Matrix.{at, matrix};
+ghost use Rattle.dense.specs.Matrix.{at, matrix, identity};
 ghost use Rattle.linalg.specs.Sums.{difference, quadraticForm};
-ghost use Rattle.pivoting.specs.Solve.{augmentedEntry, augmented, unitEntry, identity, solved, following, distance};
+ghost use Rattle.pivoting.specs.Solve.{augmentedEntry, augmented, solved, following, distance};
 use crate::norms::row_norms;
 use crate::norms::some_scale;
 use crate::reduce::reduce;
 use dense::Number;
 use dense::Written;
 use dense::shape::entry;
+use dense::unit::identity;
 use kernel::question::PIVOT_RATIO;
 use kernel::question::ROW_NORM;
 use linalg::generic::mahalanobis_distance_squared_with_inv;
@@ -109,37 +110,6 @@ pub(crate) fn solve(a: &[f64], b: &[f64], n: usize, r: usize, out: &mut [f64]) -
     let w = n + r;
     let size = n * w;
     solve_in(a, b, n, r, w, &mut m[..size], &mut s[..n], &mut x[..w], out)
-}
-
-// Entry (i, j) of the identity.
-fn unit(i: usize, j: usize) -> f64
-    ensures { λ v. ⌜ v ≡ unitEntry i j ⌝ }
-{
-    if i == j {
-        return 1.0;
-    }
-    0.0
-}
-
-// Writes row i of the n by n identity.
-fn unit_row(n: usize, i: usize, y: &mut [f64])
-    requires { ⌜ length (now y) ≡ n ⌝ }
-    ensures { λ _. ⌜ now (y .exit) ≡ tabulate n (unitEntry i) ⌝ }
-{
-    for j in 0..n {
-        y[j] = unit(i, j);
-    }
-}
-
-// Writes the n by n identity.
-fn identity(n: usize, e: &mut [f64])
-    requires { ⌜ length (now e) ≡ n * n ⌝ }
-    ensures { λ _. ⌜ now (e .exit) ≡ identity n ⌝ }
-{
-    for i in 0..n {
-        let start = i * n;
-        unit_row(n, i, &mut e[start..start + n]);
-    }
 }
 
 // Questions 5 and 6, and then the inverse of a, n by n, into out.

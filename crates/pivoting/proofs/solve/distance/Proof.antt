@@ -9,8 +9,9 @@ use Rattle.kernel.specs.Answer.{Outcome, refused, answered, through}
 use Rattle.dense.specs.declared.Written.{Written}
 use Rattle.dense.specs.Answer.{Leaves, given}
 use Rattle.kernel.specs.Constants.{nought}
+use Rattle.dense.specs.Matrix.{identity}
 use Rattle.linalg.specs.Sums.{difference, quadraticForm}
-use Rattle.pivoting.specs.Solve.{identity, solved, following, distance}
+use Rattle.pivoting.specs.Solve.{solved, following, distance}
 use Rattle.dense.proofs.Matrices.{square-size}
 use native.Mathlib.Omega.{arith}
 use Rattle.pivoting.proofs.solve.distance.Statement.{statement}

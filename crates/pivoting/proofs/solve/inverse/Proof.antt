@@ -4,7 +4,7 @@ use mathlib.Core.Path.{sym, ap, _∙_}
 use lib.ListN.{length}
 use lib.Seq.{length-take-le, length-front}
 use Rattle.dense.proofs.Laws.{length-matrix, front}
-use Rattle.pivoting.specs.Solve.{unitEntry}
+use Rattle.dense.specs.Matrix.{unitEntry}
 use Rattle.dense.proofs.Matrices.{square-size}
 use native.Mathlib.Omega.{arith}
 use Rattle.pivoting.proofs.solve.inverse.Statement.{statement}

@@ -1,12 +1,12 @@
 -- `unit_row` meets its contract: before turn j the entries before j are written.
 use Prim.Native.Nat.{_-_, _≤_}
 use Rattle.dense.specs.Fill.{Filled}
 use Rattle.dense.proofs.Laws.{filled-none, filled-more, filled-all}
-use Rattle.pivoting.specs.Solve.{unitEntry}
+use Rattle.dense.specs.Matrix.{unitEntry}
 use borrow.Author.Needs.{needs}
 use native.Mathlib.Omega.{arith}
-use Rattle.pivoting.proofs.solve.unit_row.Statement.{statement}
-use Rattle.pivoting.proofs.solve.unit_row.Tie as tie
+use Rattle.dense.proofs.unit.unit_row.Statement.{statement}
+use Rattle.dense.proofs.unit.unit_row.Tie as tie
 
 abbrev Inv-loop : tie.InvT-loop
 Inv-loop n i y₀ j₀ y j = (j ≤ n) × Filled (unitEntry i) y₀ j y

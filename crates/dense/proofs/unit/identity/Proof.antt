@@ -1,12 +1,12 @@
 -- `identity` meets its contract: before turn i the rows above row i are written.
 use Prim.Native.Nat.{_+_, _*_, _-_, _≤_}
 use lib.ListN.{length}
 use Rattle.dense.specs.Fill.{FilledRows}
 use Rattle.dense.proofs.Laws.{row-within, length-part, rows-none, rows-more, rows-all}
-use Rattle.pivoting.specs.Solve.{unitEntry}
+use Rattle.dense.specs.Matrix.{unitEntry}
 use native.Mathlib.Omega.{arith}
-use Rattle.pivoting.proofs.solve.identity.Statement.{statement}
-use Rattle.pivoting.proofs.solve.identity.Tie as tie
+use Rattle.dense.proofs.unit.identity.Statement.{statement}
+use Rattle.dense.proofs.unit.identity.Tie as tie
 
 abbrev Inv-loop : tie.InvT-loop
 Inv-loop n e₀ i₀ e i = (i ≤ n) × FilledRows unitEntry n e₀ i e

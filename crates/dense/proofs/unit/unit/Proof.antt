@@ -1,7 +1,7 @@
 -- `unit` meets its contract: on the diagonal, or off it.
 use borrow.Author.Tests.{eq-eqb, ne-eqb}
-use Rattle.pivoting.proofs.solve.unit.Statement.{statement}
-use Rattle.pivoting.proofs.solve.unit.Tie as tie
+use Rattle.dense.proofs.unit.unit.Statement.{statement}
+use Rattle.dense.proofs.unit.unit.Tie as tie
 
 returns : tie.Need-returns
 returns c = simp (eq-eqb _ _ (c .if1 .taken))

@@ -1,0 +1,33 @@
+-- `eigenpairs_in` meets its contract: its five steps are those of the definition.
+use mathlib.Core.Path.{sym, _∙_, subst}
+use borrow.Author.Needs.{needs}
+use Rattle.eigen.specs.Rows.{Symmetric}
+use Rattle.eigen.proofs.Means.{symmetrized-symmetric}
+use Rattle.eigen.proofs.Pairs.{answered-by}
+use Rattle.eigen.proofs.generic.eigenpairs_in.Statement.{statement}
+use Rattle.eigen.proofs.generic.eigenpairs_in.Tie as tie
+
+-- the places on the way
+abbrev symmetric : tie.After-settle-arg2 → tie.After-symmetrize
+symmetric c = c .before .before .before .before .before .before .before .before .before .before
+
+abbrev entered : tie.After-symmetrize → tie.Start
+entered c = c .before .before .before .before .before .before .before .before .before
+
+settle-requires : tie.Need-settle-requires
+settle-requires c κs =
+    let made = symmetric c in
+    let x = entered made in
+    (made .symmetrize .kept .1 .1 .0 ∙ x .pre .2 ∙ x .pre .0, c .before .before .before .before .before .before .identity .kept .1 .0 ∙ x .pre .3 ∙ x .pre .0, subst (Symmetric (x .args .n)) (sym (made .symmetrize .ensures)) (symmetrized-symmetric (x .args .a .now) (x .args .n)))
+
+returns : tie.Need-returns
+returns c =
+    let rest = c .before .before .before .before .before .before .before .before .before .before .before .before .before .before .before .before .before .before .before .before in
+    let made = symmetric rest in
+    let x = entered made .args in
+    answered-by (x .a .now) (x .n) (c .before .before .before .before .before .before .before .before .before .before .before .before .before .before .before .before .before .before .before .settle .last .0) (c .before .before .before .before .before .before .before .before .before .before .before .before .before .before .before .before .before .before .before .settle .last .1 .0) (x .values .now) (x .vectors .now) (made .symmetrize .ensures) (rest .before .before .before .before .before .before .identity .ensures) (rest .before .before .tolerance .ensures) (c .before .before .before .before .before .before .before .before .before .before .before .before .before .before .before .before .before .before .before .settle .ensures) (c .before .before .before .before .before .before .before .before .pairs .ensures)
+
+pub eigenpairs-in-spec : {M : Type 1} → statement M
+eigenpairs-in-spec =
+    tie.close
+    (tie.spec (λ c κs. search needs) (λ c κs. search needs) (λ c κs. search needs) settle-requires (λ c κs. search needs) (λ c. search needs) (λ c. search needs) (λ c. search needs) (λ c. search needs) (λ c. search needs) (λ c. search needs) returns)

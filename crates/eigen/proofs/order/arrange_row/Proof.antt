@@ -1,0 +1,38 @@
+-- `arrange_row` meets its contract: before turn k the entries before k are written.
+use Prim.Native.Nat.{_-_, _≤_}
+use native.Mathlib.Omega.{arith}
+use Rattle.dense.specs.Matrix.{at}
+use Rattle.dense.specs.Fill.{Filled}
+use Rattle.dense.proofs.Laws.{cell, filled-none, filled-more, filled-all}
+use Rattle.eigen.specs.Eigen.{place}
+use Rattle.eigen.specs.Rows.{Below}
+use Rattle.eigen.proofs.order.arrange_row.Statement.{statement}
+use Rattle.eigen.proofs.order.arrange_row.Tie as tie
+
+abbrev Inv-loop : tie.InvT-loop
+Inv-loop v l n i y₀ k₀ y k = (k ≤ n) × Filled (λ j. at v n (place l j) i) y₀ k y
+
+abbrev μ-loop : tie.MeasureT-loop
+μ-loop v l n i y₀ k₀ y k = n - k
+
+loop-holds : tie.Need-loop-holds Inv-loop μ-loop
+loop-holds c = (omega arith, filled-none _ _)
+
+entry-requires : tie.Need-entry-requires Inv-loop μ-loop
+unfolding Below
+entry-requires c κs =
+    let x = c .before .before .before .before .before .before in
+    let k = c .before .before .loop .k in
+    omega (arith, cell (x .args .n) (x .args .n) {i = place (x .args .l .now) k} {j = x .args .i} (x .pre .3 k (omega arith)) (x .pre .0))
+
+loop-again : tie.Need-loop-again Inv-loop μ-loop
+loop-again c = (omega arith, filled-more _ (c .before .before .before .loop .k) (omega arith) (c .entry .ensures) (c .before .before .before .loop .inv .1))
+
+same-length : tie.Need-same-length Inv-loop μ-loop
+same-length c = c .before .loop .inv .1 .size
+
+returns : tie.Need-returns Inv-loop μ-loop
+returns c = filled-all _ (c .before .before .before .before .before .pre .4) (c .loop-test .left) (c .before .loop .inv .1)
+
+pub arrange-row-spec : {M : Type 1} → statement M
+arrange-row-spec = tie.close (tie.spec Inv-loop μ-loop loop-holds (λ c. omega arith) (λ c. omega arith) entry-requires (λ c. omega arith) (λ c. omega arith) (λ c. omega arith) (λ c. omega arith) loop-again same-length returns)

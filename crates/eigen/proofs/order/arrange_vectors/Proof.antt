@@ -1,0 +1,40 @@
+-- `arrange_vectors` meets its contract: before turn i the rows above row i are written.
+use Prim.Native.Nat.{_+_, _*_, _-_, _≤_}
+use native.Mathlib.Omega.{arith}
+use lib.ListN.{length}
+use Rattle.dense.specs.Matrix.{at}
+use Rattle.dense.specs.Fill.{FilledRows}
+use Rattle.dense.proofs.Laws.{row-within, length-part, rows-none, rows-more, rows-all}
+use Rattle.eigen.specs.Eigen.{place}
+use Rattle.eigen.proofs.order.arrange_vectors.Statement.{statement}
+use Rattle.eigen.proofs.order.arrange_vectors.Tie as tie
+
+abbrev Inv-loop : tie.InvT-loop
+Inv-loop v l n out₀ i₀ out i = (i ≤ n) × FilledRows (λ j k. at v n (place l k) j) n out₀ i out
+
+abbrev μ-loop : tie.MeasureT-loop
+μ-loop v l n out₀ i₀ out i = n - i
+
+-- row i lies within the slice
+within : (c : tie.In-loop Inv-loop μ-loop) → c .before .loop .i * c .before .before .before .before .before .args .n + c .before .before .before .before .before .args .n ≤ length (c .before .loop .out)
+within c = omega (arith, row-within (c .before .before .before .before .before .args .n) (c .before .before .before .before .before .args .n) {i = c .before .loop .i} (omega arith))
+
+loop-holds : tie.Need-loop-holds Inv-loop μ-loop
+loop-holds c = (omega arith, rows-none _ _ _)
+
+arrange-row-requires : tie.Need-arrange-row-requires Inv-loop μ-loop
+arrange-row-requires c κs = (omega arith, c .before .before .before .before .before .before .pre .0, c .before .before .before .before .before .before .pre .1, c .before .before .before .before .before .before .pre .2, length-part (c .before .before .loop .out) (c .before .before .before .before .before .before .args .n) (c .before .before .loop .i) (within (c .before)))
+
+loop-again : tie.Need-loop-again Inv-loop μ-loop
+loop-again c = (omega arith, rows-more _ (c .before .before .before .before .before .before .before .before .before .args .n) (c .before .before .before .before .before .loop .i) (within (c .before .before .before .before)) (c .before .before .arrange-row .ensures) (c .before .before .before .before .before .loop .inv .1))
+
+same-length : tie.Need-same-length Inv-loop μ-loop
+same-length c = c .before .loop .inv .1 .size
+
+returns : tie.Need-returns Inv-loop μ-loop
+returns c = rows-all _ _ _ (c .before .before .before .before .before .pre .3) (c .before .loop .inv .0) (c .loop-test .left) (c .before .loop .inv .1)
+
+pub arrange-vectors-spec : {M : Type 1} → statement M
+arrange-vectors-spec =
+    tie.close
+    (tie.spec Inv-loop μ-loop loop-holds (λ c. omega (arith, within c)) (λ c. omega (arith, within c)) (λ c. omega (arith, within c)) (λ c. omega arith) (λ c. omega arith) (λ c. omega (arith, within c)) arrange-row-requires (λ c. omega arith) (λ c. omega arith) loop-again same-length returns)

@@ -1,0 +1,43 @@
+-- `mirror` meets its contract: before turn i the rows above row i have the copy.
+use Prim.Native.Nat.{_+_, _*_, _-_, _<_, _≤_}
+use native.Mathlib.Omega.{arith}
+use mathlib.Core.Path.{sym, _∙_}
+use lib.ListN.{length}
+use Rattle.dense.proofs.Laws.{cell}
+use Rattle.eigen.proofs.Cells.{Cells}
+use Rattle.eigen.proofs.Rotations.{mirroredTo, mirror-none, mirror-next, mirror-more, mirror-all}
+use Rattle.eigen.proofs.rotate.mirror.Statement.{statement}
+use Rattle.eigen.proofs.rotate.mirror.Tie as tie
+
+abbrev Inv-loop : tie.InvT-loop
+Inv-loop m₀ n p i₀ m i = (i ≤ n) × Cells n (mirroredTo n p m₀ i) m
+
+abbrev μ-loop : tie.MeasureT-loop
+μ-loop m₀ n p i₀ m i = n - i
+
+loop-holds : tie.Need-loop-holds Inv-loop μ-loop
+loop-holds c = (omega arith, mirror-none _ _ _ (c .before .pre .0) (c .before .pre .1))
+
+entry-requires : tie.Need-entry-requires Inv-loop μ-loop
+entry-requires c κs =
+    let x = c .before .before .before .before .args in
+    omega (arith, cell (x .n) (x .n) {i = x .p} {j = c .before .before .loop .i} (omega arith) (omega arith), c .before .before .loop .inv .1 .size)
+
+put-requires : tie.Need-put-requires Inv-loop μ-loop
+put-requires c κs = (omega arith, c .before .before .before .before .before .before .pre .0, c .before .before .before .before .loop .inv .1 .size)
+
+loop-again : tie.Need-loop-again Inv-loop μ-loop
+loop-again c =
+    let turn = c .before .before .before .before .before .before .before .loop in
+    let x = c .before .before .before .before .before .before .before .before .before .args in
+    let more = mirror-more (x .n) (x .p) (x .m .now) (c .before .before .before .before .before .before .before .before .before .pre .0) (turn .i) (omega arith) (c .before .before .before .before .entry .ensures ∙ mirror-next (x .n) (x .p) (x .m .now) (c .before .before .before .before .before .before .before .before .before .pre .0) (turn .i) (omega arith) (turn .inv .1)) (turn .inv .1) in
+    (omega arith, rw (c .before .before .put .ensures) more)
+
+same-length : tie.Need-same-length Inv-loop μ-loop
+same-length c = c .before .loop .inv .1 .size ∙ sym (c .before .before .before .pre .1)
+
+returns : tie.Need-returns Inv-loop μ-loop
+returns c = mirror-all _ _ _ (c .before .before .before .pre .0) (c .before .loop .i) (c .loop-test .left) (c .before .loop .inv .1)
+
+pub mirror-spec : {M : Type 1} → statement M
+mirror-spec = tie.close (tie.spec Inv-loop μ-loop loop-holds entry-requires put-requires (λ c. omega arith) (λ c. omega arith) loop-again same-length returns)

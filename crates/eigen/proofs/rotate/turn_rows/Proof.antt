@@ -1,0 +1,52 @@
+-- `turn_rows` meets its contract: before turn j the entries before column j are turned.
+use Prim.Native.Nat.{_+_, _*_, _-_, _<_, _≤_}
+use native.Mathlib.Omega.{arith}
+use mathlib.Core.Path.{sym, _∙_}
+use lib.ListN.{length}
+use Rattle.dense.proofs.Laws.{cell}
+use Rattle.eigen.proofs.Cells.{Cells}
+use Rattle.eigen.proofs.Rotations.{turnedTo, turn-none, turn-next, turn-more, turn-all}
+use Rattle.eigen.proofs.rotate.turn_rows.Statement.{statement}
+use Rattle.eigen.proofs.rotate.turn_rows.Tie as tie
+
+abbrev Inv-loop : tie.InvT-loop
+Inv-loop m₀ n p q g j₀ m j = (j ≤ n) × Cells n (turnedTo g n p q m₀ j) m
+
+abbrev μ-loop : tie.MeasureT-loop
+μ-loop m₀ n p q g j₀ m j = n - j
+
+loop-holds : tie.Need-loop-holds Inv-loop μ-loop
+loop-holds c = (omega arith, turn-none _ _ _ _ _ (c .before .pre .0) (c .before .pre .1) (c .before .pre .2))
+
+entry-requires : tie.Need-entry-requires Inv-loop μ-loop
+entry-requires c κs =
+    let x = c .before .before .before .before .args in
+    omega (arith, cell (x .n) (x .n) {i = x .p} {j = c .before .before .loop .j} (omega arith) (omega arith), c .before .before .loop .inv .1 .size)
+
+entry-requires-2 : tie.Need-entry-requires-2 Inv-loop μ-loop
+entry-requires-2 c κs =
+    let x = c .before .before .before .before .before .before .args in
+    omega (arith, cell (x .n) (x .n) {i = x .q} {j = c .before .before .before .before .loop .j} (omega arith) (omega arith), c .before .before .before .before .loop .inv .1 .size)
+
+put-requires : tie.Need-put-requires Inv-loop μ-loop
+put-requires c κs = (omega arith, omega arith, c .before .before .before .before .before .before .before .before .loop .inv .1 .size)
+
+put-requires-2 : tie.Need-put-requires-2 Inv-loop μ-loop
+put-requires-2 c κs = (omega arith, omega arith, c .before .before .before .before .before .put .kept .0 ∙ c .before .before .before .before .before .before .before .before .before .before .before .before .before .before .loop .inv .1 .size)
+
+loop-again : tie.Need-loop-again Inv-loop μ-loop
+loop-again c =
+    let turn = c .before .before .before .before .before .before .before .before .before .before .before .before .before .before .before .before .before .loop in
+    let x = c .before .before .before .before .before .before .before .before .before .before .before .before .before .before .before .before .before .before .before .args in
+    let at-p = c .before .before .before .before .before .before .before .before .before .before .before .before .before .before .entry .ensures ∙ turn-next (x .g) (x .n) (x .p) (x .q) (x .m .now) (turn .j) (x .p) (omega arith) (omega arith) (turn .inv .1) in
+    let at-q = c .before .before .before .before .before .before .before .before .before .before .before .before .entry2 .ensures ∙ turn-next (x .g) (x .n) (x .p) (x .q) (x .m .now) (turn .j) (x .q) (omega arith) (omega arith) (turn .inv .1) in
+    (omega arith, rw (c .before .before .put2 .ensures, c .before .before .before .before .before .before .before .before .put .ensures) (turn-more (x .g) (x .n) (x .p) (x .q) (x .m .now) (c .before .before .before .before .before .before .before .before .before .before .before .before .before .before .before .before .before .before .before .pre .0) (c .before .before .before .before .before .before .before .before .before .before .before .before .before .before .before .before .before .before .before .pre .1) (turn .j) (omega arith) at-p at-q (turn .inv .1)))
+
+same-length : tie.Need-same-length Inv-loop μ-loop
+same-length c = c .before .loop .inv .1 .size ∙ sym (c .before .before .before .pre .2)
+
+returns : tie.Need-returns Inv-loop μ-loop
+returns c = turn-all _ _ _ _ _ (c .before .before .before .pre .0) (c .before .before .before .pre .1) (c .before .loop .j) (c .loop-test .left) (c .before .loop .inv .1)
+
+pub turn-rows-spec : {M : Type 1} → statement M
+turn-rows-spec = tie.close (tie.spec Inv-loop μ-loop loop-holds entry-requires entry-requires-2 put-requires put-requires-2 (λ c. omega arith) (λ c. omega arith) loop-again same-length returns)

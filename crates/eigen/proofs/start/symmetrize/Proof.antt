@@ -1,0 +1,39 @@
+-- `symmetrize` meets its contract: before turn i the rows above row i are written.
+use Prim.Native.Nat.{_+_, _*_, _-_, _≤_}
+use native.Mathlib.Omega.{arith}
+use lib.ListN.{length}
+use Rattle.dense.specs.Fill.{FilledRows}
+use Rattle.dense.proofs.Laws.{row-within, length-part, rows-none, rows-more, rows-all}
+use Rattle.eigen.specs.Eigen.{symmetrizedEntry}
+use Rattle.eigen.proofs.start.symmetrize.Statement.{statement}
+use Rattle.eigen.proofs.start.symmetrize.Tie as tie
+
+abbrev Inv-loop : tie.InvT-loop
+Inv-loop a n m₀ i₀ m i = (i ≤ n) × FilledRows (symmetrizedEntry a n) n m₀ i m
+
+abbrev μ-loop : tie.MeasureT-loop
+μ-loop a n m₀ i₀ m i = n - i
+
+-- row i lies within the slice
+within : (c : tie.In-loop Inv-loop μ-loop) → c .before .loop .i * c .before .before .before .before .args .n + c .before .before .before .before .args .n ≤ length (c .before .loop .m)
+within c = omega (arith, row-within (c .before .before .before .before .args .n) (c .before .before .before .before .args .n) {i = c .before .loop .i} (omega arith))
+
+loop-holds : tie.Need-loop-holds Inv-loop μ-loop
+loop-holds c = (omega arith, rows-none _ _ _)
+
+mean-row-requires : tie.Need-mean-row-requires Inv-loop μ-loop
+mean-row-requires c κs = (omega arith, omega arith, length-part (c .before .before .loop .m) (c .before .before .before .before .before .args .n) (c .before .before .loop .i) (within (c .before)))
+
+loop-again : tie.Need-loop-again Inv-loop μ-loop
+loop-again c = (omega arith, rows-more _ (c .before .before .before .before .before .before .before .before .args .n) (c .before .before .before .before .before .loop .i) (within (c .before .before .before .before)) (c .before .before .mean-row .ensures) (c .before .before .before .before .before .loop .inv .1))
+
+same-length : tie.Need-same-length Inv-loop μ-loop
+same-length c = c .before .loop .inv .1 .size
+
+returns : tie.Need-returns Inv-loop μ-loop
+returns c = rows-all _ _ _ (omega arith) (c .before .loop .inv .0) (c .loop-test .left) (c .before .loop .inv .1)
+
+pub symmetrize-spec : {M : Type 1} → statement M
+symmetrize-spec =
+    tie.close
+    (tie.spec Inv-loop μ-loop loop-holds (λ c. omega (arith, within c)) (λ c. omega (arith, within c)) (λ c. omega (arith, within c)) (λ c. omega arith) (λ c. omega arith) (λ c. omega (arith, within c)) mean-row-requires (λ c. omega arith) (λ c. omega arith) loop-again same-length returns)
