@@ -44,6 +44,9 @@ uint32_t pel_mat_inv(const double *a, size_t a_len, size_t n, double *out, size_
 uint32_t pel_mat_det(const double *a, size_t a_len, size_t n, double *out);
 uint32_t pel_mahalanobis_distance_squared(const double *x, size_t x_len, const double *mu, size_t mu_len,
                                           const double *cov, size_t cov_len, size_t n, double *out);
+/* Eigenvalues in descending order, and their vectors in the columns of the second. */
+uint32_t pel_mat_symmetric_eigen(const double *a, size_t a_len, size_t n, double *values, size_t values_len,
+                                 double *vectors, size_t vectors_len);
 uint32_t pel_mat3_det(const double *m, size_t m_len, double *out);
 uint32_t pel_mat3_inv(const double *m, size_t m_len, double *out, size_t out_len);
 uint32_t pel_mat3_solve(const double *a, size_t a_len, const double *b, size_t b_len, double *out, size_t out_len);

@@ -5,7 +5,10 @@ use crate::rng::Rng;
 /// Fills a matrix of `cols` columns, row by row.
 pub type Class = fn(&mut Rng, usize, &mut [f64]);
 
-pub const CLASSES: &[(&str, Class)] = &[
+/// A class with its name.
+pub type Named = (&'static str, Class);
+
+pub const CLASSES: &[Named] = &[
     ("random", random),
     ("whole", whole),
     ("definite", definite),

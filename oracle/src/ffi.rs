@@ -57,6 +57,16 @@ extern "C" {
     fn pel_mat3_inv(m: *const f64, m_len: usize, out: *mut f64, out_len: usize) -> u32;
     fn pel_mat3_solve(a: *const f64, a_len: usize, b: *const f64, b_len: usize, out: *mut f64, out_len: usize) -> u32;
 
+    fn pel_mat_symmetric_eigen(
+        a: *const f64,
+        a_len: usize,
+        n: usize,
+        values: *mut f64,
+        values_len: usize,
+        vectors: *mut f64,
+        vectors_len: usize,
+    ) -> u32;
+
     fn pel_row_inf_norms(a: *const f64, a_len: usize, n: usize, out: *mut f64, out_len: usize) -> u32;
     fn pel_mat_solve(
         a: *const f64,
@@ -197,6 +207,20 @@ pub fn mat3_inv(m: &[f64], out: &mut [f64]) -> u32 {
 
 pub fn mat3_solve(a: &[f64], b: &[f64], out: &mut [f64]) -> u32 {
     unsafe { pel_mat3_solve(a.as_ptr(), a.len(), b.as_ptr(), b.len(), out.as_mut_ptr(), out.len()) }
+}
+
+pub fn mat_symmetric_eigen(a: &[f64], n: usize, values: &mut [f64], vectors: &mut [f64]) -> u32 {
+    unsafe {
+        pel_mat_symmetric_eigen(
+            a.as_ptr(),
+            a.len(),
+            n,
+            values.as_mut_ptr(),
+            values.len(),
+            vectors.as_mut_ptr(),
+            vectors.len(),
+        )
+    }
 }
 
 pub fn row_inf_norms(a: &[f64], n: usize, out: &mut [f64]) -> u32 {

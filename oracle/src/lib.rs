@@ -5,5 +5,6 @@ pub mod lists;
 pub mod matrix;
 pub mod number;
 pub mod rng;
+pub mod symmetric;
 pub mod tally;
 pub mod vectors;

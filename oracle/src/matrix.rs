@@ -1,8 +1,9 @@
 //! The kernel's matrix calls beside the source's functions.
-use crate::classes::CLASSES;
+use crate::classes::{Class, Named, CLASSES};
 use crate::ffi;
 use crate::number::{sample, special};
 use crate::rng::Rng;
+use crate::symmetric::SYMMETRIC;
 use crate::tally::{same, Tally};
 use nolan::flat::{at, Given, Theirs, PRODUCT_SIDES};
 
@@ -258,6 +259,21 @@ pub const CALLS: &[Call] = &[
     },
 ];
 
+/// The calls that rotate, which are compared on symmetric matrices too.
+const ROTATING: &[Call] = &[Call {
+    name: "mat_symmetric_eigen",
+    sides: one_side,
+    reads: square,
+    // The eigenvalues, and after them the vectors.
+    writes: |s| s[0] + s[0] * s[0],
+    single: false,
+    ours: |g, s, out| {
+        let (values, vectors) = out.split_at_mut(s[0].min(out.len()));
+        ffi::mat_symmetric_eigen(g.slices[0], s[0], values, vectors)
+    },
+    theirs: at::mat_symmetric_eigen,
+}];
+
 /// The lent result stands between two stretches of this length, which no call may touch.
 const GUARD: usize = 4;
 
@@ -278,7 +294,7 @@ fn compare(
     wanted: (u32, &[f64]),
     class: &str,
 ) {
-    let mut memory = [0.0; 2 * GUARD + 16 * 16 + 16];
+    let mut memory = [0.0; 2 * GUARD + 16 * 16 + 16 + 16];
     mark(&mut memory);
     let before = memory;
     let number = (call.ours)(given, sides, &mut memory[GUARD..GUARD + length]);
@@ -305,14 +321,14 @@ fn compare(
 }
 
 /// The slices and the number of a case of a class.
-pub fn draw(rng: &mut Rng, class: usize, shapes: &[(usize, usize)]) -> (Vec<Vec<f64>>, f64) {
+pub fn draw(rng: &mut Rng, fill: Class, shapes: &[(usize, usize)]) -> (Vec<Vec<f64>>, f64) {
     let slices = shapes
         .iter()
         .map(|(rows, cols)| {
             let mut m = vec![0.0; rows * cols];
             // A slice beside the first is at times an ordinary one.
-            let class = if rng.below(8) == 0 { 0 } else { class };
-            (CLASSES[class].1)(rng, *cols, &mut m);
+            let fill = if rng.below(8) == 0 { CLASSES[0].1 } else { fill };
+            fill(rng, *cols, &mut m);
             m
         })
         .collect();
@@ -322,18 +338,18 @@ pub fn draw(rng: &mut Rng, class: usize, shapes: &[(usize, usize)]) -> (Vec<Vec<
 }
 
 /// Cases of every class at these sides.
-fn answers(call: &Call, tally: &mut Tally, rng: &mut Rng, sides: &[usize], count: usize) {
+fn answers(call: &Call, tally: &mut Tally, rng: &mut Rng, classes: &[Named], sides: &[usize], count: usize) {
     let shapes = (call.reads)(sides);
     let length = (call.writes)(sides);
     let theirs = (call.theirs)(sides);
     let mut result = vec![0.0; length];
-    for class in 0..CLASSES.len() {
+    for (name, fill) in classes {
         for _ in 0..count {
-            let (slices, number) = draw(rng, class, &shapes);
+            let (slices, number) = draw(rng, *fill, &shapes);
             let slices: Vec<&[f64]> = slices.iter().map(Vec::as_slice).collect();
             let given = Given { slices: &slices, number };
             let wanted = theirs(&given, &mut result);
-            compare(call, tally, &given, sides, length, (wanted, &result), CLASSES[class].0);
+            compare(call, tally, &given, sides, length, (wanted, &result), name);
         }
     }
 }
@@ -391,20 +407,23 @@ fn refusals(call: &Call, tally: &mut Tally, rng: &mut Rng, sides: &[usize]) {
     }
 }
 
+/// Compares a call on matrices of these classes at all its sides, and answers the number of differences.
+fn run_call(call: &Call, classes: &[Named], long: bool) -> u64 {
+    let all = (call.sides)();
+    // So many of each class at each of the call's sides.
+    let count = if long { 2_000 } else { (6_000 / all.len()).max(12) };
+    let mut tally = Tally::new(call.name);
+    let mut rng = Rng::new(5);
+    for sides in &all {
+        answers(call, &mut tally, &mut rng, classes, sides, count);
+        refusals(call, &mut tally, &mut rng, sides);
+    }
+    tally.close()
+}
+
 /// Runs every call, and answers the number of differences.
 pub fn run(long: bool) -> u64 {
-    let mut differences = 0;
-    for call in CALLS {
-        let all = (call.sides)();
-        // So many of each class at each of the call's sides.
-        let count = if long { 2_000 } else { (6_000 / all.len()).max(12) };
-        let mut tally = Tally::new(call.name);
-        let mut rng = Rng::new(5);
-        for sides in &all {
-            answers(call, &mut tally, &mut rng, sides, count);
-            refusals(call, &mut tally, &mut rng, sides);
-        }
-        differences += tally.close();
-    }
-    differences
+    let rotating = [CLASSES, SYMMETRIC].concat();
+    let plain: u64 = CALLS.iter().map(|call| run_call(call, CLASSES, long)).sum();
+    plain + ROTATING.iter().map(|call| run_call(call, &rotating, long)).sum::<u64>()
 }

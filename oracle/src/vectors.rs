@@ -104,7 +104,7 @@ fn matrices() {
             let largest = sides.iter().copied().max().unwrap_or(3);
             let classes = (0..CLASSES.len()).filter(|class| largest <= 4 || *class == largest % 5);
             for class in classes {
-                let (slices, number) = draw(&mut rng, class, &shapes);
+                let (slices, number) = draw(&mut rng, CLASSES[class].1, &shapes);
                 let slices: Vec<&[f64]> = slices.iter().map(Vec::as_slice).collect();
                 let given = Given { slices: &slices, number };
                 let mut result = vec![BEFORE; (call.writes)(&sides)];

@@ -7,11 +7,12 @@ use Rattle.kernel.specs.Answer.{Outcome, refused, answered}
 use Rattle.dense.specs.declared.Written.{Written}
 use Rattle.dense.specs.declared.Number.{Number}
 use Rattle.dense.specs.Answer.{after, Leaves, given}
+use Rattle.eigen.specs.Eigen.{Eigenpairs, afterPairs}
 use Rattle.tracks.specs.declared.read.ReadList.{ReadList}
 use Rattle.tracks.specs.declared.write.WrittenList.{WrittenList}
 use Rattle.tracks.specs.Read.{TrackList}
 use Rattle.tracks.specs.Calls.{readAnswer, writeAnswer}
-use Rattle.capi.specs.Told.{told, Tells, code, entered, toldRead, enteredRead, toldWritten, enteredLength}
+use Rattle.capi.specs.Told.{told, Tells, code, pairs, entered, toldRead, enteredRead, toldWritten, enteredLength}
 
 after-told : (outcome : Outcome (List Float)) (old : List Float) → (code (after outcome old .0), after outcome old .1) ≡ told outcome old
 after-told (refused k) old = refl
@@ -21,6 +22,20 @@ after-told (answered v) old = refl
 pub leaves-tells : (outcome : Outcome (List Float)) (old new : List Float) (answer : Written) (r : ℕ) → r ≡ code answer → Leaves outcome old answer new → Tells outcome old r new
 unfolding Tells
 leaves-tells outcome old new answer r h l = ap (λ (n : ℕ). (n, new)) h ∙ ap (λ (p : Written × List Float). (code (p .0), p .1)) l ∙ after-told outcome old
+
+pairs-told : (outcome : Outcome Eigenpairs) (values vectors : List Float)
+    → let p = afterPairs outcome values vectors in (code (p .0), pairs (p .1) (p .2)) ≡ told outcome (pairs values vectors)
+pairs-told (refused k) values vectors = refl
+pairs-told (answered e) values vectors = refl
+
+-- a call that writes eigenpairs
+pub pairs-tell : (outcome : Outcome Eigenpairs) (values vectors newValues newVectors : List Float) (answer : Written) (r : ℕ)
+    → r ≡ code answer → (answer, newValues, newVectors) ≡ afterPairs outcome values vectors → Tells outcome (pairs values vectors) r (pairs newValues newVectors)
+unfolding Tells
+pairs-tell outcome values vectors newValues newVectors answer r h l =
+    ap (λ (n : ℕ). (n, pairs newValues newVectors)) h
+    ∙ ap (λ (p : Written × List Float × List Float). (code (p .0), pairs (p .1) (p .2))) l
+    ∙ pairs-told outcome values vectors
 
 entered-told : (outcome : Outcome Float) (old : Float) → entered (given outcome) old ≡ told outcome old
 entered-told (refused k) old = refl

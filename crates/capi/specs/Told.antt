@@ -9,6 +9,7 @@ use Rattle.dense.specs.declared.Written.{Written}
 use Rattle.dense.specs.declared.Written.the-variants as written
 use Rattle.dense.specs.declared.Number.{Number}
 use Rattle.dense.specs.declared.Number.the-variants as number
+use Rattle.eigen.specs.Eigen.{Eigenpairs}
 use Rattle.tracks.specs.Read.{TrackList}
 use Rattle.tracks.specs.declared.read.ReadList.{ReadList}
 use Rattle.tracks.specs.declared.read.ReadList.the-variants as read
@@ -33,6 +34,10 @@ code (written.Refused k) = k
 abbrev pub entered : Number → Float → ℕ × Float
 entered (number.Value x) old = (0, x)
 entered (number.Refused k) old = (k, old)
+
+-- Two slices that hold eigenvalues and eigenvectors.
+abbrev pub pairs : List Float → List Float → Eigenpairs
+pairs values vectors = record { values = values; vectors = vectors }
 
 -- Of a list that is read: the code, and the count and the dimension afterwards.
 unfoldable pub toldRead : Outcome TrackList → ℕ → ℕ → ℕ × (ℕ × ℕ)

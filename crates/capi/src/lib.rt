@@ -1,4 +1,5 @@
 // The calls for C and Rust, under names that begin with pel_ and declared in include/pelosumba.h: thin, each with its call's own contract.
+pub mod eigenpairs;
 pub mod lists;
 pub mod matrices;
 pub mod numbers;

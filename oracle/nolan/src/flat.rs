@@ -66,6 +66,15 @@ fn unsolved<const N: usize>(a: &[f64]) -> u32 {
     }
 }
 
+/// The eigenvalues, and after them the vectors.
+fn eigen<const N: usize>(g: &Given, out: &mut [f64]) -> u32 {
+    generic::mat_symmetric_eigen::<N>(matrix(g.slices[0])).map_or(4, |(values, vectors)| {
+        let (front, rest) = out.split_at_mut(N);
+        front.copy_from_slice(&values);
+        answer(rest, vectors.as_flattened())
+    })
+}
+
 theirs!(norms<N> g => [generic::row_inf_norms::<f64, N>(matrix(g.slices[0]))]);
 theirs!(det<N> g => [[generic::mat_det::<N>(matrix(g.slices[0]))]]);
 
@@ -237,6 +246,10 @@ pub mod at {
 
     pub fn tikhonov(s: &[usize]) -> Theirs {
         orders!(damped)[s[0] - 1]
+    }
+
+    pub fn mat_symmetric_eigen(s: &[usize]) -> Theirs {
+        orders!(eigen)[s[0] - 1]
     }
 
     pub fn row_inf_norms(s: &[usize]) -> Theirs {
