@@ -8,7 +8,6 @@ use Rattle.kernel.specs.Answer.{Outcome, refused, answered}
 use Rattle.kernel.specs.Lists.{over, tabulate}
 use Rattle.tracks.specs.Read.{TrackList}
 use Rattle.tracks.specs.Record.{offset, placing}
-use Rattle.tracks.specs.declared.read.Checked.the-variants.{Refused}
 use Rattle.tracks.specs.declared.read.ReadList.{ReadList}
 use Rattle.tracks.specs.declared.read.ReadList.the-variants as ReadList
 use Rattle.tracks.specs.declared.write.WrittenList.{WrittenList}
