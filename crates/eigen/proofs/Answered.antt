@@ -29,7 +29,7 @@ final a n = settled n (tolerance (begun a n .entries) n) (begun a n)
 abbrev pub eigenvalues : List Float → ℕ → List Float
 eigenvalues a n = diagonal (final a n .entries) n
 
-eigenpairs-final : (a : List Float) (n : ℕ) → eigenpairs a n ≡ pairsOf n (final a n)
+pub eigenpairs-final : (a : List Float) (n : ℕ) → eigenpairs a n ≡ pairsOf n (final a n)
 unfolding eigenpairs
 eigenpairs-final a n = refl
 

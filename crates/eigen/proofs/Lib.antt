@@ -7,3 +7,4 @@ pub mod Pairs
 pub mod Sorting
 pub mod Stability
 pub mod Answered
+pub mod Zero
