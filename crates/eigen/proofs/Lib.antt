@@ -4,3 +4,7 @@ pub mod Sweeps
 pub mod Means
 pub mod Orders
 pub mod Pairs
+pub mod Sorting
+pub mod Stability
+pub mod Answered
+pub mod Zero

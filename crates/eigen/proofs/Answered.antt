@@ -1,0 +1,69 @@
+-- What an answered call says. `eigen-arranged`: its values and vectors are the diagonal and the columns of the settled state, in their order. `eigen-descends`: no later
+-- eigenvalue is greater. `eigen-stable`: the order is a permutation, in which equal eigenvalues keep their places.
+use Prim.Native.Nat.{ℕ, _*_, _<_}
+use native.Mathlib.Omega.{arith}
+use mathlib.Core.Bool.{true, false, not, _&&_}
+use mathlib.Core.List.{List}
+use mathlib.Core.Path.{_≡_, refl, sym, ap, _∙_, subst}
+use lib.Dec.{T}
+use lib.Ieee.{Float, nan, inf, fin, lt, isNan}
+use Rattle.kernel.specs.Answer.{answered, ask}
+use Rattle.kernel.specs.Lists.{tabulate}
+use Rattle.kernel.specs.Number.{finite}
+use Rattle.kernel.proofs.Answers.{ask-met, answered-inj}
+use Rattle.dense.specs.Matrix.{nth, side, long, finiteEntries}
+use Rattle.dense.proofs.Finite.{finite-entry}
+use Rattle.dense.proofs.Tests.{never}
+use Rattle.dense.proofs.Laws.{nth-tabulate}
+use Rattle.eigen.specs.Rotation.{State}
+use Rattle.eigen.specs.Eigen.{place, order, diagonal, arranged, Eigenpairs, pairsOf, begun, tolerance, settled, eigenpairs, matSymmetricEigen}
+use Rattle.eigen.proofs.Orders.{order-below}
+use Rattle.eigen.proofs.Sorting.{Descends, order-descends, Once, order-once, order-holds}
+use Rattle.eigen.proofs.Stability.{Numbers, Stable, order-stable}
+
+-- the state in which the sweeps end
+abbrev pub final : List Float → ℕ → State
+final a n = settled n (tolerance (begun a n .entries) n) (begun a n)
+
+-- and its diagonal
+abbrev pub eigenvalues : List Float → ℕ → List Float
+eigenvalues a n = diagonal (final a n .entries) n
+
+pub eigenpairs-final : (a : List Float) (n : ℕ) → eigenpairs a n ≡ pairsOf n (final a n)
+unfolding eigenpairs
+eigenpairs-final a n = refl
+
+number : (x : Float) → finite x ≡ true → T (not (isNan x))
+unfolding isNan
+number nan e = never e
+number (inf s) e = tt
+number (fin s m d) e = tt
+
+module _ (a : List Float) (n : ℕ) (values vectors : List Float) (r : Eigenpairs) (met : matSymmetricEigen a n values vectors ≡ answered r) where
+  answers : pairsOf n (final a n) ≡ answered r
+  unfolding matSymmetricEigen
+  answers = sym (eigenpairs-final a n) ∙ ask-met 2 (long a (n * n) && (long values n && long vectors (n * n))) (eigenpairs a n) (ask-met 1 (side n) _ met .1) .1
+
+  asked : (finiteEntries (eigenvalues a n) n ≡ true) × (answered (arranged (eigenvalues a n) (final a n .vectors) n (order (eigenvalues a n) n)) ≡ answered r)
+  unfolding pairsOf
+  asked = ask-met 4 (finiteEntries (eigenvalues a n) n) (answered (arranged (eigenvalues a n) (final a n .vectors) n (order (eigenvalues a n) n))) answers
+
+  pub eigen-arranged : r ≡ arranged (eigenvalues a n) (final a n .vectors) n (order (eigenvalues a n) n)
+  eigen-arranged = sym (answered-inj (asked .1))
+
+  values-arranged : r .values ≡ tabulate n (λ k. nth (eigenvalues a n) (place (order (eigenvalues a n) n) k))
+  unfolding arranged
+  values-arranged = ap (λ (e : Eigenpairs). e .values) eigen-arranged
+
+  pub eigen-descends : (i j : ℕ) → i < j → j < n → lt (nth (r .values) i) (nth (r .values) j) ≡ false
+  unfolding Descends
+  eigen-descends i j h k =
+      let l = order (eigenvalues a n) n in
+      rw (values-arranged, nth-tabulate n (λ x. nth (eigenvalues a n) (place l x)) i (omega arith), nth-tabulate n (λ x. nth (eigenvalues a n) (place l x)) j k) (order-descends (eigenvalues a n) n i j h k)
+
+  numbers : Numbers (eigenvalues a n) n
+  unfolding Numbers
+  numbers i h = number (nth (eigenvalues a n) i) (finite-entry (eigenvalues a n) n i (asked .0) h)
+
+  pub eigen-stable : Once n (order (eigenvalues a n) n) × Stable (eigenvalues a n) n (order (eigenvalues a n) n)
+  eigen-stable = (order-once (eigenvalues a n) n, order-stable (eigenvalues a n) n numbers)
