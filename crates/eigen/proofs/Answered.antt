@@ -59,7 +59,8 @@ module _ (a : List Float) (n : ℕ) (values vectors : List Float) (r : Eigenpair
   unfolding Descends
   eigen-descends i j h k =
       let l = order (eigenvalues a n) n in
-      rw (values-arranged, nth-tabulate n (λ x. nth (eigenvalues a n) (place l x)) i (omega arith), nth-tabulate n (λ x. nth (eigenvalues a n) (place l x)) j k) (order-descends (eigenvalues a n) n i j h k)
+      rw (values-arranged, nth-tabulate n (λ x. nth (eigenvalues a n) (place l x)) i (omega arith), nth-tabulate n (λ x. nth (eigenvalues a n) (place l x)) j k)
+      (order-descends (eigenvalues a n) n i j h k)
 
   numbers : Numbers (eigenvalues a n) n
   unfolding Numbers

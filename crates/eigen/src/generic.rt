@@ -66,15 +66,20 @@ fn eigenpairs_in(
     pairs(m, v, n, e, l, values, vectors)
 }
 
-// The same with room for orders to 4.
-fn small_eigenpairs(a: &[f64], n: usize, values: &mut [f64], vectors: &mut [f64]) -> Written
-    requires { ⌜ (n ≤ 4) × (length (now a) ≡ n * n) × (length (now values) ≡ n) × (length (now vectors) ≡ n * n) ⌝ }
+// The same with room of any length that is enough.
+fn eigenpairs_with(
+    a: &[f64],
+    n: usize,
+    values: &mut [f64],
+    vectors: &mut [f64],
+    m: &mut [f64],
+    v: &mut [f64],
+    e: &mut [f64],
+    l: &mut [usize],
+) -> Written
+    requires { ⌜ (n ≤ 16) × (length (now a) ≡ n * n) × (n * n ≤ length (now m)) × (n * n ≤ length (now v)) × (n ≤ length (now e)) × (n ≤ length (now l)) × (length (now values) ≡ n) × (length (now vectors) ≡ n * n) ⌝ }
     ensures { λ r. ⌜ (r, now (values .exit), now (vectors .exit)) ≡ afterPairs (eigenpairs (now (a .entry)) n) (now (values .entry)) (now (vectors .entry)) ⌝ }
 {
-    let mut m = [0.0f64; 16];
-    let mut v = [0.0f64; 16];
-    let mut e = [0.0f64; 4];
-    let mut l = [0usize; 4];
     let size = n * n;
     eigenpairs_in(
         a,
@@ -89,6 +94,18 @@ fn small_eigenpairs(a: &[f64], n: usize, values: &mut [f64], vectors: &mut [f64]
     )
 }
 
+// The same with room for orders to 4.
+fn small_eigenpairs(a: &[f64], n: usize, values: &mut [f64], vectors: &mut [f64]) -> Written
+    requires { ⌜ (n ≤ 4) × (length (now a) ≡ n * n) × (length (now values) ≡ n) × (length (now vectors) ≡ n * n) ⌝ }
+    ensures { λ r. ⌜ (r, now (values .exit), now (vectors .exit)) ≡ afterPairs (eigenpairs (now (a .entry)) n) (now (values .entry)) (now (vectors .entry)) ⌝ }
+{
+    let mut m = [0.0f64; 16];
+    let mut v = [0.0f64; 16];
+    let mut e = [0.0f64; 4];
+    let mut l = [0usize; 4];
+    eigenpairs_with(a, n, values, vectors, &mut m, &mut v, &mut e, &mut l)
+}
+
 // The same with room for orders to 16.
 fn large_eigenpairs(a: &[f64], n: usize, values: &mut [f64], vectors: &mut [f64]) -> Written
     requires { ⌜ (n ≤ 16) × (length (now a) ≡ n * n) × (length (now values) ≡ n) × (length (now vectors) ≡ n * n) ⌝ }
@@ -98,18 +115,7 @@ fn large_eigenpairs(a: &[f64], n: usize, values: &mut [f64], vectors: &mut [f64]
     let mut v = [0.0f64; 256];
     let mut e = [0.0f64; 16];
     let mut l = [0usize; 16];
-    let size = n * n;
-    eigenpairs_in(
-        a,
-        n,
-        size,
-        &mut m[..size],
-        &mut v[..size],
-        &mut e[..n],
-        &mut l[..n],
-        values,
-        vectors,
-    )
+    eigenpairs_with(a, n, values, vectors, &mut m, &mut v, &mut e, &mut l)
 }
 
 // Questions 1 and 2 are met: question 4, and then the eigenpairs of a, n by n.

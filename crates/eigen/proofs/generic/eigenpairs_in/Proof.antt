@@ -16,18 +16,26 @@ entered c = c .before .before .before .before .before .before .before .before .b
 
 settle-requires : tie.Need-settle-requires
 settle-requires c κs =
+    let after-identity = c .before .before .before .before .before .before in
     let made = symmetric c in
-    let x = entered made in
-    (made .symmetrize .kept .1 .1 .0 ∙ x .pre .2 ∙ x .pre .0, c .before .before .before .before .before .before .identity .kept .1 .0 ∙ x .pre .3 ∙ x .pre .0, subst (Symmetric (x .args .n)) (sym (made .symmetrize .ensures)) (symmetrized-symmetric (x .args .a .now) (x .args .n)))
+    let x = entered made in (
+      made .symmetrize .kept .1 .1 .0 ∙ x .pre .2 ∙ x .pre .0,
+      after-identity .identity .kept .1 .0 ∙ x .pre .3 ∙ x .pre .0,
+      subst (Symmetric (x .args .n)) (sym (made .symmetrize .ensures)) (symmetrized-symmetric (x .args .a .now) (x .args .n)),
+    )
 
 returns : tie.Need-returns
 returns c =
-    let rest = c .before .before .before .before .before .before .before .before .before .before .before .before .before .before .before .before .before .before .before .before in
-    let made = symmetric rest in
+    let after-pairs = c .before .before .before .before .before .before .before .before in
+    let after-settle = after-pairs .before .before .before .before .before .before .before .before .before .before .before in
+    let made = symmetric (after-settle .before) in
     let x = entered made .args in
-    answered-by (x .a .now) (x .n) (c .before .before .before .before .before .before .before .before .before .before .before .before .before .before .before .before .before .before .before .settle .last .0) (c .before .before .before .before .before .before .before .before .before .before .before .before .before .before .before .before .before .before .before .settle .last .1 .0) (x .values .now) (x .vectors .now) (made .symmetrize .ensures) (rest .before .before .before .before .before .before .identity .ensures) (rest .before .before .tolerance .ensures) (c .before .before .before .before .before .before .before .before .before .before .before .before .before .before .before .before .before .before .before .settle .ensures) (c .before .before .before .before .before .before .before .before .pairs .ensures)
+    answered-by (x .a .now) (x .n) (after-settle .settle .last .0) (after-settle .settle .last .1 .0) (x .values .now) (x .vectors .now)
+    (made .symmetrize .ensures) (after-settle .before .before .before .before .before .before .before .identity .ensures)
+    (after-settle .before .before .before .tolerance .ensures) (after-settle .settle .ensures) (after-pairs .pairs .ensures)
 
 pub eigenpairs-in-spec : {M : Type 1} → statement M
 eigenpairs-in-spec =
     tie.close
-    (tie.spec (λ c κs. search needs) (λ c κs. search needs) (λ c κs. search needs) settle-requires (λ c κs. search needs) (λ c. search needs) (λ c. search needs) (λ c. search needs) (λ c. search needs) (λ c. search needs) (λ c. search needs) returns)
+    (tie.spec (λ c κs. search needs) (λ c κs. search needs) (λ c κs. search needs) settle-requires (λ c κs. search needs) (λ c. search needs)
+    (λ c. search needs) (λ c. search needs) (λ c. search needs) (λ c. search needs) (λ c. search needs) returns)

@@ -9,12 +9,16 @@ use Rattle.eigen.specs.Eigen.{matSymmetricEigen}
 use Rattle.eigen.proofs.generic.mat_symmetric_eigen.Statement.{statement}
 use Rattle.eigen.proofs.generic.mat_symmetric_eigen.Tie as tie
 
+-- the place where the call begins
+abbrev entered : tie.Else1 → tie.Start
+entered c = c .before .before .before .before .before
+
 -- question 1 is met
-sided : (c : tie.Else1) → side (c .before .before .before .before .before .args .n) ≡ true
+sided : (c : tie.Else1) → side (entered c .args .n) ≡ true
 sided c = met (c .before .is-side .ensures) (c .if1 .left)
 
 -- and so is question 2 of a
-shaped : (c : tie.Else2) → long (c .before .before .before .before .before .before .before .args .a .now) (c .before .before .before .before .before .before .before .args .n * c .before .before .before .before .before .before .before .args .n) ≡ true
+shaped : (c : tie.Else2) → let x = entered (c .before .before) .args in long (x .a .now) (x .n * x .n) ≡ true
 shaped c = met (c .before .is-matrix .ensures) (c .if2 .left)
 
 returns : tie.Need-returns
@@ -29,27 +33,43 @@ unfolding matSymmetricEigen
 returns-2 c = rw (sided (c .before .before), unmet (c .before .is-matrix .ensures) (c .if2 .taken))
 
 is-form-requires : tie.Need-is-form-requires
-is-form-requires c κs = let x = c .before .before .before .before .before .before .before .before .before .args in area (x .n) (x .n) (sided (c .before .before .before .before)) (sided (c .before .before .before .before))
+is-form-requires c κs =
+    let else1 = c .before .before .before .before in
+    let start = else1 .before .before .before .before .before in
+    let x = start .args in area (x .n) (x .n) (sided else1) (sided else1)
 
 returns-3 : tie.Need-returns-3
 unfolding matSymmetricEigen
-returns-3 c = rw (sided (c .before .before .before .before .before .before), shaped (c .before .before .before .before), unmet (c .before .is-form .ensures) (c .if3 .taken))
+returns-3 c =
+    let else2 = c .before .before .before .before in
+    let else1 = else2 .before .before in
+    rw (sided else1, shaped else2, unmet (c .before .is-form .ensures) (c .if3 .taken))
 
 -- and of the slices that are written
-wide : (c : tie.Else3) → (long (c .before .before .before .before .before .before .before .before .before .before .before .args .values .now) (c .before .before .before .before .before .before .before .before .before .before .before .args .n) && long (c .before .before .before .before .before .before .before .before .before .before .before .args .vectors .now) (c .before .before .before .before .before .before .before .before .before .before .before .args .n * c .before .before .before .before .before .before .before .before .before .before .before .args .n)) ≡ true
+wide : (c : tie.Else3) → let x = entered (c .before .before .before .before .before .before) .args in (long (x .values .now) (x .n) && long (x .vectors .now) (x .n * x .n)) ≡ true
 wide c = met (c .before .is-form .ensures) (c .if3 .left)
 
 eigenpairs-requires : tie.Need-eigenpairs-requires
 eigenpairs-requires c κs =
-    let x = c .before .before .before .before .before .before .before .before .before .before .before .before .before .args in
-    let l = two-long (x .values .now) (x .vectors .now) (x .n) (x .n * x .n) (wide (c .before .before)) in
-    (side-high (x .n) (sided (c .before .before .before .before .before .before .before .before)), long-length (x .a .now) (x .n * x .n) (shaped (c .before .before .before .before .before .before)), l .0, l .1)
+    let else3 = c .before .before in
+    let else2 = else3 .before .before .before .before in
+    let else1 = else2 .before .before in
+    let start = else1 .before .before .before .before .before in
+    let x = start .args in
+    let l = two-long (x .values .now) (x .vectors .now) (x .n) (x .n * x .n) (wide (else3)) in
+    (side-high (x .n) (sided else1), long-length (x .a .now) (x .n * x .n) (shaped else2), l .0, l .1)
 
 returns-4 : tie.Need-returns-4
 unfolding matSymmetricEigen
-returns-4 c = rw (sided (c .before .before .before .before .before .before .before .before .before .before .before .before .before), shaped (c .before .before .before .before .before .before .before .before .before .before .before), wide (c .before .before .before .before .before .before .before)) (c .before .before .before .before .eigenpairs .ensures)
+returns-4 c =
+    let after-eigenpairs = c .before .before .before .before in
+    let else3 = after-eigenpairs .before .before .before in
+    let else2 = else3 .before .before .before .before in
+    let else1 = else2 .before .before in
+    rw (sided else1, shaped else2, wide (else3)) (after-eigenpairs .eigenpairs .ensures)
 
 pub mat-symmetric-eigen-spec : {M : Type 1} → statement M
 mat-symmetric-eigen-spec =
     tie.close
-    (tie.spec (λ c κs. search needs) returns is-matrix-requires returns-2 is-form-requires (λ c. search needs) (λ c. search needs) returns-3 eigenpairs-requires (λ c. search needs) (λ c. search needs) returns-4)
+    (tie.spec (λ c κs. search needs) returns is-matrix-requires returns-2 is-form-requires (λ c. search needs) (λ c. search needs) returns-3 eigenpairs-requires
+    (λ c. search needs) (λ c. search needs) returns-4)

@@ -15,28 +15,39 @@ entered c = c .before .before .before .before .before .before .before .before .b
 
 returns : tie.Need-returns
 returns c =
+    let after-diagonal = c .before .before .before .before .before in
     let x = entered (c .before) .args in
-    pairs-refused (x .n) (x .m .now) (x .v .now) (x .values .now) (x .vectors .now) (c .before .before .before .before .before .diagonal .ensures) (c .before .are-finite .ensures) (c .if1 .taken)
+    pairs-refused (x .n) (x .m .now) (x .v .now) (x .values .now) (x .vectors .now) (after-diagonal .diagonal .ensures) (c .before .are-finite .ensures) (c .if1 .taken)
 
 arrange-values-requires : tie.Need-arrange-values-requires
 arrange-values-requires c κs =
-    let sorted = c .before .before .before .before .before in
+    let after-sort = c .before .before .before .before .before in
+    let after-diagonal = after-sort .before .before .before .before .before .before .before .before in
+    let sorted = after-sort in
     let x = entered (tested sorted) in
-    (c .before .before .before .before .before .before .before .before .before .before .before .before .before .diagonal .kept .1 .1 .0 ∙ x .pre .2, sorted .sort .kept .1 .1 .0 ∙ x .pre .3, sorted-below _ (x .args .n) (sorted .sort .ensures), x .pre .4)
+    (after-diagonal .diagonal .kept .1 .1 .0 ∙ x .pre .2, sorted .sort .kept .1 .1 .0 ∙ x .pre .3, sorted-below _ (x .args .n) (sorted .sort .ensures), x .pre .4)
 
 arrange-vectors-requires : tie.Need-arrange-vectors-requires
 arrange-vectors-requires c κs =
-    let sorted = c .before .before .before .before .before .before .before .before .before .before in
+    let after-sort = c .before .before .before .before .before .before .before .before .before .before in
+    let sorted = after-sort in
     let x = entered (tested sorted) in
     (x .pre .1, sorted .sort .kept .1 .1 .0 ∙ x .pre .3, sorted-below _ (x .args .n) (sorted .sort .ensures), x .pre .5)
 
 returns-2 : tie.Need-returns-2
 returns-2 c =
-    let sorted = c .before .before .before .before .before .before .before .before .before .before .before .before .before in
+    let after-arrange-vectors = c .before .before in
+    let after-arrange-values = after-arrange-vectors .before .before .before .before .before in
+    let after-sort = after-arrange-values .before .before .before .before .before .before in
+    let else1 = after-sort .before .before .before in
+    let after-diagonal = else1 .before .before .before .before .before in
+    let sorted = after-sort in
     let x = entered (tested sorted) .args in
-    pairs-made (x .n) (x .m .now) (x .v .now) (x .values .now) (x .vectors .now) (c .before .before .before .before .before .before .before .before .before .before .before .before .before .before .before .before .before .before .before .before .before .diagonal .ensures) (tested sorted .are-finite .ensures) (c .before .before .before .before .before .before .before .before .before .before .before .before .before .before .before .before .if1 .left) (sorted .sort .ensures) (c .before .before .before .before .before .before .before .arrange-values .ensures) (c .before .before .arrange-vectors .ensures)
+    pairs-made (x .n) (x .m .now) (x .v .now) (x .values .now) (x .vectors .now) (after-diagonal .diagonal .ensures) (tested sorted .are-finite .ensures)
+    (else1 .if1 .left) (sorted .sort .ensures) (after-arrange-values .arrange-values .ensures) (after-arrange-vectors .arrange-vectors .ensures)
 
 pub pairs-spec : {M : Type 1} → statement M
 pairs-spec =
     tie.close
-    (tie.spec (λ c κs. search needs) (λ c κs. search needs) (λ c. search needs) returns (λ c κs. search needs) arrange-values-requires arrange-vectors-requires (λ c. search needs) (λ c. search needs) (λ c. search needs) (λ c. search needs) returns-2)
+    (tie.spec (λ c κs. search needs) (λ c κs. search needs) (λ c. search needs) returns (λ c κs. search needs) arrange-values-requires arrange-vectors-requires
+    (λ c. search needs) (λ c. search needs) (λ c. search needs) (λ c. search needs) returns-2)

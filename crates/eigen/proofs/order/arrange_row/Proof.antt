@@ -21,8 +21,10 @@ loop-holds c = (omega arith, filled-none _ _)
 entry-requires : tie.Need-entry-requires Inv-loop μ-loop
 unfolding Below
 entry-requires c κs =
-    let x = c .before .before .before .before .before .before in
-    let k = c .before .before .loop .k in
+    let at-loop = c .before .before in
+    let start = at-loop .before .before .before .before in
+    let x = start in
+    let k = at-loop .loop .k in
     omega (arith, cell (x .args .n) (x .args .n) {i = place (x .args .l .now) k} {j = x .args .i} (x .pre .3 k (omega arith)) (x .pre .0))
 
 loop-again : tie.Need-loop-again Inv-loop μ-loop
@@ -35,4 +37,7 @@ returns : tie.Need-returns Inv-loop μ-loop
 returns c = filled-all _ (c .before .before .before .before .before .pre .4) (c .loop-test .left) (c .before .loop .inv .1)
 
 pub arrange-row-spec : {M : Type 1} → statement M
-arrange-row-spec = tie.close (tie.spec Inv-loop μ-loop loop-holds (λ c. omega arith) (λ c. omega arith) entry-requires (λ c. omega arith) (λ c. omega arith) (λ c. omega arith) (λ c. omega arith) loop-again same-length returns)
+arrange-row-spec =
+    tie.close
+    (tie.spec Inv-loop μ-loop loop-holds (λ c. omega arith) (λ c. omega arith) entry-requires (λ c. omega arith) (λ c. omega arith) (λ c. omega arith)
+    (λ c. omega arith) loop-again same-length returns)

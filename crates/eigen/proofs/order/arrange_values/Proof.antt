@@ -33,4 +33,7 @@ returns : tie.Need-returns Inv-loop μ-loop
 returns c = filled-all _ (c .before .before .before .before .before .pre .3) (c .loop-test .left) (c .before .loop .inv .1)
 
 pub arrange-values-spec : {M : Type 1} → statement M
-arrange-values-spec = tie.close (tie.spec Inv-loop μ-loop loop-holds value-at-requires (λ c. omega arith) (λ c. omega arith) (λ c. omega arith) (λ c. omega arith) loop-again same-length returns)
+arrange-values-spec =
+    tie.close
+    (tie.spec Inv-loop μ-loop loop-holds value-at-requires (λ c. omega arith) (λ c. omega arith) (λ c. omega arith) (λ c. omega arith) loop-again same-length
+    returns)

@@ -16,17 +16,25 @@ abbrev μ-loop : tie.MeasureT-loop
 μ-loop v l n out₀ i₀ out i = n - i
 
 -- row i lies within the slice
-within : (c : tie.In-loop Inv-loop μ-loop) → c .before .loop .i * c .before .before .before .before .before .args .n + c .before .before .before .before .before .args .n ≤ length (c .before .loop .out)
+within : (c : tie.In-loop Inv-loop μ-loop)
+    → c .before .loop .i * c .before .before .before .before .before .args .n + c .before .before .before .before .before .args .n ≤ length (c .before .loop .out)
 within c = omega (arith, row-within (c .before .before .before .before .before .args .n) (c .before .before .before .before .before .args .n) {i = c .before .loop .i} (omega arith))
 
 loop-holds : tie.Need-loop-holds Inv-loop μ-loop
 loop-holds c = (omega arith, rows-none _ _ _)
 
 arrange-row-requires : tie.Need-arrange-row-requires Inv-loop μ-loop
-arrange-row-requires c κs = (omega arith, c .before .before .before .before .before .before .pre .0, c .before .before .before .before .before .before .pre .1, c .before .before .before .before .before .before .pre .2, length-part (c .before .before .loop .out) (c .before .before .before .before .before .before .args .n) (c .before .before .loop .i) (within (c .before)))
+arrange-row-requires c κs =
+    let at-loop = c .before .before in
+    let start = at-loop .before .before .before .before in
+    (omega arith, start .pre .0, start .pre .1, start .pre .2, length-part (at-loop .loop .out) (start .args .n) (at-loop .loop .i) (within (c .before)))
 
 loop-again : tie.Need-loop-again Inv-loop μ-loop
-loop-again c = (omega arith, rows-more _ (c .before .before .before .before .before .before .before .before .before .args .n) (c .before .before .before .before .before .loop .i) (within (c .before .before .before .before)) (c .before .before .arrange-row .ensures) (c .before .before .before .before .before .loop .inv .1))
+loop-again c =
+    let after-arrange-row = c .before .before in
+    let in-loop = after-arrange-row .before .before in
+    let start = in-loop .before .before .before .before .before in
+    (omega arith, rows-more _ (start .args .n) (in-loop .before .loop .i) (within (in-loop)) (after-arrange-row .arrange-row .ensures) (in-loop .before .loop .inv .1))
 
 same-length : tie.Need-same-length Inv-loop μ-loop
 same-length c = c .before .loop .inv .1 .size
@@ -37,4 +45,5 @@ returns c = rows-all _ _ _ (c .before .before .before .before .before .pre .3) (
 pub arrange-vectors-spec : {M : Type 1} → statement M
 arrange-vectors-spec =
     tie.close
-    (tie.spec Inv-loop μ-loop loop-holds (λ c. omega (arith, within c)) (λ c. omega (arith, within c)) (λ c. omega (arith, within c)) (λ c. omega arith) (λ c. omega arith) (λ c. omega (arith, within c)) arrange-row-requires (λ c. omega arith) (λ c. omega arith) loop-again same-length returns)
+    (tie.spec Inv-loop μ-loop loop-holds (λ c. omega (arith, within c)) (λ c. omega (arith, within c)) (λ c. omega (arith, within c)) (λ c. omega arith)
+    (λ c. omega arith) (λ c. omega (arith, within c)) arrange-row-requires (λ c. omega arith) (λ c. omega arith) loop-again same-length returns)

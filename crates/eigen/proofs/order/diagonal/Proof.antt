@@ -17,9 +17,7 @@ loop-holds : tie.Need-loop-holds Inv-loop μ-loop
 loop-holds c = (omega arith, filled-none _ _)
 
 entry-requires : tie.Need-entry-requires Inv-loop μ-loop
-entry-requires c κs =
-    let x = c .before .before .before .before .args in
-    omega (arith, cell (x .n) (x .n) {i = c .before .loop .i} {j = c .before .loop .i} (omega arith) (omega arith))
+entry-requires c κs = let x = c .before .before .before .before .args in omega (arith, cell (x .n) (x .n) {i = c .before .loop .i} {j = c .before .loop .i} (omega arith) (omega arith))
 
 loop-again : tie.Need-loop-again Inv-loop μ-loop
 loop-again c = (omega arith, filled-more _ (c .before .before .loop .i) (omega arith) (c .entry .ensures) (c .before .before .loop .inv .1))
@@ -31,4 +29,7 @@ returns : tie.Need-returns Inv-loop μ-loop
 returns c = filled-all _ (c .before .before .before .before .pre .1) (c .loop-test .left) (c .before .loop .inv .1)
 
 pub diagonal-spec : {M : Type 1} → statement M
-diagonal-spec = tie.close (tie.spec Inv-loop μ-loop loop-holds entry-requires (λ c. omega arith) (λ c. omega arith) (λ c. omega arith) (λ c. omega arith) loop-again same-length returns)
+diagonal-spec =
+    tie.close
+    (tie.spec Inv-loop μ-loop loop-holds entry-requires (λ c. omega arith) (λ c. omega arith) (λ c. omega arith) (λ c. omega arith) loop-again same-length
+    returns)

@@ -28,16 +28,22 @@ spot-requires c κs =
 
 insert-requires : tie.Need-insert-requires Inv-loop μ-loop
 insert-requires c κs =
-    let x = c .before .before .before .before .before .before .before in
-    let turn = c .before .before .before .before .loop in
+    let at-loop = c .before .before .before .before in
+    let start = at-loop .before .before .before in
+    let x = start in
+    let turn = at-loop .loop in
     (omega (arith, c .before .spot .ensures, spot-within (x .args .e .now) (turn .l) (turn .k)), omega arith)
 
 loop-again : tie.Need-loop-again Inv-loop μ-loop
 loop-again c =
-    let x = c .before .before .before .before .before .before .before .before .before .before in
-    let turn = c .before .before .before .before .before .before .before .loop in
-    let call = c .before .before .insert in
-    (omega arith, call .kept .0 ∙ turn .inv .1, order-more (x .args .e .now) (turn .k) (turn .l) _ (turn .inv .2) (c .before .before .before .before .spot .ensures) (call .ensures))
+    let after-insert = c .before .before in
+    let after-spot = after-insert .before .before in
+    let at-loop = after-spot .before .before .before in
+    let start = at-loop .before .before .before in
+    let x = start in
+    let turn = at-loop .loop in
+    let call = after-insert .insert in
+    (omega arith, call .kept .0 ∙ turn .inv .1, order-more (x .args .e .now) (turn .k) (turn .l) _ (turn .inv .2) (after-spot .spot .ensures) (call .ensures))
 
 same-length : tie.Need-same-length Inv-loop μ-loop
 same-length c = c .before .loop .inv .1 ∙ sym (c .before .before .before .before .pre .1)

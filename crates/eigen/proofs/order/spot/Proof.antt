@@ -34,12 +34,18 @@ value-at-requires c κs = (omega arith, c .before .before .before .before .pre .
 returns : tie.Need-returns Inv-loop μ-loop
 unfolding spot
 returns c =
-    let x = c .before .before .before .before .before .before .before .args in
-    let turn = c .before .before .before .before .loop in
-    sym (first-found (less (x .e .now) (x .l .now) (x .k)) (x .k) (turn .j) (omega arith) (turn .inv .1) (rw (c .before .before .value-at .ensures) at (c .if1 .taken)))
+    let after-value-at = c .before .before in
+    let at-loop = after-value-at .before .before in
+    let start = at-loop .before .before .before in
+    let x = start .args in
+    let turn = at-loop .loop in
+    sym (first-found (less (x .e .now) (x .l .now) (x .k)) (x .k) (turn .j) (omega arith) (turn .inv .1) (rw (after-value-at .value-at .ensures) at (c .if1 .taken)))
 
 loop-again : tie.Need-loop-again Inv-loop μ-loop
-loop-again c = (omega arith, first-more _ (c .before .before .before .before .loop .j) (c .before .before .before .before .loop .inv .1) (rw (c .before .before .value-at .ensures) at (c .if1 .left)))
+loop-again c =
+    let after-value-at = c .before .before in
+    let at-loop = after-value-at .before .before in
+    (omega arith, first-more _ (at-loop .loop .j) (at-loop .loop .inv .1) (rw (after-value-at .value-at .ensures) at (c .if1 .left)))
 
 returns-2 : tie.Need-returns-2 Inv-loop μ-loop
 unfolding spot
@@ -49,4 +55,7 @@ returns-2 c =
     sym end ∙ sym (c .before .loop .inv .1) ∙ ap (λ j. firstBelow j (less (x .e .now) (x .l .now) (x .k))) end
 
 pub spot-spec : {M : Type 1} → statement M
-spot-spec = tie.close (tie.spec Inv-loop μ-loop loop-holds value-at-requires (λ c. omega arith) (λ c. omega arith) returns (λ c. omega arith) (λ c. omega arith) loop-again returns-2)
+spot-spec =
+    tie.close
+    (tie.spec Inv-loop μ-loop loop-holds value-at-requires (λ c. omega arith) (λ c. omega arith) returns (λ c. omega arith) (λ c. omega arith) loop-again
+    returns-2)

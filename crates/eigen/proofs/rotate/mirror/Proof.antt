@@ -24,14 +24,23 @@ entry-requires c κs =
     omega (arith, cell (x .n) (x .n) {i = x .p} {j = c .before .before .loop .i} (omega arith) (omega arith), c .before .before .loop .inv .1 .size)
 
 put-requires : tie.Need-put-requires Inv-loop μ-loop
-put-requires c κs = (omega arith, c .before .before .before .before .before .before .pre .0, c .before .before .before .before .loop .inv .1 .size)
+put-requires c κs =
+    let at-loop = c .before .before .before .before in
+    let start = at-loop .before .before in
+    (omega arith, start .pre .0, at-loop .loop .inv .1 .size)
 
 loop-again : tie.Need-loop-again Inv-loop μ-loop
 loop-again c =
-    let turn = c .before .before .before .before .before .before .before .loop in
-    let x = c .before .before .before .before .before .before .before .before .before .args in
-    let more = mirror-more (x .n) (x .p) (x .m .now) (c .before .before .before .before .before .before .before .before .before .pre .0) (turn .i) (omega arith) (c .before .before .before .before .entry .ensures ∙ mirror-next (x .n) (x .p) (x .m .now) (c .before .before .before .before .before .before .before .before .before .pre .0) (turn .i) (omega arith) (turn .inv .1)) (turn .inv .1) in
-    (omega arith, rw (c .before .before .put .ensures) more)
+    let after-put = c .before .before in
+    let after-entry = after-put .before .before in
+    let at-loop = after-entry .before .before .before in
+    let start = at-loop .before .before in
+    let turn = at-loop .loop in
+    let x = start .args in
+    let more =
+    mirror-more (x .n) (x .p) (x .m .now) (start .pre .0) (turn .i) (omega arith)
+    (after-entry .entry .ensures ∙ mirror-next (x .n) (x .p) (x .m .now) (start .pre .0) (turn .i) (omega arith) (turn .inv .1)) (turn .inv .1) in
+    (omega arith, rw (after-put .put .ensures) more)
 
 same-length : tie.Need-same-length Inv-loop μ-loop
 same-length c = c .before .loop .inv .1 .size ∙ sym (c .before .before .before .pre .1)

@@ -14,4 +14,7 @@ returns : tie.Need-returns
 returns c = refl
 
 pub put-spec : {M : Type 1} → statement M
-put-spec = tie.close (tie.spec (λ c. omega (arith, within c)) (λ c. omega (arith, within c)) (λ c. omega (arith, within c)) (λ c. omega (arith, within c)) (λ c. search needs) returns)
+put-spec =
+    tie.close
+    (tie.spec (λ c. omega (arith, within c)) (λ c. omega (arith, within c)) (λ c. omega (arith, within c)) (λ c. omega (arith, within c)) (λ c. search needs)
+    returns)

@@ -25,28 +25,45 @@ entry-requires c κs =
 
 entry-requires-2 : tie.Need-entry-requires-2 Inv-loop μ-loop
 entry-requires-2 c κs =
-    let x = c .before .before .before .before .before .before .args in
-    omega (arith, cell (x .n) (x .n) {i = x .q} {j = c .before .before .before .before .loop .j} (omega arith) (omega arith), c .before .before .before .before .loop .inv .1 .size)
+    let at-loop = c .before .before .before .before in
+    let start = at-loop .before .before in
+    let x = start .args in
+    omega (arith, cell (x .n) (x .n) {i = x .q} {j = at-loop .loop .j} (omega arith) (omega arith), at-loop .loop .inv .1 .size)
 
 put-requires : tie.Need-put-requires Inv-loop μ-loop
-put-requires c κs = (omega arith, omega arith, c .before .before .before .before .before .before .before .before .loop .inv .1 .size)
+put-requires c κs = let at-loop = c .before .before .before .before .before .before .before .before in (omega arith, omega arith, at-loop .loop .inv .1 .size)
 
 put-requires-2 : tie.Need-put-requires-2 Inv-loop μ-loop
-put-requires-2 c κs = (omega arith, omega arith, c .before .before .before .before .before .put .kept .0 ∙ c .before .before .before .before .before .before .before .before .before .before .before .before .before .before .loop .inv .1 .size)
+put-requires-2 c κs =
+    let after-put = c .before .before .before .before .before in
+    let at-loop = after-put .before .before .before .before .before .before .before .before .before in
+    (omega arith, omega arith, after-put .put .kept .0 ∙ at-loop .loop .inv .1 .size)
 
 loop-again : tie.Need-loop-again Inv-loop μ-loop
 loop-again c =
-    let turn = c .before .before .before .before .before .before .before .before .before .before .before .before .before .before .before .before .before .loop in
-    let x = c .before .before .before .before .before .before .before .before .before .before .before .before .before .before .before .before .before .before .before .args in
-    let at-p = c .before .before .before .before .before .before .before .before .before .before .before .before .before .before .entry .ensures ∙ turn-next (x .g) (x .n) (x .p) (x .q) (x .m .now) (turn .j) (x .p) (omega arith) (omega arith) (turn .inv .1) in
-    let at-q = c .before .before .before .before .before .before .before .before .before .before .before .before .entry2 .ensures ∙ turn-next (x .g) (x .n) (x .p) (x .q) (x .m .now) (turn .j) (x .q) (omega arith) (omega arith) (turn .inv .1) in
-    (omega arith, rw (c .before .before .put2 .ensures, c .before .before .before .before .before .before .before .before .put .ensures) (turn-more (x .g) (x .n) (x .p) (x .q) (x .m .now) (c .before .before .before .before .before .before .before .before .before .before .before .before .before .before .before .before .before .before .before .pre .0) (c .before .before .before .before .before .before .before .before .before .before .before .before .before .before .before .before .before .before .before .pre .1) (turn .j) (omega arith) at-p at-q (turn .inv .1)))
+    let after-put2 = c .before .before in
+    let after-put = after-put2 .before .before .before .before .before .before in
+    let after-entry2 = after-put .before .before .before .before in
+    let after-entry = after-entry2 .before .before in
+    let at-loop = after-entry .before .before .before in
+    let start = at-loop .before .before in
+    let turn = at-loop .loop in
+    let x = start .args in
+    let at-p = after-entry .entry .ensures ∙ turn-next (x .g) (x .n) (x .p) (x .q) (x .m .now) (turn .j) (x .p) (omega arith) (omega arith) (turn .inv .1) in
+    let at-q = after-entry2 .entry2 .ensures ∙ turn-next (x .g) (x .n) (x .p) (x .q) (x .m .now) (turn .j) (x .q) (omega arith) (omega arith) (turn .inv .1) in (
+      omega arith,
+      rw (after-put2 .put2 .ensures, after-put .put .ensures)
+          (turn-more (x .g) (x .n) (x .p) (x .q) (x .m .now) (start .pre .0) (start .pre .1) (turn .j) (omega arith) at-p at-q (turn .inv .1)),
+    )
 
 same-length : tie.Need-same-length Inv-loop μ-loop
 same-length c = c .before .loop .inv .1 .size ∙ sym (c .before .before .before .pre .2)
 
 returns : tie.Need-returns Inv-loop μ-loop
-returns c = turn-all _ _ _ _ _ (c .before .before .before .pre .0) (c .before .before .before .pre .1) (c .before .loop .j) (c .loop-test .left) (c .before .loop .inv .1)
+returns c = let start = c .before .before .before in turn-all _ _ _ _ _ (start .pre .0) (start .pre .1) (c .before .loop .j) (c .loop-test .left) (c .before .loop .inv .1)
 
 pub turn-rows-spec : {M : Type 1} → statement M
-turn-rows-spec = tie.close (tie.spec Inv-loop μ-loop loop-holds entry-requires entry-requires-2 put-requires put-requires-2 (λ c. omega arith) (λ c. omega arith) loop-again same-length returns)
+turn-rows-spec =
+    tie.close
+    (tie.spec Inv-loop μ-loop loop-holds entry-requires entry-requires-2 put-requires put-requires-2 (λ c. omega arith) (λ c. omega arith) loop-again
+    same-length returns)

@@ -21,7 +21,10 @@ entry-requires-3 : tie.Need-entry-requires-3
 entry-requires-3 c κs = let x = c .before .before .before .args in omega (arith, cell (x .n) (x .n) {i = x .j} {j = x .i} (omega arith) (omega arith))
 
 returns-2 : tie.Need-returns-2
-returns-2 c = let x = c .before .before .before .before .args in mean-of (x .a .now) (x .n) (x .i) (x .j) (c .before .before .if1 .left) (c .before .entry2 .ensures) (c .entry3 .ensures)
+returns-2 c =
+    let else1 = c .before .before in
+    let start = else1 .before .before in
+    let x = start .args in mean-of (x .a .now) (x .n) (x .i) (x .j) (else1 .if1 .left) (c .before .entry2 .ensures) (c .entry3 .ensures)
 
 pub mean-spec : {M : Type 1} → statement M
 mean-spec = tie.close (tie.spec entry-requires returns entry-requires-2 entry-requires-3 returns-2)

@@ -22,10 +22,17 @@ loop-holds : tie.Need-loop-holds Inv-loop μ-loop
 loop-holds c = (omega arith, rows-none _ _ _)
 
 mean-row-requires : tie.Need-mean-row-requires Inv-loop μ-loop
-mean-row-requires c κs = (omega arith, omega arith, length-part (c .before .before .loop .m) (c .before .before .before .before .before .args .n) (c .before .before .loop .i) (within (c .before)))
+mean-row-requires c κs =
+    let at-loop = c .before .before in
+    let start = at-loop .before .before .before in
+    (omega arith, omega arith, length-part (at-loop .loop .m) (start .args .n) (at-loop .loop .i) (within (c .before)))
 
 loop-again : tie.Need-loop-again Inv-loop μ-loop
-loop-again c = (omega arith, rows-more _ (c .before .before .before .before .before .before .before .before .args .n) (c .before .before .before .before .before .loop .i) (within (c .before .before .before .before)) (c .before .before .mean-row .ensures) (c .before .before .before .before .before .loop .inv .1))
+loop-again c =
+    let after-mean-row = c .before .before in
+    let in-loop = after-mean-row .before .before in
+    let start = in-loop .before .before .before .before in
+    (omega arith, rows-more _ (start .args .n) (in-loop .before .loop .i) (within (in-loop)) (after-mean-row .mean-row .ensures) (in-loop .before .loop .inv .1))
 
 same-length : tie.Need-same-length Inv-loop μ-loop
 same-length c = c .before .loop .inv .1 .size
@@ -36,4 +43,5 @@ returns c = rows-all _ _ _ (omega arith) (c .before .loop .inv .0) (c .loop-test
 pub symmetrize-spec : {M : Type 1} → statement M
 symmetrize-spec =
     tie.close
-    (tie.spec Inv-loop μ-loop loop-holds (λ c. omega (arith, within c)) (λ c. omega (arith, within c)) (λ c. omega (arith, within c)) (λ c. omega arith) (λ c. omega arith) (λ c. omega (arith, within c)) mean-row-requires (λ c. omega arith) (λ c. omega arith) loop-again same-length returns)
+    (tie.spec Inv-loop μ-loop loop-holds (λ c. omega (arith, within c)) (λ c. omega (arith, within c)) (λ c. omega (arith, within c)) (λ c. omega arith)
+    (λ c. omega arith) (λ c. omega (arith, within c)) mean-row-requires (λ c. omega arith) (λ c. omega arith) loop-again same-length returns)

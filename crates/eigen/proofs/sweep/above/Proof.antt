@@ -18,14 +18,16 @@ loop-holds : tie.Need-loop-holds Inv-loop μ-loop
 unfolding aboveRows
 loop-holds c = (omega arith, refl)
 
-above-row-requires : tie.Need-above-row-requires Inv-loop μ-loop
-above-row-requires c κs = omega arith
-
 loop-again : tie.Need-loop-again Inv-loop μ-loop
-loop-again c = let x = c .before .before .before .before .args in (omega arith, above-more (x .m .now) (x .n) (c .before .before .loop .i) (c .before .before .loop .inv .1) (c .above-row .ensures))
+loop-again c =
+    let at-loop = c .before .before in
+    let start = at-loop .before .before in
+    let x = start .args in (omega arith, above-more (x .m .now) (x .n) (at-loop .loop .i) (at-loop .loop .inv .1) (c .above-row .ensures))
 
 returns : tie.Need-returns Inv-loop μ-loop
-returns c = let x = c .before .before .before .args in c .before .loop .inv .1 ∙ ap (aboveRows (x .m .now) (x .n)) (le-antisymm (c .before .loop .inv .0) (c .loop-test .left))
+returns c =
+    let start = c .before .before .before in
+    let x = start .args in c .before .loop .inv .1 ∙ ap (aboveRows (x .m .now) (x .n)) (le-antisymm (c .before .loop .inv .0) (c .loop-test .left))
 
 pub above-spec : {M : Type 1} → statement M
-above-spec = tie.close (tie.spec Inv-loop μ-loop loop-holds above-row-requires (λ c. omega arith) (λ c. omega arith) loop-again returns)
+above-spec = tie.close (tie.spec Inv-loop μ-loop loop-holds (λ c κs. omega arith) (λ c. omega arith) (λ c. omega arith) loop-again returns)

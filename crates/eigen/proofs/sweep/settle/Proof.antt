@@ -26,33 +26,58 @@ loop-holds c = (omega arith, first-none _, record { matrix-size = c .before .bef
 abbrev begun : tie.Start Inv-loop μ-loop → State
 begun c = stateOf (c .args .n) (c .args .m .now) (c .args .v .now)
 
+-- the place where the loop begins
+abbrev entered : tie.After-above Inv-loop μ-loop → tie.Start Inv-loop μ-loop
+entered c = c .before .before .before .before .before .before
+
 -- what the test says of the state that is held
-told : (c : tie.After-above Inv-loop μ-loop) → lt (c .above .result) (c .before .before .before .before .before .before .args .tol) ≡ stopsAt (c .before .before .before .before .before .before .args .n) (c .before .before .before .before .before .before .args .tol) (begun (c .before .before .before .before .before .before)) (c .before .before .before .loop .k)
-told c = let turn = c .before .before .before .loop in test-at (c .before .before .before .before .before .before .args .n) (c .before .before .before .before .before .before .args .tol) (begun (c .before .before .before .before .before .before)) (turn .k) (turn .m) (turn .v) (turn .inv .2 .same) (c .above .ensures)
+told : (c : tie.After-above Inv-loop μ-loop)
+    → let start = entered c in lt (c .above .result) (start .args .tol) ≡ stopsAt (start .args .n) (start .args .tol) (begun start) (c .before .before .before .loop .k)
+told c =
+    let start = entered c in
+    let turn = c .before .before .before .loop in
+    test-at (start .args .n) (start .args .tol) (begun start) (turn .k) (turn .m) (turn .v) (turn .inv .2 .same) (c .above .ensures)
 
 same-length : tie.Need-same-length Inv-loop μ-loop
-same-length c = c .before .before .before .before .loop .inv .2 .matrix-size ∙ sym (c .before .before .before .before .before .before .before .pre .0)
+same-length c =
+    let at-loop = c .before .before .before .before in
+    let start = at-loop .before .before .before in
+    at-loop .loop .inv .2 .matrix-size ∙ sym (start .pre .0)
 
 same-length-2 : tie.Need-same-length-2 Inv-loop μ-loop
-same-length-2 c = c .before .before .before .before .loop .inv .2 .vectors-size ∙ sym (c .before .before .before .before .before .before .before .pre .1)
+same-length-2 c =
+    let at-loop = c .before .before .before .before in
+    let start = at-loop .before .before .before in
+    at-loop .loop .inv .2 .vectors-size ∙ sym (start .pre .1)
 
 returns : tie.Need-returns Inv-loop μ-loop
 returns c =
-    let x = c .before .before .before .before .before .before .before in
-    let turn = c .before .before .before .before .loop in
+    let at-loop = c .before .before .before .before in
+    let start = at-loop .before .before .before in
+    let x = start in
+    let turn = at-loop .loop in
     stops-now (x .args .n) (x .args .tol) (begun x) (turn .k) (omega arith) (turn .inv .1) (sym (told (c .before)) ∙ c .if1 .taken) (turn .inv .2 .same)
 
 sweep-requires : tie.Need-sweep-requires Inv-loop μ-loop
 sweep-requires c κs =
-    let turn = c .before .before .before .before .before .before .loop in
-    (turn .inv .2 .matrix-size, turn .inv .2 .vectors-size, held-symmetric (after-symmetric (c .before .before .before .before .before .before .before .before .before .args .n) (begun (c .before .before .before .before .before .before .before .before .before)) (turn .k) (c .before .before .before .before .before .before .before .before .before .pre .2)) (turn .inv .2))
+    let at-loop = c .before .before .before .before .before .before in
+    let start = at-loop .before .before .before in
+    let turn = at-loop .loop in
+    (turn .inv .2 .matrix-size, turn .inv .2 .vectors-size, held-symmetric (after-symmetric (start .args .n) (begun (start)) (turn .k) (start .pre .2)) (turn .inv .2))
 
 loop-again : tie.Need-loop-again Inv-loop μ-loop
 loop-again c =
-    let x = c .before .before .before .before .before .before .before .before .before .before .before .before .before .before in
-    let turn = c .before .before .before .before .before .before .before .before .before .before .before .loop in
-    let call = c .before .before .before .before .sweep in
-    (omega arith, first-more _ (turn .k) (turn .inv .1) (sym (told (c .before .before .before .before .before .before .before .before)) ∙ c .before .before .before .before .before .before .before .if1 .left), held-next (call .kept .0) (call .kept .1 .0) (after-more (x .args .n) (turn .k) (begun x) (turn .inv .2 .same) (call .ensures)) (turn .inv .2))
+    let after-sweep = c .before .before .before .before in
+    let else1 = after-sweep .before .before .before in
+    let at-loop = else1 .before .before .before .before in
+    let start = at-loop .before .before .before in
+    let x = start in
+    let turn = at-loop .loop in
+    let call = after-sweep .sweep in (
+      omega arith,
+      first-more _ (turn .k) (turn .inv .1) (sym (told (else1 .before)) ∙ else1 .if1 .left),
+      held-next (call .kept .0) (call .kept .1 .0) (after-more (x .args .n) (turn .k) (begun x) (turn .inv .2 .same) (call .ensures)) (turn .inv .2),
+    )
 
 same-length-3 : tie.Need-same-length-3 Inv-loop μ-loop
 same-length-3 c = c .before .loop .inv .2 .matrix-size ∙ sym (c .before .before .before .before .pre .0)
@@ -67,4 +92,7 @@ returns-2 c =
     stops-never (x .args .n) (x .args .tol) (begun x) (turn .k) (turn .inv .0) (c .loop-test .left) (turn .inv .1) (turn .inv .2 .same)
 
 pub settle-spec : {M : Type 1} → statement M
-settle-spec = tie.close (tie.spec Inv-loop μ-loop loop-holds (λ c κs. c .before .before .loop .inv .2 .matrix-size) same-length same-length-2 returns sweep-requires (λ c. omega arith) (λ c. omega arith) loop-again same-length-3 same-length-4 returns-2)
+settle-spec =
+    tie.close
+    (tie.spec Inv-loop μ-loop loop-holds (λ c κs. c .before .before .loop .inv .2 .matrix-size) same-length same-length-2 returns sweep-requires
+    (λ c. omega arith) (λ c. omega arith) loop-again same-length-3 same-length-4 returns-2)

@@ -21,15 +21,20 @@ loop-holds c = (omega arith, record { matrix-size = c .before .before .pre .0; v
 
 sweep-row-requires : tie.Need-sweep-row-requires Inv-loop μ-loop
 sweep-row-requires c κs =
-    let x = c .before .before .before .before .before .before .args in
-    let turn = c .before .before .before .loop in
-    (omega arith, turn .inv .1 .matrix-size, turn .inv .1 .vectors-size, held-symmetric (rows-symmetric (x .n) (stateOf (x .n) (x .m .now) (x .v .now)) (turn .p) (c .before .before .before .before .before .before .pre .2)) (turn .inv .1))
+    let at-loop = c .before .before .before in
+    let start = at-loop .before .before .before in
+    let x = start .args in
+    let turn = at-loop .loop in
+    (omega arith, turn .inv .1 .matrix-size, turn .inv .1 .vectors-size, held-symmetric (rows-symmetric (x .n) (stateOf (x .n) (x .m .now) (x .v .now)) (turn .p) (start .pre .2)) (turn .inv .1))
 
 loop-again : tie.Need-loop-again Inv-loop μ-loop
 loop-again c =
-    let x = c .before .before .before .before .before .before .before .before .before .before .before .args in
-    let turn = c .before .before .before .before .before .before .before .before .loop in
-    let call = c .before .before .before .before .sweep-row in
+    let after-sweep-row = c .before .before .before .before in
+    let at-loop = after-sweep-row .before .before .before .before in
+    let start = at-loop .before .before .before in
+    let x = start .args in
+    let turn = at-loop .loop in
+    let call = after-sweep-row .sweep-row in
     (omega arith, held-next (call .kept .0) (call .kept .1 .0) (rows-more (x .n) (turn .p) (stateOf (x .n) (x .m .now) (x .v .now)) (turn .inv .1 .same) (call .ensures)) (turn .inv .1))
 
 same-length : tie.Need-same-length Inv-loop μ-loop
@@ -44,4 +49,6 @@ returns c =
     c .before .loop .inv .1 .same ∙ ap (sweptRows (x .n) (stateOf (x .n) (x .m .now) (x .v .now))) (le-antisymm (c .before .loop .inv .0) (c .loop-test .left))
 
 pub sweep-spec : {M : Type 1} → statement M
-sweep-spec = tie.close (tie.spec Inv-loop μ-loop loop-holds sweep-row-requires (λ c. omega arith) (λ c. omega arith) loop-again same-length same-length-2 returns)
+sweep-spec =
+    tie.close
+    (tie.spec Inv-loop μ-loop loop-holds sweep-row-requires (λ c. omega arith) (λ c. omega arith) loop-again same-length same-length-2 returns)

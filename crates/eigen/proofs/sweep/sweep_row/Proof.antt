@@ -17,21 +17,36 @@ abbrev μ-loop : tie.MeasureT-loop
 
 loop-holds : tie.Need-loop-holds Inv-loop μ-loop
 loop-holds c =
-    let x = c .before .before .args in
-    (omega arith, omega arith, record { matrix-size = c .before .before .pre .1; vectors-size = c .before .before .pre .2; same = row-none (x .n) (x .p) (stateOf (x .n) (x .m .now) (x .v .now)) })
+    let start = c .before .before in
+    let x = start .args in
+    (omega arith, omega arith, record { matrix-size = start .pre .1; vectors-size = start .pre .2; same = row-none (x .n) (x .p) (stateOf (x .n) (x .m .now) (x .v .now)) })
 
 rotate-requires : tie.Need-rotate-requires Inv-loop μ-loop
 rotate-requires c κs =
-    let x = c .before .before .before .before .before .before .args in
-    let turn = c .before .before .before .loop in
-    (turn .inv .0, omega arith, turn .inv .2 .matrix-size, turn .inv .2 .vectors-size, held-symmetric (row-symmetric (x .n) (x .p) (stateOf (x .n) (x .m .now) (x .v .now)) (turn .q - suc (x .p)) (c .before .before .before .before .before .before .pre .3)) (turn .inv .2))
+    let at-loop = c .before .before .before in
+    let start = at-loop .before .before .before in
+    let x = start .args in
+    let turn = at-loop .loop in (
+      turn .inv .0,
+      omega arith,
+      turn .inv .2 .matrix-size,
+      turn .inv .2 .vectors-size,
+      held-symmetric (row-symmetric (x .n) (x .p) (stateOf (x .n) (x .m .now) (x .v .now)) (turn .q - suc (x .p)) (start .pre .3)) (turn .inv .2),
+    )
 
 loop-again : tie.Need-loop-again Inv-loop μ-loop
 loop-again c =
-    let x = c .before .before .before .before .before .before .before .before .before .before .before .args in
-    let turn = c .before .before .before .before .before .before .before .before .loop in
-    let call = c .before .before .before .before .rotate in
-    (omega arith, omega arith, held-next (call .kept .0) (call .kept .1 .0) (row-more (x .n) (x .p) (turn .q) (stateOf (x .n) (x .m .now) (x .v .now)) (turn .inv .0) (turn .inv .2 .same) (call .ensures)) (turn .inv .2))
+    let after-rotate = c .before .before .before .before in
+    let at-loop = after-rotate .before .before .before .before in
+    let start = at-loop .before .before .before in
+    let x = start .args in
+    let turn = at-loop .loop in
+    let call = after-rotate .rotate in (
+      omega arith,
+      omega arith,
+      held-next (call .kept .0) (call .kept .1 .0)
+          (row-more (x .n) (x .p) (turn .q) (stateOf (x .n) (x .m .now) (x .v .now)) (turn .inv .0) (turn .inv .2 .same) (call .ensures)) (turn .inv .2),
+    )
 
 same-length : tie.Need-same-length Inv-loop μ-loop
 same-length c = c .before .loop .inv .2 .matrix-size ∙ sym (c .before .before .before .before .pre .1)
@@ -41,8 +56,11 @@ same-length-2 c = c .before .loop .inv .2 .vectors-size ∙ sym (c .before .befo
 
 returns : tie.Need-returns Inv-loop μ-loop
 returns c =
-    let x = c .before .before .before .before .args in
+    let start = c .before .before .before .before in
+    let x = start .args in
     c .before .loop .inv .2 .same ∙ ap (λ q. sweptRow (x .n) (x .p) (stateOf (x .n) (x .m .now) (x .v .now)) (q - suc (x .p))) (le-antisymm (c .before .loop .inv .1) (c .loop-test .left))
 
 pub sweep-row-spec : {M : Type 1} → statement M
-sweep-row-spec = tie.close (tie.spec Inv-loop μ-loop (λ c. omega arith) loop-holds rotate-requires (λ c. omega arith) (λ c. omega arith) loop-again same-length same-length-2 returns)
+sweep-row-spec =
+    tie.close
+    (tie.spec Inv-loop μ-loop (λ c. omega arith) loop-holds rotate-requires (λ c. omega arith) (λ c. omega arith) loop-again same-length same-length-2 returns)

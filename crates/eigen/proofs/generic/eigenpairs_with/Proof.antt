@@ -1,0 +1,22 @@
+-- `eigenpairs_with` meets its contract: the fronts of the four slices have the lengths that the work wants.
+use native.Mathlib.Omega.{arith}
+use mathlib.Core.Path.{refl, sym}
+use lib.Seq.{length-take-le}
+use borrow.Author.Needs.{needs}
+use Rattle.eigen.proofs.generic.eigenpairs_with.Statement.{statement}
+use Rattle.eigen.proofs.generic.eigenpairs_with.Tie as tie
+
+eigenpairs-in-requires : tie.Need-eigenpairs-in-requires
+eigenpairs-in-requires c κs =
+    let start-place = c .before .before .before .before .before .before .before .before .before .before .before .before .before in
+    let start = start-place in
+    let pre = start .pre in
+    (refl, pre .1, length-take-le _ _ (pre .2), length-take-le _ _ (pre .3), length-take-le _ _ (pre .4), length-take-le _ _ (pre .5), pre .6, pre .7)
+
+pub eigenpairs-with-spec : {M : Type 1} → statement M
+eigenpairs-with-spec =
+    tie.close
+    (tie.spec (λ c. search needs) (λ c. search needs) (λ c. sym (length-take-le _ _ (omega arith))) (λ c. search needs)
+    (λ c. sym (length-take-le _ _ (omega arith))) (λ c. search needs) (λ c. sym (length-take-le _ _ (omega arith))) (λ c. search needs)
+    (λ c. sym (length-take-le _ _ (omega arith))) eigenpairs-in-requires (λ c. search needs) (λ c. search needs) (λ c. search needs) (λ c. search needs)
+    (λ c. search needs) (λ c. search needs) (λ c. search needs))
