@@ -39,9 +39,6 @@ fn compare<const N: usize, R>(
     mut ours: impl FnMut(&Case<N>) -> u32,
     theirs: impl Fn(&Case<N>) -> R,
 ) {
-    if !ffi::has(name) {
-        return;
-    }
     assert!(cases.iter().all(|case| ours(case) == 0), "{name} refused");
     let round = || (0..TIMES).flat_map(|_| cases);
     line(
@@ -149,6 +146,24 @@ fn order<const N: usize>() {
     );
 }
 
+/// The calls that rotate, on covariances B Bᵀ.
+fn rotating<const N: usize>() {
+    let mut cases = cases::<N>();
+    for case in &mut cases {
+        case.a = generic::mat_mul(&case.b, &generic::mat_transpose(&case.b));
+    }
+    let mut memory = [[0.0; N]; N];
+    let matrix = black_box(memory.as_flattened_mut());
+    let mut vector = [0.0; N];
+    let vector = black_box(&mut vector);
+    compare(
+        "mat_symmetric_eigen",
+        &cases,
+        |c| ffi::mat_symmetric_eigen(c.a.as_flattened(), N, vector, matrix),
+        |c| generic::mat_symmetric_eigen(&c.a),
+    );
+}
+
 /// The calls of order 3 alone.
 fn order_3() {
     let cases = &cases::<3>();
@@ -175,4 +190,11 @@ pub fn run() {
     order::<6>();
     order::<9>();
     order::<16>();
+    rotating::<1>();
+    rotating::<2>();
+    rotating::<3>();
+    rotating::<4>();
+    rotating::<6>();
+    rotating::<9>();
+    rotating::<16>();
 }

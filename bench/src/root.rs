@@ -16,9 +16,6 @@ fn chain(addends: &[f64], root: impl Fn(f64) -> f64) {
 }
 
 pub fn run() {
-    if !ffi::has("sqrt") {
-        return;
-    }
     let mut rng = Rng::new(13);
     let addends: Vec<f64> =
         (0..CHAIN).map(|_| f64::powi(2.0, rng.below(40) as i32 - 20) * (1.5 + rng.unit() / 2.0)).collect();

@@ -22,7 +22,11 @@ entry-requires : tie.Need-entry-requires Inv-loop μ-loop
 entry-requires c κs = let start = c .before .before .before .before in inside (start .args .n) (start .pre .1) (start .pre .0) (c .loop-test .taken)
 
 entry-requires-2 : tie.Need-entry-requires-2 Inv-loop μ-loop
-entry-requires-2 c κs = let start = c .before .before .before .before .before in inside (start .args .n) (start .pre .2) (c .before .loop-test .taken) (start .pre .0)
+entry-requires-2 c κs =
+    let start = c .before .before .before .before .before in
+    let n = start .args .n in
+    let taken = c .before .loop-test .taken in
+    omega (arith, inside n (start .pre .2) taken (start .pre .0), inside n (start .pre .2) (start .pre .0) taken)
 
 loop-again : tie.Need-loop-again Inv-loop μ-loop
 loop-again c =
