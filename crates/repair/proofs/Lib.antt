@@ -1,0 +1,2 @@
+pub mod Clips
+pub mod Outcomes

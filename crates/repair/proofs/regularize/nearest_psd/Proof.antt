@@ -1,0 +1,85 @@
+-- `nearest_psd` meets its contract: each question is put by its own function, and a repair with room of its own has the answer.
+use Prim.Native.Nat.{_*_}
+use native.Mathlib.Omega.{arith}
+use mathlib.Core.Bool.{true, _&&_}
+use mathlib.Core.Path.{_≡_}
+use lib.ListN.{length}
+use borrow.Author.Needs.{needs}
+use Rattle.dense.specs.Matrix.{side, long, finiteEntries}
+use Rattle.dense.proofs.Tests.{met, unmet, area, two-long, two-squares}
+use Rattle.repair.specs.Repair.{nearestPsd}
+use Rattle.repair.proofs.regularize.nearest_psd.Statement.{statement}
+use Rattle.repair.proofs.regularize.nearest_psd.Tie as tie
+
+-- question 1 is met
+sided : (c : tie.Else1) → side (c .before .before .before .before .args .n) ≡ true
+sided c = met (c .before .is-side .ensures) (c .if1 .left)
+
+-- and question 2
+shaped : (c : tie.Else2) → (long (c .before .before .before .before .before .before .before .args .cov .now) (c .before .before .before .before .before .before .before .args .n * c .before .before .before .before .before .before .before .args .n) && long (c .before .before .before .before .before .before .before .args .out .now) (c .before .before .before .before .before .before .before .args .n * c .before .before .before .before .before .before .before .args .n)) ≡ true
+shaped c = met (c .before .are-matrices .ensures) (c .if2 .left)
+
+sizes : (c : tie.Else2) → (length (c .before .before .before .before .before .before .before .args .cov .now) ≡ c .before .before .before .before .before .before .before .args .n * c .before .before .before .before .before .before .before .args .n) × (length (c .before .before .before .before .before .before .before .args .out .now) ≡ c .before .before .before .before .before .before .before .args .n * c .before .before .before .before .before .before .before .args .n)
+sizes c = two-long (c .before .before .before .before .before .before .before .args .cov .now) (c .before .before .before .before .before .before .before .args .out .now) _ _ (shaped c)
+
+-- and question 3
+bounded : (c : tie.Else3) → finiteEntries (c .before .before .before .before .before .before .before .before .before .args .cov .now) (c .before .before .before .before .before .before .before .before .before .args .n * c .before .before .before .before .before .before .before .before .before .args .n) ≡ true
+bounded c = met (c .before .are-finite .ensures) (c .if3 .left)
+
+returns : tie.Need-returns
+unfolding nearestPsd
+returns c = rw (unmet (c .before .before .is-side .ensures) (c .before .if1 .taken), c .refused .ensures)
+
+are-matrices-requires : tie.Need-are-matrices-requires
+are-matrices-requires c κs = two-squares (c .before .before .before .before .before .args .n) (sided (c .before))
+
+returns-2 : tie.Need-returns-2
+unfolding nearestPsd
+returns-2 c = rw (sided (c .before .before .before .before), unmet (c .before .before .are-matrices .ensures) (c .before .if2 .taken), c .refused2 .ensures)
+
+mul-size : tie.Need-mul-size
+mul-size c = omega (arith, area (c .before .before .before .before .before .before .before .args .n) (c .before .before .before .before .before .before .before .args .n) (sided (c .before .before .before)) (sided (c .before .before .before)))
+
+are-finite-requires : tie.Need-are-finite-requires
+are-finite-requires c κs = sizes c .0
+
+returns-3 : tie.Need-returns-3
+unfolding nearestPsd
+returns-3 c = rw (sided (c .before .before .before .before .before .before), shaped (c .before .before .before), unmet (c .before .before .are-finite .ensures) (c .before .if3 .taken), c .refused3 .ensures)
+
+small-repair-requires : tie.Need-small-repair-requires
+small-repair-requires c κs = (sided (c .before .before .before .before .before .before .before), omega arith, sizes (c .before .before .before .before) .0, sizes (c .before .before .before .before) .1)
+
+returns-4 : tie.Need-returns-4
+unfolding nearestPsd
+returns-4 c = rw (sided (c .before .before .before .before .before .before .before .before .before .before), shaped (c .before .before .before .before .before .before .before), bounded (c .before .before .before .before .before)) (c .before .before .small-repair .ensures)
+
+large-repair-requires : tie.Need-large-repair-requires
+large-repair-requires c κs = (sided (c .before .before .before .before .before .before .before), sizes (c .before .before .before .before) .0, sizes (c .before .before .before .before) .1)
+
+returns-5 : tie.Need-returns-5
+unfolding nearestPsd
+returns-5 c = rw (sided (c .before .before .before .before .before .before .before .before .before .before), shaped (c .before .before .before .before .before .before .before), bounded (c .before .before .before .before .before)) (c .before .before .large-repair .ensures)
+
+pub nearest-psd-spec : {M : Type 1} → statement M
+nearest-psd-spec =
+    tie.close
+    (tie.spec
+    (λ c κs. search needs)
+    (λ c κs. search needs)
+    returns
+    are-matrices-requires
+    (λ c κs. search needs)
+    (λ c. search needs)
+    returns-2
+    mul-size
+    are-finite-requires
+    (λ c κs. search needs)
+    (λ c. search needs)
+    returns-3
+    small-repair-requires
+    (λ c. search needs)
+    returns-4
+    large-repair-requires
+    (λ c. search needs)
+    returns-5)

@@ -1,0 +1,38 @@
+-- `small_repair` meets its contract: the local arrays have room for the work.
+use Prim.Native.Nat.{_*_, _≤_}
+use native.Mathlib.Omega.{arith}
+use mathlib.Core.Path.{sym}
+use lib.Seq.{length-take-le}
+use borrow.Author.Needs.{needs}
+use Rattle.eigen.proofs.Pairs.{small-size}
+use Rattle.repair.proofs.regularize.small_repair.Statement.{statement}
+use Rattle.repair.proofs.regularize.small_repair.Tie as tie
+
+-- the order, and its square
+order : (c : tie.Start) → c .args .n ≤ 4
+order c = c .pre .1
+
+size : (c : tie.Start) → c .args .n * c .args .n ≤ 16
+size c = small-size (c .args .n) (order c)
+
+repair-in-requires : tie.Need-repair-in-requires
+repair-in-requires c κs =
+    let x = c .before .before .before .before .before .before in
+    let o = order x in
+    let s = size x in
+    (x .pre .0, x .pre .2, length-take-le _ _ (omega arith), length-take-le _ _ (omega arith), length-take-le _ _ (omega arith), x .pre .3)
+
+pub small-repair-spec : {M : Type 1} → statement M
+small-repair-spec =
+    tie.close
+    (tie.spec
+    (λ c. omega (arith, size (c .before .before)))
+    (λ c. omega (arith, order (c .before .before)))
+    (λ c. sym (length-take-le _ _ (omega (arith, order (c .before .before .before)))))
+    (λ c. omega (arith, size (c .before .before .before)))
+    (λ c. sym (length-take-le _ _ (omega (arith, size (c .before .before .before .before)))))
+    (λ c. omega (arith, order (c .before .before .before .before)))
+    (λ c. sym (length-take-le _ _ (omega (arith, order (c .before .before .before .before .before)))))
+    repair-in-requires
+    (λ c. search needs)
+    (λ c. search needs))

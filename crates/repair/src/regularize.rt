@@ -1,0 +1,112 @@
+// `nearest_psd` and `eigenvalue_floor` of linalg/regularize.rs.
+ghost use mathlib.Core.Path.{_≡_};
+ghost use Prim.Native.Nat.{_*_, _≤_};
+ghost use lib.ListN.{length};
+ghost use mathlib.Core.Bool.{true};
+ghost use Rattle.dense.specs.Matrix.{side};
+ghost use Rattle.repair.specs.Repair.{repair, nearestPsd, afterRepair, refusal};
+use crate::RegularizationReport;
+use crate::Repaired;
+use crate::clip::raise;
+use crate::clip::report;
+use crate::rebuild::rebuild;
+use dense::Written;
+use dense::shape::are_matrices;
+use dense::shape::is_side;
+use dense::vector::are_finite;
+use eigen::generic::mat_symmetric_eigen;
+use kernel::question::FINITE_ENTRIES;
+use kernel::question::LENGTH;
+use kernel::question::SIDE;
+
+// The answer of a repair that is refused with question q.
+fn refused(q: u8) -> Repaired
+    ensures { λ r. ⌜ r ≡ refusal q ⌝ }
+{
+    Repaired {
+        answer: Written::Refused(q),
+        report: RegularizationReport {
+            n_clipped: 0,
+            max_clip_magnitude: 0.0,
+            clipped_indices: [false; 16],
+        },
+    }
+}
+
+// The eigenpairs of cov, n by n, and then its repair. The slices e, v and x are room for the eigenvalues, the vectors and a row.
+fn repair_in(
+    cov: &[f64],
+    floor: f64,
+    n: usize,
+    e: &mut [f64],
+    v: &mut [f64],
+    x: &mut [f64],
+    out: &mut [f64],
+) -> Repaired
+    requires { ⌜ (side n ≡ true) × (length (now cov) ≡ n * n) × (length (now e) ≡ n) × (length (now v) ≡ n * n) × (length (now x) ≡ n) × (length (now out) ≡ n * n) ⌝ }
+    ensures { λ r. ⌜ (r, now (out .exit)) ≡ afterRepair (repair (now (cov .entry)) floor n) (now (out .entry)) ⌝ }
+{
+    match mat_symmetric_eigen(cov, n, e, v) {
+        Written::Refused(q) => refused(q),
+        Written::Done => {
+            let told = report(e, n, floor);
+            raise(e, n, floor);
+            rebuild(v, e, n, x, out);
+            Repaired {
+                answer: Written::Done,
+                report: told,
+            }
+        }
+    }
+}
+
+// The same with room for orders to 4.
+fn small_repair(cov: &[f64], floor: f64, n: usize, out: &mut [f64]) -> Repaired
+    requires { ⌜ (side n ≡ true) × (n ≤ 4) × (length (now cov) ≡ n * n) × (length (now out) ≡ n * n) ⌝ }
+    ensures { λ r. ⌜ (r, now (out .exit)) ≡ afterRepair (repair (now (cov .entry)) floor n) (now (out .entry)) ⌝ }
+{
+    let mut e = [0.0f64; 4];
+    let mut v = [0.0f64; 16];
+    let mut x = [0.0f64; 4];
+    let size = n * n;
+    repair_in(cov, floor, n, &mut e[..n], &mut v[..size], &mut x[..n], out)
+}
+
+// The same with room for orders to 16.
+fn large_repair(cov: &[f64], floor: f64, n: usize, out: &mut [f64]) -> Repaired
+    requires { ⌜ (side n ≡ true) × (length (now cov) ≡ n * n) × (length (now out) ≡ n * n) ⌝ }
+    ensures { λ r. ⌜ (r, now (out .exit)) ≡ afterRepair (repair (now (cov .entry)) floor n) (now (out .entry)) ⌝ }
+{
+    let mut e = [0.0f64; 16];
+    let mut v = [0.0f64; 256];
+    let mut x = [0.0f64; 16];
+    let size = n * n;
+    repair_in(cov, floor, n, &mut e[..n], &mut v[..size], &mut x[..n], out)
+}
+
+// The matrix nearest to cov, n by n, whose eigenvalues are not below min_eig, into out.
+pub fn nearest_psd(cov: &[f64], min_eig: f64, n: usize, out: &mut [f64]) -> Repaired
+    ensures { λ r. ⌜ (r, now (out .exit)) ≡ afterRepair (nearestPsd (now (cov .entry)) «min_eig» n (now (out .entry))) (now (out .entry)) ⌝ }
+{
+    if !is_side(n) {
+        return refused(SIDE);
+    }
+    if !are_matrices(cov, n, n, out, n, n) {
+        return refused(LENGTH);
+    }
+    let size = n * n;
+    if !are_finite(cov, size) {
+        return refused(FINITE_ENTRIES);
+    }
+    if n <= 4 {
+        return small_repair(cov, min_eig, n, out);
+    }
+    large_repair(cov, min_eig, n, out)
+}
+
+// The same, by the name that says what is wanted of the spectrum.
+pub fn eigenvalue_floor(cov: &[f64], min_eig: f64, n: usize, out: &mut [f64]) -> Repaired
+    ensures { λ r. ⌜ (r, now (out .exit)) ≡ afterRepair (nearestPsd (now (cov .entry)) «min_eig» n (now (out .entry))) (now (out .entry)) ⌝ }
+{
+    nearest_psd(cov, min_eig, n, out)
+}
