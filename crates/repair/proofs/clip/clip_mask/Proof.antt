@@ -18,10 +18,16 @@ unfolding tabulate
 loop-holds c = (omega arith, mask-none (c .args .e .now) (c .args .floor))
 
 loop-again : tie.Need-loop-again Inv-loop μ-loop
-loop-again c = (omega arith, mask-more (c .before .before .before .args .e .now) (c .before .before .before .args .floor) (c .before .before .loop .i) (omega arith) (c .before .before .loop .inv .1))
+loop-again c =
+    let at-loop = c .before .before in
+    (omega arith, mask-more (at-loop .before .args .e .now) (at-loop .before .args .floor) (at-loop .loop .i) (omega arith) (at-loop .loop .inv .1))
 
 returns : tie.Need-returns Inv-loop μ-loop
-returns c = mask-all (c .before .before .args .e .now) (c .before .before .args .floor) (c .before .before .args .n) (c .before .loop .i) (c .before .loop .inv .0) (c .loop-test .left) (c .before .loop .inv .1)
+returns c =
+    let start = c .before .before in
+    mask-all (start .args .e .now) (start .args .floor) (start .args .n) (c .before .loop .i) (c .before .loop .inv .0) (c .loop-test .left) (c .before .loop .inv .1)
 
 pub clip-mask-spec : {M : Type 1} → statement M
-clip-mask-spec = tie.close (tie.spec Inv-loop μ-loop loop-holds (λ c. omega arith) (λ c. omega arith) (λ c. omega arith) (λ c. omega arith) (λ c. omega arith) loop-again returns)
+clip-mask-spec =
+    tie.close
+    (tie.spec Inv-loop μ-loop loop-holds (λ c. omega arith) (λ c. omega arith) (λ c. omega arith) (λ c. omega arith) (λ c. omega arith) loop-again returns)

@@ -20,10 +20,17 @@ unfolding largestClip
 loop-holds c = (omega arith, refl)
 
 loop-again : tie.Need-loop-again Inv-loop μ-loop
-loop-again c = let x = c .before .before .before .before .before .args in (omega arith, clip-more (x .e .now) (x .floor) (c .before .before .before .loop .i) (c .before .before .before .loop .inv .1) (c .greater-clip .ensures))
+loop-again c =
+    let at-loop = c .before .before .before in
+    let start = at-loop .before .before in
+    let x = start .args in (omega arith, clip-more (x .e .now) (x .floor) (at-loop .loop .i) (at-loop .loop .inv .1) (c .greater-clip .ensures))
 
 returns : tie.Need-returns Inv-loop μ-loop
-returns c = let x = c .before .before .before .args in c .before .loop .inv .1 ∙ ap (largestClip (x .e .now) (x .floor)) (le-antisymm (c .before .loop .inv .0) (c .loop-test .left))
+returns c =
+    let start = c .before .before .before in
+    let x = start .args in c .before .loop .inv .1 ∙ ap (largestClip (x .e .now) (x .floor)) (le-antisymm (c .before .loop .inv .0) (c .loop-test .left))
 
 pub largest-clip-spec : {M : Type 1} → statement M
-largest-clip-spec = tie.close (tie.spec Inv-loop μ-loop loop-holds (λ c. omega arith) (λ c. omega arith) (λ c κs. search needs) (λ c. omega arith) (λ c. omega arith) loop-again returns)
+largest-clip-spec =
+    tie.close
+    (tie.spec Inv-loop μ-loop loop-holds (λ c. omega arith) (λ c. omega arith) (λ c κs. search needs) (λ c. omega arith) (λ c. omega arith) loop-again returns)

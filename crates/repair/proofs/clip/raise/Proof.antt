@@ -21,8 +21,10 @@ loop-holds c = (omega arith, filled-none _ _)
 
 loop-again : tie.Need-loop-again Inv-loop μ-loop
 loop-again c =
-    let turn = c .before .before .before .loop in
-    (omega arith, filled-more _ (turn .i) (omega arith) (c .raised .ensures ∙ ap (raised (c .before .before .before .before .before .args .floor)) (filled-next (turn .inv .1))) (turn .inv .1))
+    let at-loop = c .before .before .before in
+    let start = at-loop .before .before in
+    let turn = at-loop .loop in
+    (omega arith, filled-more _ (turn .i) (omega arith) (c .raised .ensures ∙ ap (raised (start .args .floor)) (filled-next (turn .inv .1))) (turn .inv .1))
 
 same-length : tie.Need-same-length Inv-loop μ-loop
 same-length c = c .before .loop .inv .1 .size
@@ -31,4 +33,7 @@ returns : tie.Need-returns Inv-loop μ-loop
 returns c = filled-all _ (c .before .before .before .pre) (c .loop-test .left) (c .before .loop .inv .1)
 
 pub raise-spec : {M : Type 1} → statement M
-raise-spec = tie.close (tie.spec Inv-loop μ-loop loop-holds (λ c. omega arith) (λ c. omega arith) (λ c κs. search needs) (λ c. omega arith) (λ c. omega arith) (λ c. omega arith) (λ c. omega arith) loop-again same-length returns)
+raise-spec =
+    tie.close
+    (tie.spec Inv-loop μ-loop loop-holds (λ c. omega arith) (λ c. omega arith) (λ c κs. search needs) (λ c. omega arith) (λ c. omega arith) (λ c. omega arith)
+    (λ c. omega arith) loop-again same-length returns)

@@ -19,15 +19,17 @@ loop-holds : tie.Need-loop-holds Inv-loop μ-loop
 loop-holds c = (omega arith, filled-none _ _)
 
 row-requires : tie.Need-row-requires Inv-loop μ-loop
-row-requires c κs = omega (arith, row-within (c .before .before .before .before .before .args .n) (c .before .before .before .before .before .args .n) {i = c .before .loop .j} (omega arith))
+row-requires c κs = let start = c .before .before .before .before .before in omega (arith, row-within (start .args .n) (start .args .n) {i = c .before .loop .j} (omega arith))
 
 dot-requires : tie.Need-dot-requires Inv-loop μ-loop
-dot-requires c κs = (c .before .before .before .before .before .before .pre .0, c .row .ensures .0)
+dot-requires c κs = let start = c .before .before .before .before .before .before in (start .pre .0, c .row .ensures .0)
 
 loop-again : tie.Need-loop-again Inv-loop μ-loop
 loop-again c =
-    let x = c .before .before .before .before .before .before .before .args in
-    (omega arith, filled-more _ (c .before .before .before .loop .j) (omega arith) (times-row (x .x .now) (x .v .now) (x .n) (c .before .before .before .loop .j) (c .before .row .ensures .1) (c .dot .ensures)) (c .before .before .before .loop .inv .1))
+    let at-loop = c .before .before .before in
+    let start = at-loop .before .before .before .before in
+    let x = start .args in
+    (omega arith, filled-more _ (at-loop .loop .j) (omega arith) (times-row (x .x .now) (x .v .now) (x .n) (at-loop .loop .j) (c .before .row .ensures .1) (c .dot .ensures)) (at-loop .loop .inv .1))
 
 same-length : tie.Need-same-length Inv-loop μ-loop
 same-length c = c .before .loop .inv .1 .size
@@ -36,4 +38,7 @@ returns : tie.Need-returns Inv-loop μ-loop
 returns c = filled-all _ (c .before .before .before .before .before .pre .2) (c .loop-test .left) (c .before .loop .inv .1)
 
 pub products-spec : {M : Type 1} → statement M
-products-spec = tie.close (tie.spec Inv-loop μ-loop loop-holds row-requires dot-requires (λ c. omega arith) (λ c. omega arith) (λ c. omega arith) (λ c. omega arith) loop-again same-length returns)
+products-spec =
+    tie.close
+    (tie.spec Inv-loop μ-loop loop-holds row-requires dot-requires (λ c. omega arith) (λ c. omega arith) (λ c. omega arith) (λ c. omega arith) loop-again
+    same-length returns)

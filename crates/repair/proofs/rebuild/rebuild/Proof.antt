@@ -16,7 +16,8 @@ abbrev μ-loop : tie.MeasureT-loop
 μ-loop v e n x₀ out₀ i₀ x out i = n - i
 
 -- row i lies within the slice
-within : (c : tie.In-loop Inv-loop μ-loop) → c .before .loop .i * c .before .before .before .before .before .before .args .n + c .before .before .before .before .before .before .args .n ≤ length (c .before .loop .out)
+within : (c : tie.In-loop Inv-loop μ-loop)
+    → c .before .loop .i * c .before .before .before .before .before .before .args .n + c .before .before .before .before .before .before .args .n ≤ length (c .before .loop .out)
 within c = omega (arith, row-within (c .before .before .before .before .before .before .args .n) (c .before .before .before .before .before .before .args .n) {i = c .before .loop .i} (omega arith))
 
 loop-holds : tie.Need-loop-holds Inv-loop μ-loop
@@ -24,14 +25,19 @@ loop-holds c = (omega arith, refl, rows-none _ _ _)
 
 rebuilt-row-requires : tie.Need-rebuilt-row-requires Inv-loop μ-loop
 rebuilt-row-requires c κs =
-    let x = c .before .before .before .before .before .before .before .before in
-    (omega arith, x .pre .0, x .pre .1, c .before .before .before .loop .inv .1 ∙ x .pre .2, length-part (c .before .before .before .loop .out) (x .args .n) (c .before .before .before .loop .i) (within (c .before .before)))
+    let in-loop = c .before .before in
+    let start = in-loop .before .before .before .before .before .before in
+    let x = start in
+    (omega arith, x .pre .0, x .pre .1, in-loop .before .loop .inv .1 ∙ x .pre .2, length-part (in-loop .before .loop .out) (x .args .n) (in-loop .before .loop .i) (within (in-loop)))
 
 loop-again : tie.Need-loop-again Inv-loop μ-loop
 loop-again c =
-    let turn = c .before .before .before .before .before .before .before .before .loop in
-    let call = c .before .before .before .before .rebuilt-row in
-    (omega arith, call .kept .1 .1 .1 .1 .0 ∙ turn .inv .1, rows-more _ (c .before .before .before .before .before .before .before .before .before .before .before .before .before .args .n) (turn .i) (within (c .before .before .before .before .before .before .before)) (call .ensures) (turn .inv .2))
+    let after-rebuilt-row = c .before .before .before .before in
+    let in-loop = after-rebuilt-row .before .before .before in
+    let start = in-loop .before .before .before .before .before .before in
+    let turn = in-loop .before .loop in
+    let call = after-rebuilt-row .rebuilt-row in
+    (omega arith, call .kept .1 .1 .1 .1 .0 ∙ turn .inv .1, rows-more _ (start .args .n) (turn .i) (within (in-loop)) (call .ensures) (turn .inv .2))
 
 same-length : tie.Need-same-length Inv-loop μ-loop
 same-length c = c .before .loop .inv .1
@@ -40,25 +46,11 @@ same-length-2 : tie.Need-same-length-2 Inv-loop μ-loop
 same-length-2 c = c .before .loop .inv .2 .size
 
 returns : tie.Need-returns Inv-loop μ-loop
-returns c = rows-all _ _ _ (c .before .before .before .before .before .before .pre .3) (c .before .loop .inv .0) (c .loop-test .left) (c .before .loop .inv .2)
+returns c = let start = c .before .before .before .before .before .before in rows-all _ _ _ (start .pre .3) (c .before .loop .inv .0) (c .loop-test .left) (c .before .loop .inv .2)
 
 pub rebuild-spec : {M : Type 1} → statement M
 rebuild-spec =
     tie.close
-    (tie.spec
-    Inv-loop
-    μ-loop
-    loop-holds
-    (λ c. omega (arith, within c))
-    (λ c. omega (arith, within (c .before)))
-    (λ c. omega (arith, within (c .before)))
-    (λ c. omega arith)
-    (λ c. omega arith)
-    (λ c. omega (arith, within (c .before)))
-    rebuilt-row-requires
-    (λ c. omega arith)
-    (λ c. omega arith)
-    loop-again
-    same-length
-    same-length-2
-    returns)
+    (tie.spec Inv-loop μ-loop loop-holds (λ c. omega (arith, within c)) (λ c. omega (arith, within (c .before))) (λ c. omega (arith, within (c .before)))
+    (λ c. omega arith) (λ c. omega arith) (λ c. omega (arith, within (c .before))) rebuilt-row-requires (λ c. omega arith) (λ c. omega arith) loop-again
+    same-length same-length-2 returns)

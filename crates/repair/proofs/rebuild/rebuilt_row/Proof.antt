@@ -6,7 +6,11 @@ use Rattle.repair.proofs.rebuild.rebuilt_row.Statement.{statement}
 use Rattle.repair.proofs.rebuild.rebuilt_row.Tie as tie
 
 returns : tie.Need-returns
-returns c = let x = c .before .before .before .before .before .before .before .before .before .before .before .before .before .args in c .before .before .products .ensures ∙ rebuilt (x .v .now) (x .e .now) (x .n) (x .i) (c .before .before .before .before .before .before .before .scaled-row .ensures)
+returns c =
+    let after-products = c .before .before in
+    let after-scaled-row = after-products .before .before .before .before .before in
+    let start = after-scaled-row .before .before .before .before .before .before in
+    let x = start .args in after-products .products .ensures ∙ rebuilt (x .v .now) (x .e .now) (x .n) (x .i) (after-scaled-row .scaled-row .ensures)
 
 pub rebuilt-row-spec : {M : Type 1} → statement M
 rebuilt-row-spec = tie.close (tie.spec (λ c κs. search needs) (λ c κs. search needs) (λ c. search needs) (λ c. search needs) returns)

@@ -20,12 +20,16 @@ loop-holds : tie.Need-loop-holds Inv-loop μ-loop
 loop-holds c = (omega arith, filled-none _ _)
 
 entry-requires : tie.Need-entry-requires Inv-loop μ-loop
-entry-requires c κs = let x = c .before .before .before .before .before .args in omega (arith, cell (x .n) (x .n) {i = x .i} {j = c .before .loop .k} (omega arith) (omega arith))
+entry-requires c κs =
+    let start = c .before .before .before .before .before in
+    let x = start .args in omega (arith, cell (x .n) (x .n) {i = x .i} {j = c .before .loop .k} (omega arith) (omega arith))
 
 loop-again : tie.Need-loop-again Inv-loop μ-loop
 loop-again c =
-    let turn = c .before .before .before .loop in
-    (omega arith, filled-more _ (turn .k) (omega arith) (ap (λ (z : Float). mul z (nth (c .before .before .before .before .before .before .before .args .e .now) (turn .k))) (c .before .entry .ensures)) (turn .inv .1))
+    let at-loop = c .before .before .before in
+    let start = at-loop .before .before .before .before in
+    let turn = at-loop .loop in
+    (omega arith, filled-more _ (turn .k) (omega arith) (ap (λ (z : Float). mul z (nth (start .args .e .now) (turn .k))) (c .before .entry .ensures)) (turn .inv .1))
 
 same-length : tie.Need-same-length Inv-loop μ-loop
 same-length c = c .before .loop .inv .1 .size
@@ -34,4 +38,7 @@ returns : tie.Need-returns Inv-loop μ-loop
 returns c = filled-all _ (c .before .before .before .before .before .pre .3) (c .loop-test .left) (c .before .loop .inv .1)
 
 pub scaled-row-spec : {M : Type 1} → statement M
-scaled-row-spec = tie.close (tie.spec Inv-loop μ-loop loop-holds entry-requires (λ c. omega arith) (λ c. omega arith) (λ c. omega arith) (λ c. omega arith) (λ c. omega arith) (λ c. omega arith) loop-again same-length returns)
+scaled-row-spec =
+    tie.close
+    (tie.spec Inv-loop μ-loop loop-holds entry-requires (λ c. omega arith) (λ c. omega arith) (λ c. omega arith) (λ c. omega arith) (λ c. omega arith)
+    (λ c. omega arith) loop-again same-length returns)

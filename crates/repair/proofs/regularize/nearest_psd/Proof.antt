@@ -16,14 +16,17 @@ sided : (c : tie.Else1) → side (c .before .before .before .before .args .n) �
 sided c = met (c .before .is-side .ensures) (c .if1 .left)
 
 -- and question 2
-shaped : (c : tie.Else2) → (long (c .before .before .before .before .before .before .before .args .cov .now) (c .before .before .before .before .before .before .before .args .n * c .before .before .before .before .before .before .before .args .n) && long (c .before .before .before .before .before .before .before .args .out .now) (c .before .before .before .before .before .before .before .args .n * c .before .before .before .before .before .before .before .args .n)) ≡ true
+shaped : (c : tie.Else2)
+    → (long (c .before .before .before .before .before .before .before .args .cov .now) (c .before .before .before .before .before .before .before .args .n * c .before .before .before .before .before .before .before .args .n) && long (c .before .before .before .before .before .before .before .args .out .now) (c .before .before .before .before .before .before .before .args .n * c .before .before .before .before .before .before .before .args .n)) ≡ true
 shaped c = met (c .before .are-matrices .ensures) (c .if2 .left)
 
-sizes : (c : tie.Else2) → (length (c .before .before .before .before .before .before .before .args .cov .now) ≡ c .before .before .before .before .before .before .before .args .n * c .before .before .before .before .before .before .before .args .n) × (length (c .before .before .before .before .before .before .before .args .out .now) ≡ c .before .before .before .before .before .before .before .args .n * c .before .before .before .before .before .before .before .args .n)
+sizes : (c : tie.Else2)
+    → (length (c .before .before .before .before .before .before .before .args .cov .now) ≡ c .before .before .before .before .before .before .before .args .n * c .before .before .before .before .before .before .before .args .n) × (length (c .before .before .before .before .before .before .before .args .out .now) ≡ c .before .before .before .before .before .before .before .args .n * c .before .before .before .before .before .before .before .args .n)
 sizes c = two-long (c .before .before .before .before .before .before .before .args .cov .now) (c .before .before .before .before .before .before .before .args .out .now) _ _ (shaped c)
 
 -- and question 3
-bounded : (c : tie.Else3) → finiteEntries (c .before .before .before .before .before .before .before .before .before .args .cov .now) (c .before .before .before .before .before .before .before .before .before .args .n * c .before .before .before .before .before .before .before .before .before .args .n) ≡ true
+bounded : (c : tie.Else3)
+    → finiteEntries (c .before .before .before .before .before .before .before .before .before .args .cov .now) (c .before .before .before .before .before .before .before .before .before .args .n * c .before .before .before .before .before .before .before .before .before .args .n) ≡ true
 bounded c = met (c .before .are-finite .ensures) (c .if3 .left)
 
 returns : tie.Need-returns
@@ -38,48 +41,54 @@ unfolding nearestPsd
 returns-2 c = rw (sided (c .before .before .before .before), unmet (c .before .before .are-matrices .ensures) (c .before .if2 .taken), c .refused2 .ensures)
 
 mul-size : tie.Need-mul-size
-mul-size c = omega (arith, area (c .before .before .before .before .before .before .before .args .n) (c .before .before .before .before .before .before .before .args .n) (sided (c .before .before .before)) (sided (c .before .before .before)))
+mul-size c =
+    let else1 = c .before .before .before in
+    let start = else1 .before .before .before .before in
+    omega (arith, area (start .args .n) (start .args .n) (sided (else1)) (sided (else1)))
 
 are-finite-requires : tie.Need-are-finite-requires
 are-finite-requires c κs = sizes c .0
 
 returns-3 : tie.Need-returns-3
 unfolding nearestPsd
-returns-3 c = rw (sided (c .before .before .before .before .before .before), shaped (c .before .before .before), unmet (c .before .before .are-finite .ensures) (c .before .if3 .taken), c .refused3 .ensures)
+returns-3 c =
+    let after-are-finite = c .before .before in
+    let else1 = after-are-finite .before .before .before .before in
+    rw (sided (else1), shaped (after-are-finite .before), unmet (after-are-finite .are-finite .ensures) (c .before .if3 .taken), c .refused3 .ensures)
 
 small-repair-requires : tie.Need-small-repair-requires
-small-repair-requires c κs = (sided (c .before .before .before .before .before .before .before), omega arith, sizes (c .before .before .before .before) .0, sizes (c .before .before .before .before) .1)
+small-repair-requires c κs =
+    let else2 = c .before .before .before .before in
+    let else1 = else2 .before .before .before in
+    (sided (else1), omega arith, sizes (else2) .0, sizes (else2) .1)
 
 returns-4 : tie.Need-returns-4
 unfolding nearestPsd
-returns-4 c = rw (sided (c .before .before .before .before .before .before .before .before .before .before), shaped (c .before .before .before .before .before .before .before), bounded (c .before .before .before .before .before)) (c .before .before .small-repair .ensures)
+returns-4 c =
+    let after-small-repair = c .before .before in
+    let else3 = after-small-repair .before .before .before in
+    let else2 = else3 .before .before in
+    let else1 = else2 .before .before .before in
+    rw (sided (else1), shaped (else2), bounded (else3)) (after-small-repair .small-repair .ensures)
 
 large-repair-requires : tie.Need-large-repair-requires
-large-repair-requires c κs = (sided (c .before .before .before .before .before .before .before), sizes (c .before .before .before .before) .0, sizes (c .before .before .before .before) .1)
+large-repair-requires c κs =
+    let else2 = c .before .before .before .before in
+    let else1 = else2 .before .before .before in
+    (sided (else1), sizes (else2) .0, sizes (else2) .1)
 
 returns-5 : tie.Need-returns-5
 unfolding nearestPsd
-returns-5 c = rw (sided (c .before .before .before .before .before .before .before .before .before .before), shaped (c .before .before .before .before .before .before .before), bounded (c .before .before .before .before .before)) (c .before .before .large-repair .ensures)
+returns-5 c =
+    let after-large-repair = c .before .before in
+    let else3 = after-large-repair .before .before .before in
+    let else2 = else3 .before .before in
+    let else1 = else2 .before .before .before in
+    rw (sided (else1), shaped (else2), bounded (else3)) (after-large-repair .large-repair .ensures)
 
 pub nearest-psd-spec : {M : Type 1} → statement M
 nearest-psd-spec =
     tie.close
-    (tie.spec
-    (λ c κs. search needs)
-    (λ c κs. search needs)
-    returns
-    are-matrices-requires
-    (λ c κs. search needs)
-    (λ c. search needs)
-    returns-2
-    mul-size
-    are-finite-requires
-    (λ c κs. search needs)
-    (λ c. search needs)
-    returns-3
-    small-repair-requires
-    (λ c. search needs)
-    returns-4
-    large-repair-requires
-    (λ c. search needs)
-    returns-5)
+    (tie.spec (λ c κs. search needs) (λ c κs. search needs) returns are-matrices-requires (λ c κs. search needs) (λ c. search needs) returns-2 mul-size
+    are-finite-requires (λ c κs. search needs) (λ c. search needs) returns-3 small-repair-requires (λ c. search needs) returns-4 large-repair-requires
+    (λ c. search needs) returns-5)
