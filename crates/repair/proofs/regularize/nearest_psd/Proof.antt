@@ -11,22 +11,23 @@ use Rattle.repair.specs.Repair.{nearestPsd}
 use Rattle.repair.proofs.regularize.nearest_psd.Statement.{statement}
 use Rattle.repair.proofs.regularize.nearest_psd.Tie as tie
 
+-- the place where the call begins
+abbrev entered : tie.Else2 → tie.Start
+entered c = c .before .before .before .before .before .before .before
+
 -- question 1 is met
 sided : (c : tie.Else1) → side (c .before .before .before .before .args .n) ≡ true
 sided c = met (c .before .is-side .ensures) (c .if1 .left)
 
 -- and question 2
-shaped : (c : tie.Else2)
-    → (long (c .before .before .before .before .before .before .before .args .cov .now) (c .before .before .before .before .before .before .before .args .n * c .before .before .before .before .before .before .before .args .n) && long (c .before .before .before .before .before .before .before .args .out .now) (c .before .before .before .before .before .before .before .args .n * c .before .before .before .before .before .before .before .args .n)) ≡ true
+shaped : (c : tie.Else2) → let x = entered c .args in (long (x .cov .now) (x .n * x .n) && long (x .out .now) (x .n * x .n)) ≡ true
 shaped c = met (c .before .are-matrices .ensures) (c .if2 .left)
 
-sizes : (c : tie.Else2)
-    → (length (c .before .before .before .before .before .before .before .args .cov .now) ≡ c .before .before .before .before .before .before .before .args .n * c .before .before .before .before .before .before .before .args .n) × (length (c .before .before .before .before .before .before .before .args .out .now) ≡ c .before .before .before .before .before .before .before .args .n * c .before .before .before .before .before .before .before .args .n)
-sizes c = two-long (c .before .before .before .before .before .before .before .args .cov .now) (c .before .before .before .before .before .before .before .args .out .now) _ _ (shaped c)
+sizes : (c : tie.Else2) → let x = entered c .args in (length (x .cov .now) ≡ x .n * x .n) × (length (x .out .now) ≡ x .n * x .n)
+sizes c = two-long (entered c .args .cov .now) (entered c .args .out .now) _ _ (shaped c)
 
 -- and question 3
-bounded : (c : tie.Else3)
-    → finiteEntries (c .before .before .before .before .before .before .before .before .before .args .cov .now) (c .before .before .before .before .before .before .before .before .before .args .n * c .before .before .before .before .before .before .before .before .before .args .n) ≡ true
+bounded : (c : tie.Else3) → let x = entered (c .before .before) .args in finiteEntries (x .cov .now) (x .n * x .n) ≡ true
 bounded c = met (c .before .are-finite .ensures) (c .if3 .left)
 
 returns : tie.Need-returns

@@ -13,20 +13,21 @@ report-requires c κs =
     let start = after-mat-symmetric-eigen .before .before .before .before .before .before .before .before in
     (side-high (start .args .n) (start .pre .0), after-mat-symmetric-eigen .mat-symmetric-eigen .kept .1 .1 .0 ∙ start .pre .2)
 
+-- the place where the function begins
+abbrev entered : tie.After-mat-symmetric-eigen → tie.Start
+entered c = c .before .before .before .before .before .before .before .before
+
 -- questions 1 and 2 are met
 asked : (c : tie.After-mat-symmetric-eigen)
-    → matSymmetricEigen (c .before .before .before .before .before .before .before .before .args .cov .now) (c .before .before .before .before .before .before .before .before .args .n) (c .before .before .before .before .before .before .before .before .args .e .now) (c .before .before .before .before .before .before .before .before .args .v .now) ≡ eigenpairs (c .before .before .before .before .before .before .before .before .args .cov .now) (c .before .before .before .before .before .before .before .before .args .n)
-asked c =
-    let p = c .before .before .before .before .before .before .before .before .pre in
-    pairs-asked _ (c .before .before .before .before .before .before .before .before .args .floor) _ _ _ (p .0) (p .1) (p .2) (p .3)
+    → let x = entered c .args in matSymmetricEigen (x .cov .now) (x .n) (x .e .now) (x .v .now) ≡ eigenpairs (x .cov .now) (x .n)
+asked c = let pre = entered c .pre in pairs-asked _ (entered c .args .floor) _ _ _ (pre .0) (pre .1) (pre .2) (pre .3)
 
 returns : tie.Need-returns
 returns c =
     let after-q = c .before .before in
     let after-mat-symmetric-eigen = after-q .before .before .before .before .before .before in
-    let call = after-mat-symmetric-eigen in
-    let x = call .before .before .before .before .before .before .before .before .args in
-    repair-refused (x .cov .now) (x .floor) (x .n) (x .e .now) (x .v .now) (x .out .now) (asked call) (after-q .q .given .1) (call .mat-symmetric-eigen .ensures) (c .refused .ensures)
+    let x = after-mat-symmetric-eigen .before .before .before .before .before .before .before .before .args in
+    repair-refused (x .cov .now) (x .floor) (x .n) (x .e .now) (x .v .now) (x .out .now) (asked after-mat-symmetric-eigen) (after-q .q .given .1) (after-mat-symmetric-eigen .mat-symmetric-eigen .ensures) (c .refused .ensures)
 
 returns-2 : tie.Need-returns-2
 returns-2 c =
@@ -35,10 +36,9 @@ returns-2 c =
     let after-report = after-raise .before .before in
     let after-enum-told = after-report .before .before in
     let after-mat-symmetric-eigen = after-enum-told .before .before .before .before .before .before in
-    let call = after-mat-symmetric-eigen in
-    let x = call .before .before .before .before .before .before .before .before .args in
-    repair-done (x .cov .now) (x .floor) (x .n) (x .e .now) (x .v .now) (x .out .now) (asked call) (after-enum-told .enum-told .given .1)
-    (call .mat-symmetric-eigen .ensures) (after-report .report .ensures) (after-raise .raise .ensures) (after-rebuild .rebuild .ensures)
+    let x = after-mat-symmetric-eigen .before .before .before .before .before .before .before .before .args in
+    repair-done (x .cov .now) (x .floor) (x .n) (x .e .now) (x .v .now) (x .out .now) (asked after-mat-symmetric-eigen) (after-enum-told .enum-told .given .1)
+    (after-mat-symmetric-eigen .mat-symmetric-eigen .ensures) (after-report .report .ensures) (after-raise .raise .ensures) (after-rebuild .rebuild .ensures)
 
 pub repair-in-spec : {M : Type 1} → statement M
 repair-in-spec =
