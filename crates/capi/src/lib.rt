@@ -3,5 +3,6 @@ pub mod eigenpairs;
 pub mod lists;
 pub mod matrices;
 pub mod numbers;
+pub mod repairs;
 pub mod solvers;
 mod told;

@@ -1,0 +1,96 @@
+// Repairs of a covariance.
+ghost use mathlib.Core.Path.{_≡_};
+ghost use Rattle.repair.specs.Repair as Repair;
+ghost use Rattle.capi.specs.Repairs.{maskBits, enteredReport, toldRepair, rebuiltLeft};
+use dense::Written;
+use repair::RegularizationReport;
+use repair::regularize;
+
+// The bits of a mask, that of entry k at bit k.
+fn mask_bits(mask: [bool; 16]) -> u32
+    ensures { λ r. ⌜ r ≡ maskBits mask ⌝ }
+{
+    let mut bits: u32 = 0;
+    let mut weight: u32 = 1;
+    for k in 0..16 {
+        if mask[k] {
+            bits += weight;
+        }
+        weight *= 2;
+    }
+    bits
+}
+
+// The code of an answer, and its report into the three places.
+fn enter_report(
+    answer: Written,
+    report: RegularizationReport,
+    n_clipped: &mut usize,
+    max_clip_magnitude: &mut f64,
+    clipped_indices: &mut u32,
+) -> u32
+    ensures { λ r. ⌜ (r, (now («n_clipped» .exit), (now («max_clip_magnitude» .exit), now («clipped_indices» .exit)))) ≡ enteredReport answer report (now («n_clipped» .entry)) (now («max_clip_magnitude» .entry)) (now («clipped_indices» .entry)) ⌝ }
+{
+    match answer {
+        Written::Done => {
+            let mask = report.clipped_indices;
+            *n_clipped = report.n_clipped;
+            *max_clip_magnitude = report.max_clip_magnitude;
+            *clipped_indices = mask_bits(mask);
+            0
+        }
+        Written::Refused(question) => question as u32,
+    }
+}
+
+// The matrix nearest to cov, n by n, whose eigenvalues are not below min_eig, into out, and what was clipped.
+#[no_mangle]
+pub extern "C" fn pel_nearest_psd(
+    cov: &[f64],
+    min_eig: f64,
+    n: usize,
+    out: &mut [f64],
+    n_clipped: &mut usize,
+    max_clip_magnitude: &mut f64,
+    clipped_indices: &mut u32,
+) -> u32
+    ensures { λ r. ⌜ (r, (now («n_clipped» .exit), (now («max_clip_magnitude» .exit), now («clipped_indices» .exit)))) ≡ toldRepair (Repair.nearestPsd (now (cov .entry)) «min_eig» n (now (out .entry))) (now («n_clipped» .entry)) (now («max_clip_magnitude» .entry)) (now («clipped_indices» .entry)) ⌝ }
+    ensures { λ _. ⌜ now (out .exit) ≡ rebuiltLeft (Repair.nearestPsd (now (cov .entry)) «min_eig» n (now (out .entry))) (now (out .entry)) ⌝ }
+{
+    let r = regularize::nearest_psd(cov, min_eig, n, out);
+    let answer = r.answer;
+    let report = r.report;
+    enter_report(
+        answer,
+        report,
+        n_clipped,
+        max_clip_magnitude,
+        clipped_indices,
+    )
+}
+
+// The same, by the other name.
+#[no_mangle]
+pub extern "C" fn pel_eigenvalue_floor(
+    cov: &[f64],
+    min_eig: f64,
+    n: usize,
+    out: &mut [f64],
+    n_clipped: &mut usize,
+    max_clip_magnitude: &mut f64,
+    clipped_indices: &mut u32,
+) -> u32
+    ensures { λ r. ⌜ (r, (now («n_clipped» .exit), (now («max_clip_magnitude» .exit), now («clipped_indices» .exit)))) ≡ toldRepair (Repair.nearestPsd (now (cov .entry)) «min_eig» n (now (out .entry))) (now («n_clipped» .entry)) (now («max_clip_magnitude» .entry)) (now («clipped_indices» .entry)) ⌝ }
+    ensures { λ _. ⌜ now (out .exit) ≡ rebuiltLeft (Repair.nearestPsd (now (cov .entry)) «min_eig» n (now (out .entry))) (now (out .entry)) ⌝ }
+{
+    let r = regularize::eigenvalue_floor(cov, min_eig, n, out);
+    let answer = r.answer;
+    let report = r.report;
+    enter_report(
+        answer,
+        report,
+        n_clipped,
+        max_clip_magnitude,
+        clipped_indices,
+    )
+}
