@@ -23,7 +23,7 @@ unfoldable pub Stable : List Float → ℕ → List ℕ → Type 0
 Stable e k l = (a b : ℕ) → a < b → b < k → lt (nth e (place l b)) (nth e (place l a)) ≡ false → place l a < place l b
 
 -- what does not exceed x is below y where x is
-below-too : (x y z : Float) → T (not (isNan x)) → T (not (isNan z)) → lt x y ≡ true → lt x z ≡ false → T (lt z y)
+pub below-too : (x y z : Float) → T (not (isNan x)) → T (not (isNan z)) → lt x y ≡ true → lt x z ≡ false → T (lt z y)
 below-too x y z nx nz e f = go (lt-trichotomy z x nz nx)
   where
     go : T (lt z x) ⊎ (T (eq z x) ⊎ T (lt x z)) → T (lt z y)

@@ -1,15 +1,29 @@
--- What a report says. `mask-falls`: where the eigenvalues descend, whatever follows a clipped one is clipped. `count-trues`: the count is the number of trues of the
--- mask. `nan-clips-none` and `infinity-clips-none`: a floor that is a NaN, or -infinity, clips nothing.
-use Prim.Native.Nat.{ℕ, zero, suc, _+_, _<_, _≤_}
-use native.Mathlib.Omega.{arith}
-use mathlib.Core.Bool.{Bool, true, false, cond, _&&_}
-use mathlib.Core.List.{List, [], _∷_, _++_}
+-- A floor that is a NaN, or -infinity, clips nothing: `nan-clips-none` and `infinity-clips-none`.
+use Prim.Native.Nat.{ℕ, zero, suc}
+use mathlib.Core.Bool.{Bool, true, false, _&&_}
+use mathlib.Core.List.{List}
 use mathlib.Core.Path.{_≡_, refl, sym, ap, _∙_}
+use lib.Dec.{ltb}
 use lib.Ieee.{Float, nan, inf, fin, lt}
 use Rattle.kernel.specs.Constants.{nought}
 use Rattle.kernel.specs.Lists.{tabulate}
-use Rattle.dense.specs.Matrix.{nth}
-use Rattle.repair.specs.Repair.{clips, raised, clipCount, greaterClip, largestClip, clipMask}
+use Rattle.kernel.proofs.Lists.{tabulate-ext}
+use Rattle.dense.specs.Matrix.{nth, matrix}
+use Rattle.eigen.specs.Eigen.{Eigenpairs}
+use Rattle.repair.specs.Repair.{clips, raised, clipCount, greaterClip, largestClip, clipMask, reportOf, blank, rebuiltEntry, repairOf}
+use Rattle.repair.proofs.Clips.{told}
+
+and-false : (b : Bool) → (b && false) ≡ false
+and-false true = refl
+and-false false = refl
+
+pub mask-is : (e : List Float) (floor : Float) (n : ℕ) → clipMask e floor n ≡ tabulate 16 (λ k. ltb k n && clips floor (nth e k))
+unfolding clipMask
+mask-is e floor n = refl
+
+blank-is : blank ≡ record { «n_clipped» = 0; «max_clip_magnitude» = nought; «clipped_indices» = tabulate 16 (λ k. false) }
+unfolding blank
+blank-is = refl
 
 -- ---- floors that clip nothing
 
@@ -41,3 +55,25 @@ module _ (floor : Float) (never : (x : Float) → clips floor x ≡ false) where
   unfolding largestClip greaterClip
   none-larger e zero = refl
   none-larger e (suc n) = rw (none-larger e n, never (nth e n))
+
+  none-masked : (e : List Float) (n : ℕ) → clipMask e floor n ≡ tabulate 16 (λ k. false)
+  none-masked e n = mask-is e floor n ∙ tabulate-ext 16 (λ k. ltb k n && clips floor (nth e k)) (λ k. false) (λ k h. ap (λ (b : Bool). ltb k n && b) (never (nth e k)) ∙ and-false (ltb k n))
+
+  -- the report is that of a refusal
+  none-told : (e : List Float) (n : ℕ) → reportOf e floor n ≡ blank
+  none-told e n = sym (told e floor n (sym (none-counted e n)) (sym (none-larger e n)) (sym (none-masked e n))) ∙ sym blank-is
+
+  -- and the eigenvalues stay
+  none-moved : (e : List Float) (n : ℕ) → tabulate n (λ k. raised floor (nth e k)) ≡ tabulate n (nth e)
+  none-moved e n = tabulate-ext n (λ k. raised floor (nth e k)) (nth e) (λ k h. none-raised (nth e k))
+
+  pub clips-none : (n : ℕ) (p : Eigenpairs) → repairOf floor n p ≡ record { rebuilt = matrix n n (rebuiltEntry (p .vectors) (tabulate n (nth (p .values))) n); report = blank }
+  unfolding repairOf
+  clips-none n p = rw (none-told (p .values) n, none-moved (p .values) n)
+
+-- A NaN, or -infinity, as the floor: nothing is clipped, and the matrix is rebuilt from the eigenvalues as they are.
+pub nan-clips-none : (n : ℕ) (p : Eigenpairs) → repairOf nan n p ≡ record { rebuilt = matrix n n (rebuiltEntry (p .vectors) (tabulate n (nth (p .values))) n); report = blank }
+nan-clips-none = clips-none nan nan-never
+
+pub infinity-clips-none : (n : ℕ) (p : Eigenpairs) → repairOf (inf true) n p ≡ record { rebuilt = matrix n n (rebuiltEntry (p .vectors) (tabulate n (nth (p .values))) n); report = blank }
+infinity-clips-none = clips-none (inf true) infinity-never
