@@ -52,4 +52,16 @@ returns-4 c = rw (sided (c .before .before .before .before .before .before .befo
 pub mat-symmetric-eigen-spec : {M : Type 1} → statement M
 mat-symmetric-eigen-spec =
     tie.close
-    (tie.spec (λ c κs. search needs) returns is-matrix-requires returns-2 is-form-requires (λ c. search needs) (λ c. search needs) returns-3 eigenpairs-requires (λ c. search needs) (λ c. search needs) returns-4)
+    (tie.spec
+    (λ c κs. search needs)
+    returns
+    is-matrix-requires
+    returns-2
+    is-form-requires
+    (λ c. search needs)
+    (λ c. search needs)
+    returns-3
+    eigenpairs-requires
+    (λ c. search needs)
+    (λ c. search needs)
+    returns-4)

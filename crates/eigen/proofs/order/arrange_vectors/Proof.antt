@@ -15,18 +15,29 @@ Inv-loop v l n out₀ i₀ out i = (i ≤ n) × FilledRows (λ j k. at v n (plac
 abbrev μ-loop : tie.MeasureT-loop
 μ-loop v l n out₀ i₀ out i = n - i
 
+abbrev turn : tie.In-loop Inv-loop μ-loop → tie.At-loop Inv-loop μ-loop
+turn c = c .before
+
+abbrev entered : tie.At-loop Inv-loop μ-loop → tie.Start Inv-loop μ-loop
+entered c = c .before .before .before .before
+
 -- row i lies within the slice
-within : (c : tie.In-loop Inv-loop μ-loop) → c .before .loop .i * c .before .before .before .before .before .args .n + c .before .before .before .before .before .args .n ≤ length (c .before .loop .out)
-within c = omega (arith, row-within (c .before .before .before .before .before .args .n) (c .before .before .before .before .before .args .n) {i = c .before .loop .i} (omega arith))
+within : (c : tie.In-loop Inv-loop μ-loop) → turn c .loop .i * entered (turn c) .args .n + entered (turn c) .args .n ≤ length (turn c .loop .out)
+within c = let n = entered (turn c) .args .n in omega (arith, row-within n n {i = turn c .loop .i} (omega arith))
 
 loop-holds : tie.Need-loop-holds Inv-loop μ-loop
 loop-holds c = (omega arith, rows-none _ _ _)
 
 arrange-row-requires : tie.Need-arrange-row-requires Inv-loop μ-loop
-arrange-row-requires c κs = (omega arith, c .before .before .before .before .before .before .pre .0, c .before .before .before .before .before .before .pre .1, c .before .before .before .before .before .before .pre .2, length-part (c .before .before .loop .out) (c .before .before .before .before .before .before .args .n) (c .before .before .loop .i) (within (c .before)))
+arrange-row-requires c κs =
+    let at = turn (c .before) in
+    let x = entered at in
+    (omega arith, x .pre .0, x .pre .1, x .pre .2, length-part (at .loop .out) (x .args .n) (at .loop .i) (within (c .before)))
 
 loop-again : tie.Need-loop-again Inv-loop μ-loop
-loop-again c = (omega arith, rows-more _ (c .before .before .before .before .before .before .before .before .before .args .n) (c .before .before .before .before .before .loop .i) (within (c .before .before .before .before)) (c .before .before .arrange-row .ensures) (c .before .before .before .before .before .loop .inv .1))
+loop-again c =
+    let at = turn (c .before .before .before .before) in
+    (omega arith, rows-more _ (entered at .args .n) (at .loop .i) (within (c .before .before .before .before)) (c .before .before .arrange-row .ensures) (at .loop .inv .1))
 
 same-length : tie.Need-same-length Inv-loop μ-loop
 same-length c = c .before .loop .inv .1 .size
@@ -37,4 +48,19 @@ returns c = rows-all _ _ _ (c .before .before .before .before .before .pre .3) (
 pub arrange-vectors-spec : {M : Type 1} → statement M
 arrange-vectors-spec =
     tie.close
-    (tie.spec Inv-loop μ-loop loop-holds (λ c. omega (arith, within c)) (λ c. omega (arith, within c)) (λ c. omega (arith, within c)) (λ c. omega arith) (λ c. omega arith) (λ c. omega (arith, within c)) arrange-row-requires (λ c. omega arith) (λ c. omega arith) loop-again same-length returns)
+    (tie.spec
+    Inv-loop
+    μ-loop
+    loop-holds
+    (λ c. omega (arith, within c))
+    (λ c. omega (arith, within c))
+    (λ c. omega (arith, within c))
+    (λ c. omega arith)
+    (λ c. omega arith)
+    (λ c. omega (arith, within c))
+    arrange-row-requires
+    (λ c. omega arith)
+    (λ c. omega arith)
+    loop-again
+    same-length
+    returns)

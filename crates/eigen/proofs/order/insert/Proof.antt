@@ -32,4 +32,21 @@ returns c =
     inserted (x .k) (x .j) (c .before .before .pre .0) (c .before .before .pre .1) (subst (λ i. Shifted (x .l .now) (x .k) i (c .before .loop .l)) end (c .before .loop .inv .3))
 
 pub insert-spec : {M : Type 1} → statement M
-insert-spec = tie.close (tie.spec Inv-loop μ-loop loop-holds (λ c. omega arith) (λ c. omega arith) (λ c. omega arith) (λ c. omega arith) (λ c. omega arith) (λ c. omega arith) (λ c. omega arith) loop-again (λ c. omega arith) (λ c. omega arith) same-length returns)
+insert-spec =
+    tie.close
+    (tie.spec
+    Inv-loop
+    μ-loop
+    loop-holds
+    (λ c. omega arith)
+    (λ c. omega arith)
+    (λ c. omega arith)
+    (λ c. omega arith)
+    (λ c. omega arith)
+    (λ c. omega arith)
+    (λ c. omega arith)
+    loop-again
+    (λ c. omega arith)
+    (λ c. omega arith)
+    same-length
+    returns)

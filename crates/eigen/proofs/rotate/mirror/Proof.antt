@@ -28,9 +28,12 @@ put-requires c κs = (omega arith, c .before .before .before .before .before .be
 
 loop-again : tie.Need-loop-again Inv-loop μ-loop
 loop-again c =
-    let turn = c .before .before .before .before .before .before .before .loop in
-    let x = c .before .before .before .before .before .before .before .before .before .args in
-    let more = mirror-more (x .n) (x .p) (x .m .now) (c .before .before .before .before .before .before .before .before .before .pre .0) (turn .i) (omega arith) (c .before .before .before .before .entry .ensures ∙ mirror-next (x .n) (x .p) (x .m .now) (c .before .before .before .before .before .before .before .before .before .pre .0) (turn .i) (omega arith) (turn .inv .1)) (turn .inv .1) in
+    let read = c .before .before .before .before in
+    let turn = read .before .before .before .loop in
+    let start = read .before .before .before .before .before in
+    let x = start .args in
+    let old = mirror-next (x .n) (x .p) (x .m .now) (start .pre .0) (turn .i) (omega arith) (turn .inv .1) in
+    let more = mirror-more (x .n) (x .p) (x .m .now) (start .pre .0) (turn .i) (omega arith) (read .entry .ensures ∙ old) (turn .inv .1) in
     (omega arith, rw (c .before .before .put .ensures) more)
 
 same-length : tie.Need-same-length Inv-loop μ-loop

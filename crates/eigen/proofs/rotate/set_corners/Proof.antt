@@ -19,8 +19,13 @@ put-requires-4 c κs = omega arith
 
 returns : tie.Need-returns
 returns c =
-    let x = c .before .before .before .before .before .before .before .before .before .before .before .before .before .before .before .before .before in
-    rw (c .before .before .put4 .ensures, c .before .before .before .before .before .before .put3 .ensures, c .before .before .before .before .before .before .before .before .before .before .put2 .ensures, c .before .before .before .before .before .before .before .before .before .before .before .before .before .before .put .ensures) (corners _ _ _ (x .args .m .now) _ _ (x .pre .0) (x .pre .1) (x .pre .2))
+    let fourth = c .before .before in
+    let third = fourth .before .before .before .before in
+    let second = third .before .before .before .before in
+    let first = second .before .before .before .before in
+    let x = first .before .before .before in
+    rw (fourth .put4 .ensures, third .put3 .ensures, second .put2 .ensures, first .put .ensures)
+    (corners _ _ _ (x .args .m .now) _ _ (x .pre .0) (x .pre .1) (x .pre .2))
 
 pub set-corners-spec : {M : Type 1} → statement M
 set-corners-spec = tie.close (tie.spec put-requires put-requires-2 put-requires-3 put-requires-4 (λ c. search needs) returns)

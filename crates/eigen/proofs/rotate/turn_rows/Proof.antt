@@ -15,6 +15,16 @@ Inv-loop m₀ n p q g j₀ m j = (j ≤ n) × Cells n (turnedTo g n p q m₀ j) 
 abbrev μ-loop : tie.MeasureT-loop
 μ-loop m₀ n p q g j₀ m j = n - j
 
+-- the places on the way
+abbrev read : tie.After-put Inv-loop μ-loop → tie.After-entry2 Inv-loop μ-loop
+read c = c .before .before .before .before
+
+abbrev turn : tie.After-entry2 Inv-loop μ-loop → tie.At-loop Inv-loop μ-loop
+turn c = c .before .before .before .before .before
+
+abbrev entered : tie.At-loop Inv-loop μ-loop → tie.Start Inv-loop μ-loop
+entered c = c .before .before
+
 loop-holds : tie.Need-loop-holds Inv-loop μ-loop
 loop-holds c = (omega arith, turn-none _ _ _ _ _ (c .before .pre .0) (c .before .pre .1) (c .before .pre .2))
 
@@ -29,18 +39,23 @@ entry-requires-2 c κs =
     omega (arith, cell (x .n) (x .n) {i = x .q} {j = c .before .before .before .before .loop .j} (omega arith) (omega arith), c .before .before .before .before .loop .inv .1 .size)
 
 put-requires : tie.Need-put-requires Inv-loop μ-loop
-put-requires c κs = (omega arith, omega arith, c .before .before .before .before .before .before .before .before .loop .inv .1 .size)
+put-requires c κs = (omega arith, omega arith, turn (c .before .before .before) .loop .inv .1 .size)
 
 put-requires-2 : tie.Need-put-requires-2 Inv-loop μ-loop
-put-requires-2 c κs = (omega arith, omega arith, c .before .before .before .before .before .put .kept .0 ∙ c .before .before .before .before .before .before .before .before .before .before .before .before .before .before .loop .inv .1 .size)
+put-requires-2 c κs = (omega arith, omega arith, c .before .before .before .before .before .put .kept .0 ∙ turn (read (c .before .before .before .before .before)) .loop .inv .1 .size)
 
 loop-again : tie.Need-loop-again Inv-loop μ-loop
 loop-again c =
-    let turn = c .before .before .before .before .before .before .before .before .before .before .before .before .before .before .before .before .before .loop in
-    let x = c .before .before .before .before .before .before .before .before .before .before .before .before .before .before .before .before .before .before .before .args in
-    let at-p = c .before .before .before .before .before .before .before .before .before .before .before .before .before .before .entry .ensures ∙ turn-next (x .g) (x .n) (x .p) (x .q) (x .m .now) (turn .j) (x .p) (omega arith) (omega arith) (turn .inv .1) in
-    let at-q = c .before .before .before .before .before .before .before .before .before .before .before .before .entry2 .ensures ∙ turn-next (x .g) (x .n) (x .p) (x .q) (x .m .now) (turn .j) (x .q) (omega arith) (omega arith) (turn .inv .1) in
-    (omega arith, rw (c .before .before .put2 .ensures, c .before .before .before .before .before .before .before .before .put .ensures) (turn-more (x .g) (x .n) (x .p) (x .q) (x .m .now) (c .before .before .before .before .before .before .before .before .before .before .before .before .before .before .before .before .before .before .before .pre .0) (c .before .before .before .before .before .before .before .before .before .before .before .before .before .before .before .before .before .before .before .pre .1) (turn .j) (omega arith) at-p at-q (turn .inv .1)))
+    let first = c .before .before .before .before .before .before .before .before in
+    let second = read first in
+    let at = turn second in
+    let x = entered at .args in
+    let w = at .loop .inv .1 in
+    let old-p = turn-next (x .g) (x .n) (x .p) (x .q) (x .m .now) (at .loop .j) (x .p) (omega arith) (omega arith) w in
+    let old-q = turn-next (x .g) (x .n) (x .p) (x .q) (x .m .now) (at .loop .j) (x .q) (omega arith) (omega arith) w in
+    (omega arith,
+     rw (c .before .before .put2 .ensures, first .put .ensures)
+     (turn-more (x .g) (x .n) (x .p) (x .q) (x .m .now) (entered at .pre .0) (entered at .pre .1) (at .loop .j) (omega arith) (second .before .before .entry .ensures ∙ old-p) (second .entry2 .ensures ∙ old-q) w))
 
 same-length : tie.Need-same-length Inv-loop μ-loop
 same-length c = c .before .loop .inv .1 .size ∙ sym (c .before .before .before .pre .2)

@@ -1,6 +1,7 @@
 -- `settle` meets its contract: before turn k there have been k sweeps, and no test has stopped them.
 use Prim.Native.Nat.{_-_, _≤_}
 use native.Mathlib.Omega.{arith}
+use mathlib.Core.Bool.{Bool}
 use mathlib.Core.Path.{_≡_, refl, sym, _∙_}
 use lib.Ieee.{lt}
 use Rattle.kernel.specs.First.{firstBelow}
@@ -22,13 +23,27 @@ loop-holds : tie.Need-loop-holds Inv-loop μ-loop
 unfolding afterSweeps
 loop-holds c = (omega arith, first-none _, record { matrix-size = c .before .before .pre .0; vectors-size = c .before .before .pre .1; same = refl })
 
+-- the places on the way
+abbrev turn : tie.After-above Inv-loop μ-loop → tie.At-loop Inv-loop μ-loop
+turn c = c .before .before .before
+
+abbrev entered : tie.At-loop Inv-loop μ-loop → tie.Start Inv-loop μ-loop
+entered c = c .before .before .before
+
 -- the state at the start
 abbrev begun : tie.Start Inv-loop μ-loop → State
 begun c = stateOf (c .args .n) (c .args .m .now) (c .args .v .now)
 
--- what the test says of the state that is held
-told : (c : tie.After-above Inv-loop μ-loop) → lt (c .above .result) (c .before .before .before .before .before .before .args .tol) ≡ stopsAt (c .before .before .before .before .before .before .args .n) (c .before .before .before .before .before .before .args .tol) (begun (c .before .before .before .before .before .before)) (c .before .before .before .loop .k)
-told c = let turn = c .before .before .before .loop in test-at (c .before .before .before .before .before .before .args .n) (c .before .before .before .before .before .before .args .tol) (begun (c .before .before .before .before .before .before)) (turn .k) (turn .m) (turn .v) (turn .inv .2 .same) (c .above .ensures)
+-- whether the test stops the state that is held
+abbrev now-stops : tie.At-loop Inv-loop μ-loop → Bool
+now-stops c = let x = entered c in stopsAt (x .args .n) (x .args .tol) (begun x) (c .loop .k)
+
+-- what the test says of it
+told : (c : tie.After-above Inv-loop μ-loop) → lt (c .above .result) (entered (turn c) .args .tol) ≡ now-stops (turn c)
+told c =
+    let x = entered (turn c) in
+    let at = turn c .loop in
+    test-at (x .args .n) (x .args .tol) (begun x) (at .k) (at .m) (at .v) (at .inv .2 .same) (c .above .ensures)
 
 same-length : tie.Need-same-length Inv-loop μ-loop
 same-length c = c .before .before .before .before .loop .inv .2 .matrix-size ∙ sym (c .before .before .before .before .before .before .before .pre .0)
@@ -44,15 +59,21 @@ returns c =
 
 sweep-requires : tie.Need-sweep-requires Inv-loop μ-loop
 sweep-requires c κs =
-    let turn = c .before .before .before .before .before .before .loop in
-    (turn .inv .2 .matrix-size, turn .inv .2 .vectors-size, held-symmetric (after-symmetric (c .before .before .before .before .before .before .before .before .before .args .n) (begun (c .before .before .before .before .before .before .before .before .before)) (turn .k) (c .before .before .before .before .before .before .before .before .before .pre .2)) (turn .inv .2))
+    let at = turn (c .before .before .before) in
+    let x = entered at in
+    let w = at .loop .inv .2 in
+    (w .matrix-size, w .vectors-size, held-symmetric (after-symmetric (x .args .n) (begun x) (at .loop .k) (x .pre .2)) w)
 
 loop-again : tie.Need-loop-again Inv-loop μ-loop
 loop-again c =
-    let x = c .before .before .before .before .before .before .before .before .before .before .before .before .before .before in
-    let turn = c .before .before .before .before .before .before .before .before .before .before .before .loop in
+    let test = c .before .before .before .before .before .before .before .before in
+    let at = turn test in
+    let x = entered at in
     let call = c .before .before .before .before .sweep in
-    (omega arith, first-more _ (turn .k) (turn .inv .1) (sym (told (c .before .before .before .before .before .before .before .before)) ∙ c .before .before .before .before .before .before .before .if1 .left), held-next (call .kept .0) (call .kept .1 .0) (after-more (x .args .n) (turn .k) (begun x) (turn .inv .2 .same) (call .ensures)) (turn .inv .2))
+    let w = at .loop .inv .2 in
+    (omega arith,
+     first-more _ (at .loop .k) (at .loop .inv .1) (sym (told test) ∙ c .before .before .before .before .before .before .before .if1 .left),
+     held-next (call .kept .0) (call .kept .1 .0) (after-more (x .args .n) (at .loop .k) (begun x) (w .same) (call .ensures)) w)
 
 same-length-3 : tie.Need-same-length-3 Inv-loop μ-loop
 same-length-3 c = c .before .loop .inv .2 .matrix-size ∙ sym (c .before .before .before .before .pre .0)
@@ -67,4 +88,20 @@ returns-2 c =
     stops-never (x .args .n) (x .args .tol) (begun x) (turn .k) (turn .inv .0) (c .loop-test .left) (turn .inv .1) (turn .inv .2 .same)
 
 pub settle-spec : {M : Type 1} → statement M
-settle-spec = tie.close (tie.spec Inv-loop μ-loop loop-holds (λ c κs. c .before .before .loop .inv .2 .matrix-size) same-length same-length-2 returns sweep-requires (λ c. omega arith) (λ c. omega arith) loop-again same-length-3 same-length-4 returns-2)
+settle-spec =
+    tie.close
+    (tie.spec
+    Inv-loop
+    μ-loop
+    loop-holds
+    (λ c κs. c .before .before .loop .inv .2 .matrix-size)
+    same-length
+    same-length-2
+    returns
+    sweep-requires
+    (λ c. omega arith)
+    (λ c. omega arith)
+    loop-again
+    same-length-3
+    same-length-4
+    returns-2)
