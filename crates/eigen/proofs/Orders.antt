@@ -49,7 +49,9 @@ insertedElement k j l i = cond (ltb i j) (place l i) (cond (eqb i j) k (place l 
 
 pub inserted : (k j : ℕ) {old l : List ℕ} → j ≤ k → k < length old → Shifted old k j l → take (suc k) (set l j k) ≡ insertedAt k j old
 unfolding insertedAt
-inserted k j {old} {l} h b w = by-elements 0 (suc k) (insertedElement k j old) (take (suc k) (set l j k)) (length-take-le (suc k) (set l j k) (omega (arith, length-set l j k, w .size))) (λ i a. getD-take (suc k) (set l j k) i 0 a ∙ go i a (ℕ-discrete i j) (decLt i j))
+inserted k j {old} {l} h b w =
+    let size = length-take-le (suc k) (set l j k) (omega (arith, length-set l j k, w .size)) in
+    by-elements 0 (suc k) (insertedElement k j old) (take (suc k) (set l j k)) size (λ i a. getD-take (suc k) (set l j k) i 0 a ∙ go i a (ℕ-discrete i j) (decLt i j))
   where
     go : (i : ℕ) → i < suc k → Dec (i ≡ j) → Dec (i < j) → place (set l j k) i ≡ insertedElement k j old i
     go i a (yes s) d = rw (s, le-ltb j j (omega arith), eq-eqb j j refl) (getD-set-same l j k 0 (omega (arith, w .size)))
@@ -93,7 +95,10 @@ length-order e (suc k) = length-tabulate (suc k) _
 pub order-below : (e : List Float) (k : ℕ) → Below k k (order e k)
 unfolding Below order
 order-below e zero j h = absurd (omega arith)
-order-below e (suc k) j h = subst (λ (x : ℕ). x < suc k) (sym (place-inserted k (spot e (order e k) k) (order e k) j h)) (go (spot e (order e k) k) (spot-within e (order e k) k) (ℕ-discrete j (spot e (order e k) k)) (decLt j (spot e (order e k) k)) (order-below e k))
+order-below e (suc k) j h =
+    let s = spot e (order e k) k in
+    let w = go s (spot-within e (order e k) k) (ℕ-discrete j s) (decLt j s) (order-below e k) in
+    subst (λ (x : ℕ). x < suc k) (sym (place-inserted k s (order e k) j h)) w
   where
     go : (s : ℕ) → s ≤ k → Dec (j ≡ s) → Dec (j < s) → Below k k (order e k) → insertedElement k s (order e k) j < suc k
     go s b (yes t) d w = rw (le-ltb j s (omega arith), eq-eqb j s t) (omega arith)

@@ -24,7 +24,8 @@ pub sorted-below : (e : List Float) (n : ℕ) {l : List ℕ} → l ≡ order e n
 sorted-below e n p = subst (λ (z : List ℕ). Below n n z) (sym p) (order-below e n)
 
 module _ (n : ℕ) (m v values vectors : List Float) where
-  pub pairs-refused : {e : List Float} {b : Bool} → e ≡ diagonal m n → b ≡ finiteEntries e n → not b ≡ true → _≡_ {A = Written × List Float × List Float} (Refused 4, values, vectors) (afterPairs (pairsOf n (stateOf n m v)) values vectors)
+  pub pairs-refused : {e : List Float} {b : Bool} → e ≡ diagonal m n → b ≡ finiteEntries e n → not b ≡ true
+      → _≡_ {A = Written × List Float × List Float} (Refused 4, values, vectors) (afterPairs (pairsOf n (stateOf n m v)) values vectors)
   unfolding pairsOf
   pairs-refused p q t = rw (← p, unmet q t)
 
@@ -33,7 +34,9 @@ module _ (n : ℕ) (m v values vectors : List Float) where
   unfolding Below
   columns l h = matrix-ext n n _ _ (λ i k a b. sym (at-matrix n n (λ x y. at v n y x) i (place l k) a (h k b)))
 
-  pub pairs-made : {e x y : List Float} {l : List ℕ} {b : Bool} → e ≡ diagonal m n → b ≡ finiteEntries e n → not b ≡ false → l ≡ order e n → x ≡ tabulate n (λ k. nth e (place l k)) → y ≡ matrix n n (λ i k. at v n (place l k) i) → _≡_ {A = Written × List Float × List Float} (Done, x, y) (afterPairs (pairsOf n (stateOf n m v)) values vectors)
+  pub pairs-made : {e x y : List Float} {l : List ℕ} {b : Bool} → e ≡ diagonal m n → b ≡ finiteEntries e n → not b ≡ false → l ≡ order e n
+      → x ≡ tabulate n (λ k. nth e (place l k)) → y ≡ matrix n n (λ i k. at v n (place l k) i)
+      → _≡_ {A = Written × List Float × List Float} (Done, x, y) (afterPairs (pairsOf n (stateOf n m v)) values vectors)
   unfolding pairsOf arranged
   pairs-made {e} {x} {y} {l} p q t o f g = rw (← p, met q t, ← o, f, g ∙ columns l (sorted-below e n o))
 
@@ -57,10 +60,13 @@ eigenpairs-from a n = refl
 
 module _ (a : List Float) (n : ℕ) where
   -- the slices at the start
-  settled-from : {m v : List Float} {tol : Float} → m ≡ symmetrized a n → v ≡ identity n → tol ≡ tolerance m n → settled n tol (stateOf n m v) ≡ settled n (tolerance (symmetrized a n) n) (state (symmetrized a n) (identity n))
+  settled-from : {m v : List Float} {tol : Float} → m ≡ symmetrized a n → v ≡ identity n → tol ≡ tolerance m n
+      → settled n tol (stateOf n m v) ≡ settled n (tolerance (symmetrized a n) n) (state (symmetrized a n) (identity n))
   settled-from em ev et = rw (et, em, ev, unit-rows n)
 
-  pub answered-by : {m v : List Float} (w z : List Float) {tol : Float} (values vectors : List Float) {r : Written × List Float × List Float} → m ≡ symmetrized a n → v ≡ identity n → tol ≡ tolerance m n → stateOf n w z ≡ settled n tol (stateOf n m v) → r ≡ afterPairs (pairsOf n (stateOf n w z)) values vectors → r ≡ afterPairs (eigenpairs a n) values vectors
+  pub answered-by : {m v : List Float} (w z : List Float) {tol : Float} (values vectors : List Float) {r : Written × List Float × List Float} → m ≡ symmetrized a n
+      → v ≡ identity n → tol ≡ tolerance m n → stateOf n w z ≡ settled n tol (stateOf n m v) → r ≡ afterPairs (pairsOf n (stateOf n w z)) values vectors
+      → r ≡ afterPairs (eigenpairs a n) values vectors
   answered-by w z values vectors em ev et es er =
       er
       ∙ ap (λ (s : State). afterPairs (pairsOf n s) values vectors) (es ∙ settled-from em ev et)

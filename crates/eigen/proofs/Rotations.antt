@@ -33,11 +33,13 @@ module _ (g : Rotation) (n p q : ℕ) (m : List Float) (pq : p < q) (qn : q < n)
   pub turn-none : length m ≡ n * n → Cells n (turnedTo g n p q m 0) m
   turn-none e = cells-ext (λ i k h l. rw (le-ltb k 0 (omega arith))) (cells-own n m e)
 
-  pub turn-more : (j : ℕ) {x y : Float} {l : List Float} → j < n → x ≡ at m n p j → y ≡ at m n q j → Cells n (turnedTo g n p q m j) l → Cells n (turnedTo g n p q m (j + 1)) (set (set l (p * n + j) (sub (mul (g .cosine) x) (mul (g .sine) y))) (q * n + j) (add (mul (g .sine) x) (mul (g .cosine) y)))
+  pub turn-more : (j : ℕ) {x y : Float} {l : List Float} → j < n → x ≡ at m n p j → y ≡ at m n q j → Cells n (turnedTo g n p q m j) l
+      → Cells n (turnedTo g n p q m (j + 1)) (set (set l (p * n + j) (sub (mul (g .cosine) x) (mul (g .sine) y))) (q * n + j) (add (mul (g .sine) x) (mul (g .cosine) y)))
   unfolding turned
   turn-more j {x} {y} {l} h e f c = cells-ext (λ i k a b. go i k (ℕ-discrete k j) (ℕ-discrete i q) (ℕ-discrete i p)) (cells-put q j _ qn h (cells-put p j _ (omega arith) h c))
     where
-      go : (i k : ℕ) → Dec (k ≡ j) → Dec (i ≡ q) → Dec (i ≡ p) → put (put (turnedTo g n p q m j) p j (sub (mul (g .cosine) x) (mul (g .sine) y))) q j (add (mul (g .sine) x) (mul (g .cosine) y)) i k ≡ turnedTo g n p q m (j + 1) i k
+      go : (i k : ℕ) → Dec (k ≡ j) → Dec (i ≡ q) → Dec (i ≡ p)
+          → put (put (turnedTo g n p q m j) p j (sub (mul (g .cosine) x) (mul (g .sine) y))) q j (add (mul (g .sine) x) (mul (g .cosine) y)) i k ≡ turnedTo g n p q m (j + 1) i k
       go i k (yes s) (yes t) u =
           let ne : i ≡ p → ⊥ = λ w. omega arith in
           rw (eq-eqb k j s, eq-eqb i q t, ne-eqb i p ne, lt-ltb k (j + 1) (omega arith), s, e, f)
@@ -55,10 +57,13 @@ module _ (g : Rotation) (n p q : ℕ) (m : List Float) (pq : p < q) (qn : q < n)
 
 -- ---- the four crossings
 
-pub corners : (n p q : ℕ) (m : List Float) (x y : Float) → p < q → q < n → length m ≡ n * n → set (set (set (set m (p * n + p) x) (q * n + q) y) (p * n + q) nought) (q * n + p) nought ≡ withCorners n p q x y m
+pub corners : (n p q : ℕ) (m : List Float) (x y : Float) → p < q → q < n → length m ≡ n * n
+    → set (set (set (set m (p * n + p) x) (q * n + q) y) (p * n + q) nought) (q * n + p) nought ≡ withCorners n p q x y m
 unfolding withCorners
 corners n p q m x y pq qn e =
-    cells-matrix (cells-ext (λ i j a b. go i j (ℕ-discrete i p) (ℕ-discrete i q) (ℕ-discrete j p) (ℕ-discrete j q)) (cells-put q p nought qn pn (cells-put p q nought pn qn (cells-put q q y qn qn (cells-put p p x pn pn (cells-own n m e))))))
+    let diagonal = cells-put q q y qn qn (cells-put p p x pn pn (cells-own n m e)) in
+    let all = cells-put q p nought qn pn (cells-put p q nought pn qn diagonal) in
+    cells-matrix (cells-ext (λ i j a b. go i j (ℕ-discrete i p) (ℕ-discrete i q) (ℕ-discrete j p) (ℕ-discrete j q)) all)
   where
     pn : p < n
     pn = omega arith
@@ -67,7 +72,8 @@ corners n p q m x y pq qn e =
     written : ℕ → ℕ → Float
     written = put (put (put (put (at m n) p p x) q q y) p q nought) q p nought
 
-    go : (i j : ℕ) → Dec (i ≡ p) → Dec (i ≡ q) → Dec (j ≡ p) → Dec (j ≡ q) → written i j ≡ cond (either p q i) (cond (either p q j) (cond (eqb i j) (cond (eqb i p) x y) nought) (at m n i j)) (at m n i j)
+    go : (i j : ℕ) → Dec (i ≡ p) → Dec (i ≡ q) → Dec (j ≡ p) → Dec (j ≡ q)
+        → written i j ≡ cond (either p q i) (cond (either p q j) (cond (eqb i j) (cond (eqb i p) x y) nought) (at m n i j)) (at m n i j)
     go i j (yes a) b (yes c) d = rw (eq-eqb i p a, ne-eqb i q (λ w. omega arith), eq-eqb j p c, ne-eqb j q (λ w. omega arith), eq-eqb i j (omega arith))
     go i j (yes a) b (no c) (yes d) = rw (eq-eqb i p a, ne-eqb i q (λ w. omega arith), ne-eqb j p c, eq-eqb j q d, ne-eqb i j (λ w. omega arith))
     go i j (yes a) b (no c) (no d) = rw (eq-eqb i p a, ne-eqb i q (λ w. omega arith), ne-eqb j p c, ne-eqb j q d)
@@ -114,10 +120,10 @@ module _ (n p : ℕ) (m : List Float) (pn : p < n) where
 
 module _ (g : Rotation) (n p q : ℕ) (m : List Float) (pq : p < q) (qn : q < n) where
   -- the new entries on the diagonal
-  abbrev first : Float
+  abbrev pub first : Float
   first = sub (at m n p p) (mul (g .tangent) (at m n p q))
 
-  abbrev second : Float
+  abbrev pub second : Float
   second = add (at m n q q) (mul (g .tangent) (at m n p q))
 
   -- entry (i, j) when the rows are turned and the crossings set
@@ -177,7 +183,8 @@ module _ (g : Rotation) (n p q : ℕ) (m : List Float) (pq : p < q) (qn : q < n)
   entry sm i j h k (no a) (no b) (no c) (yes d) = rw (d, qq, q-p, ne-eqb i p a, ne-eqb i q b, sm i p h pn, sm i q h qn)
   entry sm i j h k (no a) (no b) (no c) (no d) = rw (ne-eqb i p a, ne-eqb i q b, ne-eqb j p c, ne-eqb j q d)
 
-  pub rows-make : Symmetric n m → mirrored n q (mirrored n p (withCorners n p q (sub (at m n p p) (mul (g .tangent) (at m n p q))) (add (at m n q q) (mul (g .tangent) (at m n p q))) (turnedRows g n p q m))) ≡ matrix n n (turnedEntry g m n p q)
+  pub rows-make : Symmetric n m
+      → mirrored n q (mirrored n p (withCorners n p q first second (turnedRows g n p q m))) ≡ matrix n n (turnedEntry g m n p q)
   rows-make sm = rw (crossed, once) (twice ∙ matrix-ext n n _ _ (λ i j h k. entry sm i j h k (ℕ-discrete i p) (ℕ-discrete i q) (ℕ-discrete j p) (ℕ-discrete j q)))
 
   -- the vectors as rows
@@ -194,7 +201,11 @@ turned-symmetric : (g : Rotation) (n p q : ℕ) (m : List Float) → Symmetric n
 unfolding Symmetric turnedEntry cornerEntry
 turned-symmetric g n p q m sm i j h k = at-matrix n n _ i j h k ∙ go (either p q i) (either p q j) (ℕ-discrete i j) ∙ sym (at-matrix n n _ j i k h)
   where
-    go : (a b : Bool) → Dec (i ≡ j) → cond a (cond b (cornerEntry g m n p q i j) (turned g p i (at m n j p) (at m n j q))) (cond b (turned g p j (at m n i p) (at m n i q)) (at m n i j)) ≡ cond b (cond a (cornerEntry g m n p q j i) (turned g p j (at m n i p) (at m n i q))) (cond a (turned g p i (at m n j p) (at m n j q)) (at m n j i))
+    across : ℕ → ℕ → Float
+    across k l = turned g p k (at m n l p) (at m n l q)
+
+    go : (a b : Bool) → Dec (i ≡ j)
+        → cond a (cond b (cornerEntry g m n p q i j) (across i j)) (cond b (across j i) (at m n i j)) ≡ cond b (cond a (cornerEntry g m n p q j i) (across j i)) (cond a (across i j) (at m n j i))
     go true true (yes e) = rw e
     go true true (no e) = rw (ne-eqb i j e, ne-eqb j i (λ w. e (sym w)))
     go true false d = refl
@@ -219,7 +230,10 @@ module _ (n p q : ℕ) (m v : List Float) where
   skipped ex ey ez e t = rw (← ex, ← ey, ← ez, ← e, t)
 
   -- it is rotated, in the code's five steps
-  pub made : {b : Bool} {x y z : Float} {g : Rotation} {m₁ m₂ m₃ m₄ w : List Float} → p < q → q < n → Symmetric n m → x ≡ at m n p p → y ≡ at m n p q → z ≡ at m n q q → b ≡ negligible x y z → b ≡ false → g ≡ rotation x y z → m₁ ≡ turnedRows g n p q m → m₂ ≡ withCorners n p q (sub x (mul (g .tangent) y)) (add z (mul (g .tangent) y)) m₁ → m₃ ≡ mirrored n p m₂ → m₄ ≡ mirrored n q m₃ → w ≡ turnedRows g n p q v → stateOf n m₄ w ≡ rotated n p q (stateOf n m v)
+  pub made : {b : Bool} {x y z : Float} {g : Rotation} {m₁ m₂ m₃ m₄ w : List Float} → p < q → q < n → Symmetric n m → x ≡ at m n p p → y ≡ at m n p q
+      → z ≡ at m n q q → b ≡ negligible x y z → b ≡ false → g ≡ rotation x y z → m₁ ≡ turnedRows g n p q m
+      → m₂ ≡ withCorners n p q (sub x (mul (g .tangent) y)) (add z (mul (g .tangent) y)) m₁ → m₃ ≡ mirrored n p m₂ → m₄ ≡ mirrored n q m₃
+      → w ≡ turnedRows g n p q v → stateOf n m₄ w ≡ rotated n p q (stateOf n m v)
   unfolding rotated turnedBy
   made {g = g} pq qn sm ex ey ez e t eg e₁ e₂ e₃ e₄ ew =
       rw (← ex, ← ey, ← ez, ← e, t, ← eg, e₄, e₃, e₂, e₁, ew, ex, ey, ez)

@@ -40,7 +40,12 @@ module _ (e : List Float) (l : List ℕ) (k : ℕ) (u : Below k k l) (d : Descen
   stable-both s a b h i (new p f) (kept q g) t = absurd (omega arith)
   stable-both s a b h i (new p f) (new q g) t = absurd (omega arith)
   stable-both s a b h i (new p f) (moved q g) t =
-      absurd (denied (lt (nth e (place l (b - 1))) (nth e k)) (rw (f, g) at t) (below-too (nth e (place l (spot e l k))) (nth e k) (nth e (place l (b - 1))) (numbers (place l (spot e l k)) (u (spot e l k) (omega arith))) (numbers (place l (b - 1)) (u (b - 1) (omega arith))) (spot-at e l k (omega arith)) (rest-less e l k d b q i)))
+      let x = place l (spot e l k) in
+      let z = place l (b - 1) in
+      let nx = numbers x (u (spot e l k) (omega arith)) in
+      let nz = numbers z (u (b - 1) (omega arith)) in
+      let below = below-too (nth e x) (nth e k) (nth e z) nx nz (spot-at e l k (omega arith)) (rest-less e l k d b q i) in
+      absurd (denied (lt (nth e z) (nth e k)) (rw (f, g) at t) below)
   stable-both s a b h i (moved p f) (kept q g) t = absurd (omega arith)
   stable-both s a b h i (moved p f) (new q g) t = absurd (omega arith)
   stable-both s a b h i (moved p f) (moved q g) t = rw (f, g) (s (a - 1) (b - 1) (omega arith) (omega arith) (rw (f, g) at t))

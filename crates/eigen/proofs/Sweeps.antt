@@ -30,10 +30,12 @@ pub above-none : (x : Float) (m : List Float) (n i : ℕ) → x ≡ sumFrom x (i
 unfolding sumFrom
 above-none x m n i = ap (λ (k : ℕ). sumFrom x k (λ d. square m n i (suc i + d))) (let e : 0 ≡ i + 1 - suc i = omega arith in e)
 
-pub above-end : (x : Float) (m : List Float) (n i : ℕ) {j : ℕ} {s : Float} → j ≤ n → n ≤ j → s ≡ sumFrom x (j - suc i) (λ d. square m n i (suc i + d)) → s ≡ sumFrom x (n - suc i) (λ d. square m n i (suc i + d))
+pub above-end : (x : Float) (m : List Float) (n i : ℕ) {j : ℕ} {s : Float} → j ≤ n → n ≤ j → s ≡ sumFrom x (j - suc i) (λ d. square m n i (suc i + d))
+    → s ≡ sumFrom x (n - suc i) (λ d. square m n i (suc i + d))
 above-end x m n i h k p = p ∙ ap (λ (l : ℕ). sumFrom x (l - suc i) (λ d. square m n i (suc i + d))) (le-antisymm h k)
 
-pub above-term : (x : Float) (m : List Float) (n i j : ℕ) {s y : Float} → i < j → s ≡ sumFrom x (j - suc i) (λ d. square m n i (suc i + d)) → y ≡ at m n i j → add s (mul y y) ≡ sumFrom x (j + 1 - suc i) (λ d. square m n i (suc i + d))
+pub above-term : (x : Float) (m : List Float) (n i j : ℕ) {s y : Float} → i < j → s ≡ sumFrom x (j - suc i) (λ d. square m n i (suc i + d)) → y ≡ at m n i j
+    → add s (mul y y) ≡ sumFrom x (j + 1 - suc i) (λ d. square m n i (suc i + d))
 above-term x m n i j {s} {y} h p e = sum-more x (λ d. square m n i (suc i + d)) (j - suc i) p (rw e (ap (square m n i) place)) ∙ ap (λ (k : ℕ). sumFrom x k (λ d. square m n i (suc i + d))) count
   where
     place : j ≡ suc i + (j - suc i)

@@ -19,7 +19,8 @@ use Rattle.kernel.specs.Number.{add, mul, max, abs}
 use Rattle.dense.specs.Matrix.{sumFrom, nth, at, matrix, unitEntry, identity, finiteEntries}
 use Rattle.dense.proofs.Laws.{cell, nth-tabulate, at-matrix, matrix-ext, matrix-by-entries}
 use Rattle.kernel.proofs.Lists.{length-tabulate, tabulate-ext}
-use Rattle.eigen.specs.Eigen.{symmetrizedEntry, symmetrized, begun, aboveRows, tolerance, stops, sweptRow, sweptRows, afterSweeps, sweeps, settled, place, spot, insertedAt, order, diagonal, arranged, pairsOf, eigenpairs}
+use Rattle.eigen.specs.Eigen.{symmetrizedEntry, begun, aboveRows, tolerance, stops, sweptRow, sweptRows, afterSweeps, sweeps, settled}
+use Rattle.eigen.specs.Eigen.{place, spot, order, diagonal, arranged, pairsOf, eigenpairs}
 use Rattle.eigen.proofs.Orders.{place-inserted, insertedElement, order-below}
 use Rattle.eigen.proofs.Answered.{eigenpairs-final}
 use Rattle.eigen.proofs.Sorting.{order-suc}
@@ -130,7 +131,10 @@ zero-begun n = ap (λ (m : List Float). state m (identity n)) (matrix-ext n n (s
   where
     go : (i j : ℕ) → i < n → j < n → Dec (i ≡ j) → symmetrizedEntry (zeros n) n i j ≡ nought
     go i j h k (yes e) = rw (eq-eqb i j e) (at-zeros n i j h k)
-    go i j h k (no e) = rw (ne-eqb i j e, at-zeros n (Nat.min i j) (Nat.max i j) (omega arith) (omega arith), at-zeros n (Nat.max i j) (Nat.min i j) (omega arith) (omega arith), plus-nought) half-nought
+    go i j h k (no e) =
+        let upper = at-zeros n (Nat.min i j) (Nat.max i j) (omega arith) (omega arith) in
+        let lower = at-zeros n (Nat.max i j) (Nat.min i j) (omega arith) (omega arith) in
+        rw (ne-eqb i j e, upper, lower, plus-nought) half-nought
 
 -- ---- the order of equal numbers
 
@@ -175,8 +179,11 @@ module _ (n : ℕ) where
   zero-arranged : arranged zero-values (identity n) n (order zero-values n) ≡ record { values = tabulate n (λ k. nought); vectors = identity n }
   unfolding arranged
   zero-arranged =
-      ap (λ (l : List Float). record { values = l; vectors = matrix n n (λ i k. at (identity n) n i (place (order zero-values n) k)) }) (tabulate-ext n _ _ (λ k h. ap (nth zero-values) (ordered k h) ∙ nth-values k h))
-      ∙ ap (λ (m : List Float). record { values = tabulate n (λ k. nought); vectors = m }) (matrix-ext n n _ unitEntry (λ i k h b. ap (λ (j : ℕ). at (identity n) n i j) (ordered k b) ∙ at-matrix n n unitEntry i k h b))
+      let l = order zero-values n in
+      let numbers = tabulate-ext n (λ k. nth zero-values (place l k)) (λ k. nought) (λ k h. ap (nth zero-values) (ordered k h) ∙ nth-values k h) in
+      let units = matrix-ext n n _ unitEntry (λ i k h b. ap (λ (j : ℕ). at (identity n) n i j) (ordered k b) ∙ at-matrix n n unitEntry i k h b) in
+      ap (λ (v : List Float). record { values = v; vectors = matrix n n (λ i k. at (identity n) n i (place l k)) }) numbers
+      ∙ ap (λ (m : List Float). record { values = tabulate n (λ k. nought); vectors = m }) units
 
   zero-pairs : pairsOf n (state (zeros n) (identity n)) ≡ answered (record { values = tabulate n (λ k. nought); vectors = identity n })
   unfolding pairsOf

@@ -62,7 +62,8 @@ module _ (e : List Float) (floor : Float) where
   mask-all n i h k p = p ∙ ap (λ (j : ℕ). tabulate 16 (maskTo j)) (le-antisymm h k)
 
   -- the report of its parts
-  pub told : (n : ℕ) {a : ℕ} {b : Float} {m : List Bool} → a ≡ clipCount e floor n → b ≡ largestClip e floor n → m ≡ clipMask e floor n → record { «n_clipped» = a; «max_clip_magnitude» = b; «clipped_indices» = m } ≡ reportOf e floor n
+  pub told : (n : ℕ) {a : ℕ} {b : Float} {m : List Bool} → a ≡ clipCount e floor n → b ≡ largestClip e floor n → m ≡ clipMask e floor n
+      → record { «n_clipped» = a; «max_clip_magnitude» = b; «clipped_indices» = m } ≡ reportOf e floor n
   unfolding reportOf
   told n p q r = rw (p, q, r)
 
@@ -71,6 +72,7 @@ pub times-row : (x v : List Float) (n j : ℕ) {y : List Float} {d : Float} → 
 times-row x v n j {y} p q = q ∙ sum-ext nought n _ _ (λ k h. ap (mul (nth x k)) (ap (λ (l : List Float). nth l k) p ∙ nth-row v n j k h))
 
 -- row i, scaled and then multiplied with each row
-pub rebuilt : (v e : List Float) (n i : ℕ) {x : List Float} → x ≡ tabulate n (λ k. mul (at v n i k) (nth e k)) → tabulate n (λ j. total n (λ k. mul (nth x k) (at v n j k))) ≡ tabulate n (rebuiltEntry v e n i)
+pub rebuilt : (v e : List Float) (n i : ℕ) {x : List Float} → x ≡ tabulate n (λ k. mul (at v n i k) (nth e k))
+    → tabulate n (λ j. total n (λ k. mul (nth x k) (at v n j k))) ≡ tabulate n (rebuiltEntry v e n i)
 unfolding rebuiltEntry
 rebuilt v e n i {x} p = tabulate-ext n _ _ (λ j h. sum-ext nought n _ _ (λ k b. ap (λ (z : Float). mul z (at v n j k)) (ap (λ (l : List Float). nth l k) p ∙ nth-tabulate n (λ a. mul (at v n i a) (nth e a)) k b)))

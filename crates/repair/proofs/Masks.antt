@@ -27,7 +27,8 @@ bit e floor n k h b = ap (λ (l : List Bool). getD l k false) (mask-is e floor n
 -- ---- false, then true
 
 -- the eigenpairs of an answered repair, and what is made of them
-pairs-of : (cov : List Float) (floor : Float) (n : ℕ) (out : List Float) (r : Repair) → nearestPsd cov floor n out ≡ answered r → (p : Eigenpairs) × (eigenpairs cov n ≡ answered p) × (repairOf floor n p ≡ r)
+pairs-of : (cov : List Float) (floor : Float) (n : ℕ) (out : List Float) (r : Repair) → nearestPsd cov floor n out ≡ answered r
+    → (p : Eigenpairs) × (eigenpairs cov n ≡ answered p) × (repairOf floor n p ≡ r)
 unfolding nearestPsd repair
 pairs-of cov floor n out r met =
     through-met (repairOf floor n) (eigenpairs cov n) (ask-met 3 (finiteEntries cov (n * n)) _ (ask-met 2 (long cov (n * n) && long out (n * n)) _ (ask-met 1 (side n) _ met .1) .1) .1)
@@ -40,10 +41,14 @@ held : (b : Bool) → T b → b ≡ true
 held true t = refl
 held false t = absurd t
 
-falls : (floor : Float) (n i j : ℕ) (p : Eigenpairs) (cov : List Float) → n ≤ 16 → eigenpairs cov n ≡ answered p → i < j → j < n → getD (clipMask (p .values) floor n) i false ≡ true → getD (clipMask (p .values) floor n) j false ≡ true
+falls : (floor : Float) (n i j : ℕ) (p : Eigenpairs) (cov : List Float) → n ≤ 16 → eigenpairs cov n ≡ answered p → i < j → j < n
+    → getD (clipMask (p .values) floor n) i false ≡ true → getD (clipMask (p .values) floor n) j false ≡ true
 falls floor n i j p cov s met h k c =
-    bit (p .values) floor n j s k
-    ∙ held _ (below-too (nth (p .values) i) floor (nth (p .values) j) (eigen-numbers cov n p met i (omega arith)) (eigen-numbers cov n p met j k) (sym (bit (p .values) floor n i s (omega arith)) ∙ c) (eigen-descends cov n p met i j h k))
+    let e = p .values in
+    let x = eigen-numbers cov n p met i (omega arith) in
+    let y = eigen-numbers cov n p met j k in
+    let below = sym (bit e floor n i s (omega arith)) ∙ c in
+    bit e floor n j s k ∙ held _ (below-too (nth e i) floor (nth e j) x y below (eigen-descends cov n p met i j h k))
 
 -- its order
 order-of : (cov : List Float) (floor : Float) (n : ℕ) (out : List Float) (r : Repair) → nearestPsd cov floor n out ≡ answered r → n ≤ 16
@@ -54,10 +59,13 @@ order-of cov floor n out r met = side-high n (ask-met 1 (side n) _ met .0)
 abbrev pub masked : Repair → ℕ → Bool
 masked r i = getD (r .report .«clipped_indices») i false
 
-pub mask-falls : (cov : List Float) (floor : Float) (n : ℕ) (out : List Float) (r : Repair) → nearestPsd cov floor n out ≡ answered r → (i j : ℕ) → i < j → j < n → masked r i ≡ true → masked r j ≡ true
+pub mask-falls : (cov : List Float) (floor : Float) (n : ℕ) (out : List Float) (r : Repair) → nearestPsd cov floor n out ≡ answered r → (i j : ℕ) → i < j → j < n
+    → masked r i ≡ true → masked r j ≡ true
 mask-falls cov floor n out r met i j h k c =
     let w = pairs-of cov floor n out r met in
-    let mask : (x : ℕ) → masked r x ≡ getD (clipMask (w .0 .values) floor n) x false = λ x. ap (λ (z : Repair). masked z x) (sym (w .2)) ∙ ap (λ (l : List Bool). getD l x false) (mask-of floor n (w .0)) in
+    let e = w .0 .values in
+    let mask : (x : ℕ) → masked r x ≡ getD (clipMask e floor n) x false = λ x.
+    ap (λ (z : Repair). masked z x) (sym (w .2)) ∙ ap (λ (l : List Bool). getD l x false) (mask-of floor n (w .0)) in
     mask j ∙ falls floor n i j (w .0) cov (order-of cov floor n out r met) (w .1) h k (sym (mask i) ∙ c)
 
 -- ---- the count

@@ -43,10 +43,13 @@ module _ (cov : List Float) (floor : Float) (n : ℕ) (e v : List Float) where
   answered-by (refused k) p = let a = ap answer-of p in absurd (let z : _≡_ {A = ℕ} 0 1 = cc in omega arith)
   answered-by (answered r) p = ap (λ (z : Told). answered (record { values = z .1; vectors = z .2 })) (sym p)
 
-  pub repair-refused : (out : List Float) {q : ℕ} {a : Written} {x y : List Float} {r : Repaired} → matSymmetricEigen cov n e v ≡ eigenpairs cov n → a ≡ Refused q → _≡_ {A = Told} (a, x, y) (afterPairs (matSymmetricEigen cov n e v) e v) → r ≡ refusal q → (r, out) ≡ afterRepair (repair cov floor n) out
+  pub repair-refused : (out : List Float) {q : ℕ} {a : Written} {x y : List Float} {r : Repaired} → matSymmetricEigen cov n e v ≡ eigenpairs cov n → a ≡ Refused q
+      → _≡_ {A = Told} (a, x, y) (afterPairs (matSymmetricEigen cov n e v) e v) → r ≡ refusal q → (r, out) ≡ afterRepair (repair cov floor n) out
   unfolding repair
   repair-refused out m t p f = rw (f, sym m ∙ refused-by (matSymmetricEigen cov n e v) (rw t at p))
 
-  pub repair-done : (out : List Float) {a : Written} {x y z new : List Float} {t : RegularizationReport} → matSymmetricEigen cov n e v ≡ eigenpairs cov n → a ≡ Done → _≡_ {A = Told} (a, x, y) (afterPairs (matSymmetricEigen cov n e v) e v) → t ≡ reportOf x floor n → z ≡ tabulate n (λ k. raised floor (nth x k)) → new ≡ matrix n n (rebuiltEntry y z n) → _≡_ {A = Repaired × List Float} (record { answer = Done; report = t }, new) (afterRepair (repair cov floor n) out)
+  pub repair-done : (out : List Float) {a : Written} {x y z new : List Float} {t : RegularizationReport} → matSymmetricEigen cov n e v ≡ eigenpairs cov n → a ≡ Done
+      → _≡_ {A = Told} (a, x, y) (afterPairs (matSymmetricEigen cov n e v) e v) → t ≡ reportOf x floor n → z ≡ tabulate n (λ k. raised floor (nth x k))
+      → new ≡ matrix n n (rebuiltEntry y z n) → _≡_ {A = Repaired × List Float} (record { answer = Done; report = t }, new) (afterRepair (repair cov floor n) out)
   unfolding repair repairOf
   repair-done out m t p ft fz fn = rw (sym m ∙ answered-by (matSymmetricEigen cov n e v) (rw t at p), ft, fn, fz)

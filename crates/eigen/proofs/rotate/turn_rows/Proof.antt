@@ -53,9 +53,10 @@ loop-again c =
     let w = at .loop .inv .1 in
     let old-p = turn-next (x .g) (x .n) (x .p) (x .q) (x .m .now) (at .loop .j) (x .p) (omega arith) (omega arith) w in
     let old-q = turn-next (x .g) (x .n) (x .p) (x .q) (x .m .now) (at .loop .j) (x .q) (omega arith) (omega arith) w in
-    (omega arith,
-     rw (c .before .before .put2 .ensures, first .put .ensures)
-     (turn-more (x .g) (x .n) (x .p) (x .q) (x .m .now) (entered at .pre .0) (entered at .pre .1) (at .loop .j) (omega arith) (second .before .before .entry .ensures ∙ old-p) (second .entry2 .ensures ∙ old-q) w))
+    let e-p = second .before .before .entry .ensures ∙ old-p in
+    let e-q = second .entry2 .ensures ∙ old-q in
+    let more = turn-more (x .g) (x .n) (x .p) (x .q) (x .m .now) (entered at .pre .0) (entered at .pre .1) (at .loop .j) (omega arith) e-p e-q w in
+    (omega arith, rw (c .before .before .put2 .ensures, first .put .ensures) more)
 
 same-length : tie.Need-same-length Inv-loop μ-loop
 same-length c = c .before .loop .inv .1 .size ∙ sym (c .before .before .before .pre .2)

@@ -70,10 +70,11 @@ loop-again c =
     let at = turn test in
     let x = entered at in
     let call = c .before .before .before .before .sweep in
-    let w = at .loop .inv .2 in
-    (omega arith,
-     first-more _ (at .loop .k) (at .loop .inv .1) (sym (told test) ∙ c .before .before .before .before .before .before .before .if1 .left),
-     held-next (call .kept .0) (call .kept .1 .0) (after-more (x .args .n) (at .loop .k) (begun x) (w .same) (call .ensures)) w)
+    let w = at .loop .inv .2 in (
+      omega arith,
+      first-more _ (at .loop .k) (at .loop .inv .1) (sym (told test) ∙ c .before .before .before .before .before .before .before .if1 .left),
+      held-next (call .kept .0) (call .kept .1 .0) (after-more (x .args .n) (at .loop .k) (begun x) (w .same) (call .ensures)) w,
+    )
 
 same-length-3 : tie.Need-same-length-3 Inv-loop μ-loop
 same-length-3 c = c .before .loop .inv .2 .matrix-size ∙ sym (c .before .before .before .before .pre .0)

@@ -21,9 +21,11 @@ loop-holds c = (omega arith, record { matrix-size = c .before .before .pre .0; v
 
 sweep-row-requires : tie.Need-sweep-row-requires Inv-loop μ-loop
 sweep-row-requires c κs =
-    let x = c .before .before .before .before .before .before .args in
+    let start = c .before .before .before .before .before .before in
+    let x = start .args in
     let turn = c .before .before .before .loop in
-    (omega arith, turn .inv .1 .matrix-size, turn .inv .1 .vectors-size, held-symmetric (rows-symmetric (x .n) (stateOf (x .n) (x .m .now) (x .v .now)) (turn .p) (c .before .before .before .before .before .before .pre .2)) (turn .inv .1))
+    let even = rows-symmetric (x .n) (stateOf (x .n) (x .m .now) (x .v .now)) (turn .p) (start .pre .2) in
+    (omega arith, turn .inv .1 .matrix-size, turn .inv .1 .vectors-size, held-symmetric even (turn .inv .1))
 
 loop-again : tie.Need-loop-again Inv-loop μ-loop
 loop-again c =

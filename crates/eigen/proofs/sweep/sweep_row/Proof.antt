@@ -4,6 +4,7 @@ use native.Mathlib.Omega.{arith}
 use native.Mathlib.Nat.{le-antisymm}
 use mathlib.Core.Path.{sym, ap, _∙_}
 use Rattle.eigen.specs.Eigen.{sweptRow}
+use Rattle.eigen.specs.Rotation.{State}
 use Rattle.eigen.specs.Rows.{stateOf}
 use Rattle.eigen.proofs.Sweeps.{Held, held-symmetric, held-next, row-none, row-more, row-symmetric}
 use Rattle.eigen.proofs.sweep.sweep_row.Statement.{statement}
@@ -15,6 +16,10 @@ Inv-loop m₀ v₀ n p q₀ m v q = (p < q) × (q ≤ n) × Held n (sweptRow n p
 abbrev μ-loop : tie.MeasureT-loop
 μ-loop m₀ v₀ n p q₀ m v q = n - q
 
+-- the state at the start
+abbrev begun : tie.Start Inv-loop μ-loop → State
+begun c = stateOf (c .args .n) (c .args .m .now) (c .args .v .now)
+
 loop-holds : tie.Need-loop-holds Inv-loop μ-loop
 loop-holds c =
     let x = c .before .before .args in
@@ -22,16 +27,20 @@ loop-holds c =
 
 rotate-requires : tie.Need-rotate-requires Inv-loop μ-loop
 rotate-requires c κs =
-    let x = c .before .before .before .before .before .before .args in
+    let start = c .before .before .before .before .before .before in
     let turn = c .before .before .before .loop in
-    (turn .inv .0, omega arith, turn .inv .2 .matrix-size, turn .inv .2 .vectors-size, held-symmetric (row-symmetric (x .n) (x .p) (stateOf (x .n) (x .m .now) (x .v .now)) (turn .q - suc (x .p)) (c .before .before .before .before .before .before .pre .3)) (turn .inv .2))
+    let w = turn .inv .2 in
+    let even = row-symmetric (start .args .n) (start .args .p) (begun start) (turn .q - suc (start .args .p)) (start .pre .3) in
+    (turn .inv .0, omega arith, w .matrix-size, w .vectors-size, held-symmetric even w)
 
 loop-again : tie.Need-loop-again Inv-loop μ-loop
 loop-again c =
-    let x = c .before .before .before .before .before .before .before .before .before .before .before .args in
+    let start = c .before .before .before .before .before .before .before .before .before .before .before in
     let turn = c .before .before .before .before .before .before .before .before .loop in
     let call = c .before .before .before .before .rotate in
-    (omega arith, omega arith, held-next (call .kept .0) (call .kept .1 .0) (row-more (x .n) (x .p) (turn .q) (stateOf (x .n) (x .m .now) (x .v .now)) (turn .inv .0) (turn .inv .2 .same) (call .ensures)) (turn .inv .2))
+    let w = turn .inv .2 in
+    let made = row-more (start .args .n) (start .args .p) (turn .q) (begun start) (turn .inv .0) (w .same) (call .ensures) in
+    (omega arith, omega arith, held-next (call .kept .0) (call .kept .1 .0) made w)
 
 same-length : tie.Need-same-length Inv-loop μ-loop
 same-length c = c .before .loop .inv .2 .matrix-size ∙ sym (c .before .before .before .before .pre .1)

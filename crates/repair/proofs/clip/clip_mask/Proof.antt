@@ -21,7 +21,10 @@ loop-again : tie.Need-loop-again Inv-loop μ-loop
 loop-again c = (omega arith, mask-more (c .before .before .before .args .e .now) (c .before .before .before .args .floor) (c .before .before .loop .i) (omega arith) (c .before .before .loop .inv .1))
 
 returns : tie.Need-returns Inv-loop μ-loop
-returns c = mask-all (c .before .before .args .e .now) (c .before .before .args .floor) (c .before .before .args .n) (c .before .loop .i) (c .before .loop .inv .0) (c .loop-test .left) (c .before .loop .inv .1)
+returns c =
+    let x = c .before .before .args in
+    let turn = c .before .loop in
+    mask-all (x .e .now) (x .floor) (x .n) (turn .i) (turn .inv .0) (c .loop-test .left) (turn .inv .1)
 
 pub clip-mask-spec : {M : Type 1} → statement M
 clip-mask-spec = tie.close (tie.spec Inv-loop μ-loop loop-holds (λ c. omega arith) (λ c. omega arith) (λ c. omega arith) (λ c. omega arith) (λ c. omega arith) loop-again returns)

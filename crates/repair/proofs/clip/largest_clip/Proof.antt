@@ -20,7 +20,10 @@ unfolding largestClip
 loop-holds c = (omega arith, refl)
 
 loop-again : tie.Need-loop-again Inv-loop μ-loop
-loop-again c = let x = c .before .before .before .before .before .args in (omega arith, clip-more (x .e .now) (x .floor) (c .before .before .before .loop .i) (c .before .before .before .loop .inv .1) (c .greater-clip .ensures))
+loop-again c =
+    let x = c .before .before .before .before .before .args in
+    let turn = c .before .before .before .loop in
+    (omega arith, clip-more (x .e .now) (x .floor) (turn .i) (turn .inv .1) (c .greater-clip .ensures))
 
 returns : tie.Need-returns Inv-loop μ-loop
 returns c = let x = c .before .before .before .args in c .before .loop .inv .1 ∙ ap (largestClip (x .e .now) (x .floor)) (le-antisymm (c .before .loop .inv .0) (c .loop-test .left))

@@ -27,7 +27,8 @@ dot-requires c κs = (c .before .before .before .before .before .before .pre .0,
 loop-again : tie.Need-loop-again Inv-loop μ-loop
 loop-again c =
     let x = c .before .before .before .before .before .before .before .args in
-    (omega arith, filled-more _ (c .before .before .before .loop .j) (omega arith) (times-row (x .x .now) (x .v .now) (x .n) (c .before .before .before .loop .j) (c .before .row .ensures .1) (c .dot .ensures)) (c .before .before .before .loop .inv .1))
+    let turn = c .before .before .before .loop in
+    (omega arith, filled-more _ (turn .j) (omega arith) (times-row (x .x .now) (x .v .now) (x .n) (turn .j) (c .before .row .ensures .1) (c .dot .ensures)) (turn .inv .1))
 
 same-length : tie.Need-same-length Inv-loop μ-loop
 same-length c = c .before .loop .inv .1 .size

@@ -15,23 +15,30 @@ Inv-loop v e n x₀ out₀ i₀ x out i = (i ≤ n) × (length x ≡ length x₀
 abbrev μ-loop : tie.MeasureT-loop
 μ-loop v e n x₀ out₀ i₀ x out i = n - i
 
+abbrev turn : tie.In-loop Inv-loop μ-loop → tie.At-loop Inv-loop μ-loop
+turn c = c .before
+
+abbrev entered : tie.At-loop Inv-loop μ-loop → tie.Start Inv-loop μ-loop
+entered c = c .before .before .before .before .before
+
 -- row i lies within the slice
-within : (c : tie.In-loop Inv-loop μ-loop) → c .before .loop .i * c .before .before .before .before .before .before .args .n + c .before .before .before .before .before .before .args .n ≤ length (c .before .loop .out)
-within c = omega (arith, row-within (c .before .before .before .before .before .before .args .n) (c .before .before .before .before .before .before .args .n) {i = c .before .loop .i} (omega arith))
+within : (c : tie.In-loop Inv-loop μ-loop) → turn c .loop .i * entered (turn c) .args .n + entered (turn c) .args .n ≤ length (turn c .loop .out)
+within c = let n = entered (turn c) .args .n in omega (arith, row-within n n {i = turn c .loop .i} (omega arith))
 
 loop-holds : tie.Need-loop-holds Inv-loop μ-loop
 loop-holds c = (omega arith, refl, rows-none _ _ _)
 
 rebuilt-row-requires : tie.Need-rebuilt-row-requires Inv-loop μ-loop
 rebuilt-row-requires c κs =
-    let x = c .before .before .before .before .before .before .before .before in
-    (omega arith, x .pre .0, x .pre .1, c .before .before .before .loop .inv .1 ∙ x .pre .2, length-part (c .before .before .before .loop .out) (x .args .n) (c .before .before .before .loop .i) (within (c .before .before)))
+    let at = turn (c .before .before) in
+    let x = entered at in
+    (omega arith, x .pre .0, x .pre .1, at .loop .inv .1 ∙ x .pre .2, length-part (at .loop .out) (x .args .n) (at .loop .i) (within (c .before .before)))
 
 loop-again : tie.Need-loop-again Inv-loop μ-loop
 loop-again c =
-    let turn = c .before .before .before .before .before .before .before .before .loop in
+    let at = turn (c .before .before .before .before .before .before .before) in
     let call = c .before .before .before .before .rebuilt-row in
-    (omega arith, call .kept .1 .1 .1 .1 .0 ∙ turn .inv .1, rows-more _ (c .before .before .before .before .before .before .before .before .before .before .before .before .before .args .n) (turn .i) (within (c .before .before .before .before .before .before .before)) (call .ensures) (turn .inv .2))
+    (omega arith, call .kept .1 .1 .1 .1 .0 ∙ at .loop .inv .1, rows-more _ (entered at .args .n) (at .loop .i) (within (c .before .before .before .before .before .before .before)) (call .ensures) (at .loop .inv .2))
 
 same-length : tie.Need-same-length Inv-loop μ-loop
 same-length c = c .before .loop .inv .1

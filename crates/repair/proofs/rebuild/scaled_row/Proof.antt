@@ -25,7 +25,8 @@ entry-requires c κs = let x = c .before .before .before .before .before .args i
 loop-again : tie.Need-loop-again Inv-loop μ-loop
 loop-again c =
     let turn = c .before .before .before .loop in
-    (omega arith, filled-more _ (turn .k) (omega arith) (ap (λ (z : Float). mul z (nth (c .before .before .before .before .before .before .before .args .e .now) (turn .k))) (c .before .entry .ensures)) (turn .inv .1))
+    let e = c .before .before .before .before .before .before .before .args .e .now in
+    (omega arith, filled-more _ (turn .k) (omega arith) (ap (λ (z : Float). mul z (nth e (turn .k))) (c .before .entry .ensures)) (turn .inv .1))
 
 same-length : tie.Need-same-length Inv-loop μ-loop
 same-length c = c .before .loop .inv .1 .size
@@ -34,4 +35,6 @@ returns : tie.Need-returns Inv-loop μ-loop
 returns c = filled-all _ (c .before .before .before .before .before .pre .3) (c .loop-test .left) (c .before .loop .inv .1)
 
 pub scaled-row-spec : {M : Type 1} → statement M
-scaled-row-spec = tie.close (tie.spec Inv-loop μ-loop loop-holds entry-requires (λ c. omega arith) (λ c. omega arith) (λ c. omega arith) (λ c. omega arith) (λ c. omega arith) (λ c. omega arith) loop-again same-length returns)
+scaled-row-spec =
+    tie.close
+    (tie.spec Inv-loop μ-loop loop-holds entry-requires (λ c. omega arith) (λ c. omega arith) (λ c. omega arith) (λ c. omega arith) (λ c. omega arith) (λ c. omega arith) loop-again same-length returns)
