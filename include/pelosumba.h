@@ -47,6 +47,9 @@ uint32_t pel_mahalanobis_distance_squared(const double *x, size_t x_len, const d
 /* Eigenvalues in descending order, and their vectors in the columns of the second. */
 uint32_t pel_mat_symmetric_eigen(const double *a, size_t a_len, size_t n, double *values, size_t values_len,
                                  double *vectors, size_t vectors_len);
+/* The nearest matrix whose eigenvalues are not below min_eig; bit k of clipped_indices is for eigenvalue k. */
+uint32_t pel_nearest_psd(const double *cov, size_t cov_len, double min_eig, size_t n, double *out, size_t out_len,
+                         size_t *n_clipped, double *max_clip_magnitude, uint32_t *clipped_indices);
 uint32_t pel_mat3_det(const double *m, size_t m_len, double *out);
 uint32_t pel_mat3_inv(const double *m, size_t m_len, double *out, size_t out_len);
 uint32_t pel_mat3_solve(const double *a, size_t a_len, const double *b, size_t b_len, double *out, size_t out_len);

@@ -67,6 +67,18 @@ extern "C" {
         vectors_len: usize,
     ) -> u32;
 
+    fn pel_nearest_psd(
+        cov: *const f64,
+        cov_len: usize,
+        min_eig: f64,
+        n: usize,
+        out: *mut f64,
+        out_len: usize,
+        n_clipped: &mut usize,
+        max_clip_magnitude: &mut f64,
+        clipped_indices: &mut u32,
+    ) -> u32;
+
     fn pel_row_inf_norms(a: *const f64, a_len: usize, n: usize, out: *mut f64, out_len: usize) -> u32;
     fn pel_mat_solve(
         a: *const f64,
@@ -220,6 +232,19 @@ pub fn mat_symmetric_eigen(a: &[f64], n: usize, values: &mut [f64], vectors: &mu
             vectors.as_mut_ptr(),
             vectors.len(),
         )
+    }
+}
+
+/// The report goes to its three places: the clip count, the largest clip, and the mask's bits.
+pub fn nearest_psd(
+    cov: &[f64],
+    min_eig: f64,
+    n: usize,
+    out: &mut [f64],
+    report: (&mut usize, &mut f64, &mut u32),
+) -> u32 {
+    unsafe {
+        pel_nearest_psd(cov.as_ptr(), cov.len(), min_eig, n, out.as_mut_ptr(), out.len(), report.0, report.1, report.2)
     }
 }
 

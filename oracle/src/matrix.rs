@@ -260,19 +260,41 @@ pub const CALLS: &[Call] = &[
 ];
 
 /// The calls that rotate, which are compared on symmetric matrices too.
-const ROTATING: &[Call] = &[Call {
-    name: "mat_symmetric_eigen",
-    sides: one_side,
-    reads: square,
-    // The eigenvalues, and after them the vectors.
-    writes: |s| s[0] + s[0] * s[0],
-    single: false,
-    ours: |g, s, out| {
-        let (values, vectors) = out.split_at_mut(s[0].min(out.len()));
-        ffi::mat_symmetric_eigen(g.slices[0], s[0], values, vectors)
+const ROTATING: &[Call] = &[
+    Call {
+        name: "mat_symmetric_eigen",
+        sides: one_side,
+        reads: square,
+        // The eigenvalues, and after them the vectors.
+        writes: |s| s[0] + s[0] * s[0],
+        single: false,
+        ours: |g, s, out| {
+            let (values, vectors) = out.split_at_mut(s[0].min(out.len()));
+            ffi::mat_symmetric_eigen(g.slices[0], s[0], values, vectors)
+        },
+        theirs: at::mat_symmetric_eigen,
     },
-    theirs: at::mat_symmetric_eigen,
-}];
+    Call {
+        name: "nearest_psd",
+        sides: one_side,
+        reads: square,
+        // The matrix, and after it the clip count, the largest clip and the mask as a number.
+        writes: |s| s[0] * s[0] + 3,
+        single: false,
+        ours: |g, s, out| {
+            let (matrix, told) = out.split_at_mut(out.len().saturating_sub(3));
+            let (mut count, mut clip, mut mask) = (usize::MAX, -1.0, u32::MAX);
+            let number = ffi::nearest_psd(g.slices[0], g.number, s[0], matrix, (&mut count, &mut clip, &mut mask));
+            if number == 0 {
+                told.copy_from_slice(&[count as f64, clip, f64::from(mask)]);
+            } else {
+                assert!((count, clip, mask) == (usize::MAX, -1.0, u32::MAX), "a refusal wrote a report");
+            }
+            number
+        },
+        theirs: at::nearest_psd,
+    },
+];
 
 /// The lent result stands between two stretches of this length, which no call may touch.
 const GUARD: usize = 4;

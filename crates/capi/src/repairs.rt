@@ -68,29 +68,3 @@ pub extern "C" fn pel_nearest_psd(
         clipped_indices,
     )
 }
-
-// The same, by the other name.
-#[no_mangle]
-pub extern "C" fn pel_eigenvalue_floor(
-    cov: &[f64],
-    min_eig: f64,
-    n: usize,
-    out: &mut [f64],
-    n_clipped: &mut usize,
-    max_clip_magnitude: &mut f64,
-    clipped_indices: &mut u32,
-) -> u32
-    ensures { λ r. ⌜ (r, (now («n_clipped» .exit), (now («max_clip_magnitude» .exit), now («clipped_indices» .exit)))) ≡ toldRepair (Repair.nearestPsd (now (cov .entry)) «min_eig» n (now (out .entry))) (now («n_clipped» .entry)) (now («max_clip_magnitude» .entry)) (now («clipped_indices» .entry)) ⌝ }
-    ensures { λ _. ⌜ now (out .exit) ≡ rebuiltLeft (Repair.nearestPsd (now (cov .entry)) «min_eig» n (now (out .entry))) (now (out .entry)) ⌝ }
-{
-    let r = regularize::eigenvalue_floor(cov, min_eig, n, out);
-    let answer = r.answer;
-    let report = r.report;
-    enter_report(
-        answer,
-        report,
-        n_clipped,
-        max_clip_magnitude,
-        clipped_indices,
-    )
-}

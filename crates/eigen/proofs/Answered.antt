@@ -1,5 +1,6 @@
 -- What an answered call says. `eigen-arranged`: its values and vectors are the diagonal and the columns of the settled state, in their order. `eigen-descends`: no later
--- eigenvalue is greater. `eigen-stable`: the order is a permutation, in which equal eigenvalues keep their places.
+-- eigenvalue is greater. `eigen-stable`: the order is a permutation, in which equal eigenvalues keep their places. All three are of
+-- `eigenpairs`, which is what an answered `mat_symmetric_eigen` gives (`call-answered`).
 use Prim.Native.Nat.{ℕ, _*_, _<_}
 use native.Mathlib.Omega.{arith}
 use mathlib.Core.Bool.{true, false, not, _&&_}
@@ -16,6 +17,7 @@ use Rattle.dense.proofs.Finite.{finite-entry}
 use Rattle.dense.proofs.Tests.{never}
 use Rattle.dense.proofs.Laws.{nth-tabulate}
 use Rattle.eigen.specs.Rotation.{State}
+use Rattle.eigen.specs.Rows.{Below}
 use Rattle.eigen.specs.Eigen.{place, order, diagonal, arranged, Eigenpairs, pairsOf, begun, tolerance, settled, eigenpairs, matSymmetricEigen}
 use Rattle.eigen.proofs.Orders.{order-below}
 use Rattle.eigen.proofs.Sorting.{Descends, order-descends, Once, order-once, order-holds}
@@ -39,10 +41,14 @@ number nan e = never e
 number (inf s) e = tt
 number (fin s m d) e = tt
 
-module _ (a : List Float) (n : ℕ) (values vectors : List Float) (r : Eigenpairs) (met : matSymmetricEigen a n values vectors ≡ answered r) where
+-- the questions on sides and lengths are met
+pub call-answered : (a : List Float) (n : ℕ) (values vectors : List Float) (r : Eigenpairs) → matSymmetricEigen a n values vectors ≡ answered r → eigenpairs a n ≡ answered r
+unfolding matSymmetricEigen
+call-answered a n values vectors r met = ask-met 2 (long a (n * n) && (long values n && long vectors (n * n))) (eigenpairs a n) (ask-met 1 (side n) _ met .1) .1
+
+module _ (a : List Float) (n : ℕ) (r : Eigenpairs) (met : eigenpairs a n ≡ answered r) where
   answers : pairsOf n (final a n) ≡ answered r
-  unfolding matSymmetricEigen
-  answers = sym (eigenpairs-final a n) ∙ ask-met 2 (long a (n * n) && (long values n && long vectors (n * n))) (eigenpairs a n) (ask-met 1 (side n) _ met .1) .1
+  answers = sym (eigenpairs-final a n) ∙ met
 
   asked : (finiteEntries (eigenvalues a n) n ≡ true) × (answered (arranged (eigenvalues a n) (final a n .vectors) n (order (eigenvalues a n) n)) ≡ answered r)
   unfolding pairsOf
@@ -55,16 +61,21 @@ module _ (a : List Float) (n : ℕ) (values vectors : List Float) (r : Eigenpair
   unfolding arranged
   values-arranged = ap (λ (e : Eigenpairs). e .values) eigen-arranged
 
+  nth-values : (i : ℕ) → i < n → nth (r .values) i ≡ nth (eigenvalues a n) (place (order (eigenvalues a n) n) i)
+  nth-values i h = ap (λ (l : List Float). nth l i) values-arranged ∙ nth-tabulate n (λ x. nth (eigenvalues a n) (place (order (eigenvalues a n) n) x)) i h
+
   pub eigen-descends : (i j : ℕ) → i < j → j < n → lt (nth (r .values) i) (nth (r .values) j) ≡ false
   unfolding Descends
-  eigen-descends i j h k =
-      let l = order (eigenvalues a n) n in
-      rw (values-arranged, nth-tabulate n (λ x. nth (eigenvalues a n) (place l x)) i (omega arith), nth-tabulate n (λ x. nth (eigenvalues a n) (place l x)) j k)
-      (order-descends (eigenvalues a n) n i j h k)
+  eigen-descends i j h k = rw (nth-values i (omega arith), nth-values j k) (order-descends (eigenvalues a n) n i j h k)
 
   numbers : Numbers (eigenvalues a n) n
   unfolding Numbers
   numbers i h = number (nth (eigenvalues a n) i) (finite-entry (eigenvalues a n) n i (asked .0) h)
+
+  -- every eigenvalue is a number
+  pub eigen-numbers : (i : ℕ) → i < n → T (not (isNan (nth (r .values) i)))
+  unfolding Numbers Below
+  eigen-numbers i h = subst (λ (x : Float). T (not (isNan x))) (sym (nth-values i h)) (numbers (place (order (eigenvalues a n) n) i) (order-below (eigenvalues a n) n i h))
 
   pub eigen-stable : Once n (order (eigenvalues a n) n) × Stable (eigenvalues a n) n (order (eigenvalues a n) n)
   eigen-stable = (order-once (eigenvalues a n) n, order-stable (eigenvalues a n) n numbers)

@@ -23,7 +23,7 @@ unfoldable pub Stable : List Float → ℕ → List ℕ → Type 0
 Stable e k l = (a b : ℕ) → a < b → b < k → lt (nth e (place l b)) (nth e (place l a)) ≡ false → place l a < place l b
 
 -- what does not exceed x is below y where x is
-below-too : (x y z : Float) → T (not (isNan x)) → T (not (isNan z)) → lt x y ≡ true → lt x z ≡ false → T (lt z y)
+pub below-too : (x y z : Float) → T (not (isNan x)) → T (not (isNan z)) → lt x y ≡ true → lt x z ≡ false → T (lt z y)
 below-too x y z nx nz e f = go (lt-trichotomy z x nz nx)
   where
     go : T (lt z x) ⊎ (T (eq z x) ⊎ T (lt x z)) → T (lt z y)
@@ -40,10 +40,12 @@ module _ (e : List Float) (l : List ℕ) (k : ℕ) (u : Below k k l) (d : Descen
   stable-both s a b h i (new p f) (kept q g) t = absurd (omega arith)
   stable-both s a b h i (new p f) (new q g) t = absurd (omega arith)
   stable-both s a b h i (new p f) (moved q g) t =
-      absurd
-      (denied (lt (nth e (place l (b - 1))) (nth e k)) (rw (f, g) at t)
-      (below-too (nth e (place l (spot e l k))) (nth e k) (nth e (place l (b - 1))) (numbers (place l (spot e l k)) (u (spot e l k) (omega arith)))
-      (numbers (place l (b - 1)) (u (b - 1) (omega arith))) (spot-at e l k (omega arith)) (rest-less e l k d b q i)))
+      let x = place l (spot e l k) in
+      let z = place l (b - 1) in
+      let nx = numbers x (u (spot e l k) (omega arith)) in
+      let nz = numbers z (u (b - 1) (omega arith)) in
+      let below = below-too (nth e x) (nth e k) (nth e z) nx nz (spot-at e l k (omega arith)) (rest-less e l k d b q i) in
+      absurd (denied (lt (nth e z) (nth e k)) (rw (f, g) at t) below)
   stable-both s a b h i (moved p f) (kept q g) t = absurd (omega arith)
   stable-both s a b h i (moved p f) (new q g) t = absurd (omega arith)
   stable-both s a b h i (moved p f) (moved q g) t = rw (f, g) (s (a - 1) (b - 1) (omega arith) (omega arith) (rw (f, g) at t))

@@ -1,2 +1,4 @@
 pub mod Clips
 pub mod Outcomes
+pub mod Reports
+pub mod Masks

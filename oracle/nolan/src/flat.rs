@@ -75,6 +75,20 @@ fn eigen<const N: usize>(g: &Given, out: &mut [f64]) -> u32 {
     })
 }
 
+/// The matrix, and after it the clip count, the largest clip and the mask as a number, bit k for eigenvalue k.
+fn psd<const N: usize>(g: &Given, out: &mut [f64]) -> u32 {
+    match regularize::nearest_psd::<N>(matrix(g.slices[0]), g.number) {
+        Err(regularize::RegularizationError::NonFiniteInput) => 3,
+        Err(regularize::RegularizationError::EigendecompositionFailed) => 4,
+        Ok(report) => {
+            let (front, rest) = out.split_at_mut(N * N);
+            let bits: u32 = report.clipped_indices.iter().enumerate().map(|(k, clipped)| u32::from(*clipped) << k).sum();
+            rest.copy_from_slice(&[report.n_clipped as f64, report.max_clip_magnitude, f64::from(bits)]);
+            answer(front, report.cov.as_flattened())
+        }
+    }
+}
+
 theirs!(norms<N> g => [generic::row_inf_norms::<f64, N>(matrix(g.slices[0]))]);
 theirs!(det<N> g => [[generic::mat_det::<N>(matrix(g.slices[0]))]]);
 
@@ -250,6 +264,10 @@ pub mod at {
 
     pub fn mat_symmetric_eigen(s: &[usize]) -> Theirs {
         orders!(eigen)[s[0] - 1]
+    }
+
+    pub fn nearest_psd(s: &[usize]) -> Theirs {
+        orders!(psd)[s[0] - 1]
     }
 
     pub fn row_inf_norms(s: &[usize]) -> Theirs {

@@ -27,7 +27,8 @@ returns c =
     let after-q = c .before .before in
     let after-mat-symmetric-eigen = after-q .before .before .before .before .before .before in
     let x = after-mat-symmetric-eigen .before .before .before .before .before .before .before .before .args in
-    repair-refused (x .cov .now) (x .floor) (x .n) (x .e .now) (x .v .now) (x .out .now) (asked after-mat-symmetric-eigen) (after-q .q .given .1) (after-mat-symmetric-eigen .mat-symmetric-eigen .ensures) (c .refused .ensures)
+    repair-refused (x .cov .now) (x .floor) (x .n) (x .e .now) (x .v .now) (x .out .now) (asked after-mat-symmetric-eigen) (after-q .q .given .1)
+    (after-mat-symmetric-eigen .mat-symmetric-eigen .ensures) (c .refused .ensures)
 
 returns-2 : tie.Need-returns-2
 returns-2 c =
