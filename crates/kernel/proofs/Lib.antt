@@ -11,5 +11,7 @@ pub mod Signs
 pub mod Sizes
 pub mod Places
 pub mod Order
+pub mod Same
+pub mod Differences
 pub mod SquareRoot
 pub mod Existence

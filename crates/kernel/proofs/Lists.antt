@@ -78,3 +78,8 @@ module _ {A : Type 0} where
   -- the part, and one element more
   pub over-more : (old : List A) (i j : ℕ) (new : List A) (v : A) → j ≡ i + length new → j < length old → set (over old i new) j v ≡ over old i (new ++ (v ∷ []))
   over-more old i j new v e h = over-set (over old i new) j v (omega (arith, length-over old i new (omega arith))) ∙ over-over old i j new (v ∷ []) e (omega arith)
+
+  -- what is written over the front is the front
+  pub take-over : (old new : List A) (n : ℕ) → length new ≡ n → take n (over old 0 new) ≡ new
+  unfolding over
+  take-over old new n e = take-at new (drop (0 + length new) old) n e

@@ -11,11 +11,11 @@ use borrow.Author.Tests.{lt-ltb, le-ltb, eq-eqb, ne-eqb}
 use Rattle.kernel.proofs.Sizes.{lt-alike, eq-alike, depth, sized, magnitude, lt-sized, eq-sized}
 
 -- Below z for negative numbers, and above it for others. An infinity has the size z.
-abbrev signed : ℕ → Bool → ℕ → ℕ
+abbrev pub signed : ℕ → Bool → ℕ → ℕ
 signed z true a = z - a
 signed z false a = z + a
 
-abbrev place : ℕ → ℕ → Float → ℕ
+abbrev pub place : ℕ → ℕ → Float → ℕ
 place n z nan = 0
 place n z (inf s) = signed z s z
 place n z (fin s m e) = signed z s (sized n m e)
@@ -70,12 +70,12 @@ unlevel a b s t h = rw (ne-eqb a b h)
 -- ---- the tests on numbers and on their places
 
 -- what n and z must be for the place of a number
-record Placed (n z : ℕ) (x : Float) : Type 0 where
-  number : T (not (isNan x))
-  deep : depth x ≤ n
-  small : magnitude n x < z
+pub record Placed (n z : ℕ) (x : Float) : Type 0 where
+  pub number : T (not (isNan x))
+  pub deep : depth x ≤ n
+  pub small : magnitude n x < z
 
-lt-place : (n z : ℕ) (x y : Float) → Placed n z x → Placed n z y → lt x y ≡ ltb (place n z x) (place n z y)
+pub lt-place : (n z : ℕ) (x y : Float) → Placed n z x → Placed n z y → lt x y ≡ ltb (place n z x) (place n z y)
 unfolding lt isNan
 lt-place n z nan y h k = absurd (h .number)
 lt-place n z (inf s) nan h k = absurd (k .number)

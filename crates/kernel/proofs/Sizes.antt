@@ -76,7 +76,7 @@ magnitude n nan = 0
 magnitude n (inf s) = 0
 magnitude n (fin s m e) = sized n m e
 
-denominator : (n : ℕ) (e : ℤ) → halvings e ≤ n → down e * 2 ^ (n - halvings e) ≡ 2 ^ n
+pub denominator : (n : ℕ) (e : ℤ) → halvings e ≤ n → down e * 2 ^ (n - halvings e) ≡ 2 ^ n
 denominator n e h = go e h
   where
     whole : (k : ℕ) → k ≤ n → 2 ^ k * 2 ^ (n - k) ≡ 2 ^ n

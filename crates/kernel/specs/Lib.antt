@@ -6,4 +6,3 @@ pub mod Lists
 pub mod Number
 pub mod Sqrt
 pub mod Nearest
-pub mod Examples

@@ -1,4 +1,5 @@
-// The tolerances that the source names, each once. specs/Constants has the same under the same names.
+// Constants that several crates use, each once. First the tolerances that the source names: specs/Constants has the same
+// under the same names.
 
 // `NOLAN_REL_TOL`: what is below this part of its scale counts as zero.
 pub const REL_TOL: f64 = 1e-14;
@@ -11,3 +12,9 @@ pub const FAR_THETA: f64 = 1e150;
 
 // `f64::MIN_POSITIVE`, the least positive normal number.
 pub const MIN_POSITIVE: f64 = 2.2250738585072014e-308;
+
+// The bit pattern of +infinity: below it are the finite numbers without a sign, above it the NaNs.
+pub const INFINITY_BITS: u64 = 0x7FF0_0000_0000_0000;
+
+// The bit of the sign.
+pub const SIGN_BIT: u64 = 0x8000_0000_0000_0000;

@@ -4,9 +4,7 @@ mod root;
 ghost use mathlib.Core.Path.{_≡_};
 ghost use Rattle.kernel.specs.Number.{abs, max, value, constant};
 ghost use Rattle.kernel.specs.Sqrt.{sqrt};
-
-// The bit pattern of +infinity.
-const INFINITY: u64 = 0x7FF0_0000_0000_0000;
+use crate::constants;
 
 // x without its sign.
 pub fn abs(x: f64) -> f64
@@ -62,7 +60,7 @@ pub fn sqrt(x: f64) -> f64
         return 0.0 / 0.0;
     }
     let bits = f64::to_bits(x);
-    if bits == INFINITY {
+    if bits == constants::INFINITY_BITS {
         return x;
     }
     f64::from_bits(root::root_pattern(bits))

@@ -2,17 +2,13 @@
 ghost use mathlib.Core.Path.{_≡_};
 ghost use lib.Ieee.{binary64, ofBits};
 ghost use Rattle.replay.specs.Replay.{same};
-
-// The bit pattern of +infinity: above it, below the sign, are those of NaNs.
-const INFINITY: u64 = 0x7FF0_0000_0000_0000;
-
-const SIGN: u64 = 0x8000_0000_0000_0000;
+use kernel::constants;
 
 // The double with the bit pattern p; of a NaN's pattern, a NaN.
 pub fn double(p: u64) -> f64
     ensures { λ r. ⌜ r ≡ ofBits binary64 p ⌝ }
 {
-    if INFINITY < p % SIGN {
+    if constants::INFINITY_BITS < p % constants::SIGN_BIT {
         return 0.0 / 0.0;
     }
     f64::from_bits(p)
@@ -23,7 +19,7 @@ pub fn is_same(x: f64, p: u64) -> bool
     ensures { λ r. ⌜ r ≡ same x p ⌝ }
 {
     if x != x {
-        return INFINITY < p % SIGN;
+        return constants::INFINITY_BITS < p % constants::SIGN_BIT;
     }
     f64::to_bits(x) == p
 }
