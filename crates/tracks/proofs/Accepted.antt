@@ -1,5 +1,4 @@
--- What an accepted field, track and list say of their bytes. `stored-met`, `field-met`, `track-met` and `contents-met` give each question that was met,
--- `known-list` what the answer of `check_list` says, `reading-fits` and its neighbours what question 2 decides after the others.
+-- What an accepted field, track and list say of their bytes. `stored-met`, `field-met`, `track-met` and `contents-met` give each question that was met.
 use Prim.Native.Nat.{ℕ, _+_, _*_, _%_, _^_, _<_, _≤_}
 use native.Mathlib.Omega.{arith}
 use mathlib.Core.Path.{_≡_, refl, sym, ap, _∙_, subst}
@@ -166,49 +165,3 @@ contents-met l e =
       count = n;
       dimension = refl;
     })
-
--- a list is accepted exactly if its answer is its count and dimension
-pub read-accepted : {n d : ℕ} (o : Outcome TrackList) → readAnswer o ≡ ReadList.Read n d → (c : TrackList) × (o ≡ answered c) × (n ≡ length (c .tracks)) × (d ≡ c .dimension)
-read-accepted (refused q) e = let z : _≡_ {A = ℕ} 0 1 = cc in absurd (omega arith)
-read-accepted (answered c) e = (c, refl, cc, cc)
-
-pub read-refused : {q : ℕ} (o : Outcome TrackList) → readAnswer o ≡ ReadList.Refused q → o ≡ refused q
-read-refused (refused q) e = cc
-read-refused (answered c) e = let z : _≡_ {A = ℕ} 0 1 = cc in absurd (omega arith)
-
--- what the answer of `check_list`, n tracks of dimension d, says of a list
-pub record Known (l : List ℕ) (n d : ℕ) : Type 0 where
-  pub held : TrackList
-  pub accepted : contents l ≡ answered held
-  pub count : n ≡ length (held .tracks)
-  pub dimension : d ≡ held .dimension
-  pub whole : Whole l held
-  pub few : n ≤ 32
-  pub small : d ≤ 9
-
-pub known-list : (l : List ℕ) {r : ReadList} {n d : ℕ} → r ≡ readAnswer (contents l) → r ≡ ReadList.Read n d → Known l n d
-known-list l e p =
-    let a = read-accepted (contents l) (sym e ∙ p) in
-    let w = contents-met l (a .1) in
-    record {
-      held = a .0;
-      accepted = a .1;
-      count = a .2;
-      dimension = a .3;
-      whole = w;
-      few = rw (a .2) (leb-true _ 32 (w .few));
-      small = rw (a .3) (dimension-small _ (w .sized));
-    }
-
--- question 2 after the others
-pub reading-fits : (l : List ℕ) (room : ℕ) {c : TrackList} → contents l ≡ answered c → length (c .tracks) * fields (c .dimension) ≤ room → reading l room ≡ answered c
-unfolding reading
-reading-fits l room e h = rw (e, le-leb _ room h) refl
-
-pub reading-short : (l : List ℕ) (room : ℕ) {c : TrackList} → contents l ≡ answered c → room < length (c .tracks) * fields (c .dimension) → reading l room ≡ refused 2
-unfolding reading
-reading-short l room e h = rw (e, lt-leb _ room h) refl
-
-pub reading-refused : (l : List ℕ) (room : ℕ) {q : ℕ} → contents l ≡ refused q → reading l room ≡ refused q
-unfolding reading
-reading-refused l room e = rw e refl

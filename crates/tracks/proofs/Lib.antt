@@ -1,5 +1,6 @@
 pub mod Items
 pub mod Accepted
+pub mod Known
 pub mod Lists
 pub mod Written
 pub mod Stream
@@ -7,8 +8,10 @@ pub mod Bits
 pub mod Track
 pub mod Values
 pub mod Records
+pub mod Offsets
 pub mod RoundTrip
 pub mod Trips
 pub mod Sizes
+pub mod Walk
 pub mod RecordParts
 pub mod Apart

@@ -1,5 +1,5 @@
--- Laws of the records that a list is walked through. `end-here`, `end-later` and `end-refused` are the steps of the walk, `placing-fits` and its neighbours
--- say what question 2 decides on offsets, `same-equal` and `same-refl` that the same bytes are equal lists.
+-- Laws of the records that a list is walked through. `end-here`, `end-later` and `end-refused` are the steps of the walk, `same-equal` and `same-refl` say that
+-- the same bytes are equal lists.
 use Prim.Native.Nat.{ℕ, suc, _+_, _-_, _<_, _≤_}
 use native.Mathlib.Omega.{arith}
 use mathlib.Core.Path.{_≡_, refl, ap}
@@ -39,21 +39,6 @@ record-short l at = by (contents l)
     by : (o : Outcome TrackList) → length (recordIn l at o) ≤ length l - at
     by (refused q) = omega arith
     by (answered c) = let e = recordEnd l (fields (c .dimension)) at 2 (length (c .tracks)) in omega (arith, length-take (e - at) (drop at l), length-drop at l)
-
--- ---- where the tracks stand
-
--- question 2 after the others
-pub placing-fits : (l : List ℕ) (room : ℕ) {c : TrackList} → contents l ≡ answered c → length (c .tracks) + 1 ≤ room → placing l room ≡ answered c
-unfolding placing
-placing-fits l room e h = rw (e, le-leb _ room h) refl
-
-pub placing-short : (l : List ℕ) (room : ℕ) {c : TrackList} → contents l ≡ answered c → room < length (c .tracks) + 1 → placing l room ≡ refused 2
-unfolding placing
-placing-short l room e h = rw (e, lt-leb _ room h) refl
-
-pub placing-refused : (l : List ℕ) (room : ℕ) {q : ℕ} → contents l ≡ refused q → placing l room ≡ refused q
-unfolding placing
-placing-refused l room e = rw e refl
 
 -- ---- equal bytes
 

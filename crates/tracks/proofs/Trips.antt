@@ -18,7 +18,7 @@ use Rattle.tracks.specs.Write.{written}
 use Rattle.tracks.specs.Calls.{doubles, patterns, Doubles, joined, readAnswer, readValues, writeAnswer, writeBytes}
 use Rattle.tracks.specs.declared.read.ReadList.the-variants as ReadList
 use Rattle.tracks.specs.declared.write.WrittenList.the-variants as WrittenList
-use Rattle.tracks.proofs.Accepted.{read-accepted, reading-fits}
+use Rattle.tracks.proofs.Known.{read-accepted, reading-fits}
 use Rattle.tracks.proofs.Written.{write-accepted}
 use Rattle.tracks.proofs.RoundTrip.{accepted-fit, joined-fit, read-then-written, written-then-read}
 

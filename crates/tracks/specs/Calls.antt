@@ -1,12 +1,14 @@
 -- What the calls answer, and what they leave in lent memory.
-use Prim.Native.Nat.{ℕ, _+_}
+use Prim.Native.Nat.{ℕ, _+_, _*_}
+use mathlib.Core.Bool.{_&&_}
 use mathlib.Core.List.{List, map, flatMap}
-use lib.Dec.{T}
+use lib.Dec.{T, leb}
 use lib.ListN.{length, getD}
 use lib.Ieee.{Float, nan, binary64, fits, ofBits, toBits}
-use Rattle.kernel.specs.Answer.{Outcome, refused, answered}
+use Rattle.kernel.specs.Answer.{Outcome, refused, answered, ask, andThen}
 use Rattle.kernel.specs.Lists.{over, tabulate}
-use Rattle.tracks.specs.Read.{TrackList}
+use Rattle.tracks.specs.Layout.{fields}
+use Rattle.tracks.specs.Read.{TrackList, contents}
 use Rattle.tracks.specs.Record.{offset, placing}
 use Rattle.tracks.specs.declared.read.ReadList.{ReadList}
 use Rattle.tracks.specs.declared.read.ReadList.the-variants as ReadList
@@ -43,6 +45,21 @@ readValues (answered c) old = over old 0 (doubles (joined (c .tracks)))
 abbrev pub offsetsLeft : List ℕ → Outcome TrackList → List ℕ → List ℕ
 offsetsLeft l (refused q) old = old
 offsetsLeft l (answered c) old = over old 0 (tabulate (length (c .tracks) + 1) (offset l))
+
+-- Reading a list into a slice of values and a slice of offsets: question 2 is the last, first of the values.
+unfoldable pub readingPlaced : List ℕ → ℕ → ℕ → Outcome TrackList
+unfolding contents fields
+readingPlaced l values offsets =
+    andThen (contents l) (λ c. ask 2 (leb (length (c .tracks) * fields (c .dimension)) values && leb (length (c .tracks) + 1) offsets) (answered c))
+
+-- The answer, and what is left in the two slices.
+abbrev pub placedLeft : List ℕ → Outcome TrackList → List Float → List ℕ → ReadList × (List Float × List ℕ)
+placedLeft l o values offsets = (readAnswer o, (readValues o values, offsetsLeft l o offsets))
+
+-- `read_with_offsets`
+unfoldable pub readWithOffsets : List ℕ → List Float → List ℕ → ReadList × (List Float × List ℕ)
+unfolding readingPlaced
+readWithOffsets l values offsets = placedLeft l (readingPlaced l (length values) (length offsets)) values offsets
 
 -- The answer of `track_offsets`, and the numbers afterwards.
 abbrev pub trackOffsets : List ℕ → List ℕ → ReadList × List ℕ

@@ -5,8 +5,9 @@ use mathlib.Core.List.{List}
 use lib.ListN.{length}
 use lib.Ieee.{Float}
 use Rattle.kernel.specs.Answer.{Outcome, refused, answered}
-use Rattle.kernel.specs.Lists.{over}
-use Rattle.tracks.specs.Read.{Item}
+use Rattle.kernel.specs.Lists.{over, tabulate}
+use Rattle.tracks.specs.Read.{Item, TrackList, contents}
+use Rattle.tracks.specs.Record.{offset}
 use Rattle.tracks.specs.Calls.{doubles}
 use Rattle.tracks.specs.declared.read.Checked.{Checked}
 use Rattle.tracks.specs.declared.read.Checked.the-variants.{End, Refused}
@@ -41,3 +42,7 @@ Puts {A} fieldsOf o old i next new = (x : Item A) → o ≡ answered x → (next
 -- That bytes are left in a buffer from an offset on, and the offset after them is given.
 abbrev pub Writes : List ℕ → List ℕ → ℕ → ℕ → List ℕ → Type 0
 Writes bytes old at next new = (next ≡ at + length bytes) × (new ≡ over old at bytes)
+
+-- That a slice which held old numbers holds the offsets of an accepted list in front. A list that is refused leaves anything there.
+abbrev pub Offsets : List ℕ → List ℕ → List ℕ → Type 0
+Offsets l old new = (c : TrackList) → contents l ≡ answered c → new ≡ over old 0 (tabulate (length (c .tracks) + 1) (offset l))

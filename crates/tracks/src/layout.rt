@@ -3,6 +3,7 @@ ghost use mathlib.Core.Path.{_≡_};
 ghost use Prim.Native.Nat.{_+_, _/_, _<_, _≤_};
 ghost use lib.ListN.{length};
 ghost use Rattle.tracks.specs.Layout.{fields, mapBytes, stands, finiteBits, spare, countMet, dimensionMet};
+use kernel::constants;
 
 // The fields of a track of dimension d.
 pub(crate) fn fields(d: usize) -> usize
@@ -41,7 +42,7 @@ pub(crate) fn stands(list: &[u8], map: usize, k: usize) -> bool
 pub(crate) fn finite(bits: u64) -> bool
     ensures { λ r. ⌜ r ≡ finiteBits bits ⌝ }
 {
-    bits % 0x8000_0000_0000_0000 < 0x7FF0_0000_0000_0000
+    bits % constants::SIGN_BIT < constants::INFINITY_BITS
 }
 
 // Question 13: whether the spare bits of the map at an offset are 0.

@@ -2,11 +2,13 @@
 ghost use mathlib.Core.Path.{_≡_};
 ghost use Prim.Native.Nat.{_+_, _*_, _/_, _<_, _≤_};
 ghost use mathlib.Core.List.{[], _∷_};
-ghost use lib.ListN.{length};
+ghost use lib.ListN.{length, take};
+ghost use Rattle.kernel.specs.Lists.{over, tabulate};
 ghost use Rattle.tracks.specs.Layout.{mapBytes};
 ghost use Rattle.tracks.specs.Read.{stored, field, items, track, tracks, contents, reading};
-ghost use Rattle.tracks.specs.Calls.{joined, readAnswer, readValues};
-ghost use Rattle.tracks.specs.Steps.{ends, continued, Within, Accepted, Puts};
+ghost use Rattle.tracks.specs.Calls.{joined, readAnswer, readValues, readWithOffsets};
+ghost use Rattle.tracks.specs.Record.{endOf};
+ghost use Rattle.tracks.specs.Steps.{ends, continued, checkedEnd, Within, Accepted, Puts, Offsets};
 use crate::layout;
 use kernel::bytes;
 use kernel::question;
@@ -98,21 +100,36 @@ pub(crate) fn next_track(list: &[u8], f: usize, c: Checked) -> Checked
     }
 }
 
-// The questions of the first n tracks of f fields.
-fn check_tracks(list: &[u8], f: usize, n: usize) -> Checked
-    requires { ⌜ (f ≤ 64) × (2 ≤ length (now list)) ⌝ }
+// Where items end; 0 where they are refused.
+fn end_of(c: Checked) -> usize
+    ensures { λ r. ⌜ r ≡ checkedEnd c ⌝ }
+{
+    match c {
+        Checked::End(at) => at,
+        Checked::Refused(_) => 0,
+    }
+}
+
+// The questions of the first n tracks of f fields. Where each track starts is stored, and where the last one ends.
+fn check_tracks(list: &[u8], f: usize, n: usize, offsets: &mut [usize]) -> Checked
+    requires { ⌜ (f ≤ 64) × (2 ≤ length (now list)) × (n < length (now offsets)) ⌝ }
     ensures { λ r. ⌜ r ≡ ends (tracks (now (list .entry)) f n) ⌝ }
+    ensures { λ _. ⌜ now (offsets .exit) ≡ over (now (offsets .entry)) 0 (tabulate (n + 1) (λ j. endOf (tracks (now (list .entry)) f j))) ⌝ }
 {
     let mut c = Checked::End(2);
-    for _ in 0..n {
+    for j in 0..n {
+        offsets[j] = end_of(c);
         c = next_track(list, f, c);
     }
+    offsets[n] = end_of(c);
     c
 }
 
-// The questions of a list, but for the room for its values.
-pub(crate) fn check_list(list: &[u8]) -> ReadList
+// The questions of a list, but for the room for its values, in one pass: where its tracks start and end is stored on the way.
+pub(crate) fn check_offsets(list: &[u8], offsets: &mut [usize]) -> ReadList
+    requires { ⌜ length (now offsets) ≡ 33 ⌝ }
     ensures { λ r. ⌜ r ≡ readAnswer (contents (now (list .entry))) ⌝ }
+    ensures { λ _. ⌜ Offsets (now (list .entry)) (now (offsets .entry)) (now (offsets .exit)) ⌝ }
 {
     if list.len() < 2 {
         return ReadList::Refused(question::HEADER);
@@ -125,7 +142,7 @@ pub(crate) fn check_list(list: &[u8]) -> ReadList
     if !layout::dimension_met(d) {
         return ReadList::Refused(question::DIMENSION);
     }
-    let c = check_tracks(list, layout::fields(d), n);
+    let c = check_tracks(list, layout::fields(d), n, offsets);
     match c {
         Checked::End(end) => {
             if end == list.len() {
@@ -139,6 +156,14 @@ pub(crate) fn check_list(list: &[u8]) -> ReadList
         }
         Checked::Refused(q) => ReadList::Refused(q),
     }
+}
+
+// The questions of a list, but for the room for its values.
+pub(crate) fn check_list(list: &[u8]) -> ReadList
+    ensures { λ r. ⌜ r ≡ readAnswer (contents (now (list .entry))) ⌝ }
+{
+    let mut offsets = [0; 33];
+    check_offsets(list, &mut offsets)
 }
 
 // Stores field k of an accepted track at an index of the values, and gives the offset after the field.
@@ -193,6 +218,40 @@ pub fn read_list(list: &[u8], values: &mut [f64]) -> ReadList
                 return ReadList::Refused(question::LENGTH);
             }
             put_tracks(list, f, count, values);
+            ReadList::Read { count, dimension }
+        }
+        ReadList::Refused(q) => ReadList::Refused(q),
+    }
+}
+
+// Copies the first n offsets.
+pub(crate) fn copy_offsets(from: &[usize], n: usize, to: &mut [usize])
+    requires { ⌜ (n ≤ length (now from)) × (n ≤ length (now to)) ⌝ }
+    ensures { λ _. ⌜ now (to .exit) ≡ over (now (to .entry)) 0 (take n (now (from .entry))) ⌝ }
+{
+    for j in 0..n {
+        to[j] = from[j];
+    }
+}
+
+// Reads a list and says where its tracks stand: the fields go to the front of the values, and where each track starts to
+// the front of the offsets, with the end of the last one after them. The list is checked once.
+pub fn read_with_offsets(list: &[u8], values: &mut [f64], offsets: &mut [usize]) -> ReadList
+    ensures { λ r. ⌜ (r, (now (values .exit), now (offsets .exit))) ≡ readWithOffsets (now (list .entry)) (now (values .entry)) (now (offsets .entry)) ⌝ }
+{
+    let mut found = [0; 33];
+    let c = check_offsets(list, &mut found);
+    match c {
+        ReadList::Read { count, dimension } => {
+            let f = layout::fields(dimension);
+            if values.len() < count * f {
+                return ReadList::Refused(question::LENGTH);
+            }
+            if offsets.len() <= count {
+                return ReadList::Refused(question::LENGTH);
+            }
+            put_tracks(list, f, count, values);
+            copy_offsets(&found, count + 1, offsets);
             ReadList::Read { count, dimension }
         }
         ReadList::Refused(q) => ReadList::Refused(q),

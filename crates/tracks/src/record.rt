@@ -1,13 +1,10 @@
 // A track's own bytes, as a part of the caller's list.
 ghost use mathlib.Core.Path.{_≡_};
-ghost use Prim.Native.Nat.{_+_, _<_, _≤_};
+ghost use Prim.Native.Nat.{_≤_};
 ghost use lib.ListN.{length};
 ghost use Rattle.tracks.specs.Layout.{fields};
-ghost use Rattle.kernel.specs.Lists.{over, tabulate};
-ghost use Rattle.tracks.specs.Read.{tracks};
-ghost use Rattle.tracks.specs.Record.{endOf, recordEnd, recordAt, OwnBytes, nextOffset, atEnd, sameBytes};
+ghost use Rattle.tracks.specs.Record.{recordEnd, recordAt, OwnBytes, nextOffset, atEnd, sameBytes};
 ghost use Rattle.tracks.specs.Calls.{trackOffsets};
-ghost use Rattle.tracks.specs.Steps.{checkedEnd};
 use crate::layout;
 use crate::read;
 use crate::read::Checked;
@@ -54,41 +51,19 @@ pub fn record(list: &[u8], at: usize) -> &[u8]
     }
 }
 
-// Where items end; 0 where they are refused.
-fn end_of(c: Checked) -> usize
-    ensures { λ r. ⌜ r ≡ checkedEnd c ⌝ }
-{
-    match c {
-        Checked::End(at) => at,
-        Checked::Refused(_) => 0,
-    }
-}
-
-// Stores where each of the first n tracks of f fields starts, and where the last one ends.
-fn put_offsets(list: &[u8], f: usize, n: usize, offsets: &mut [usize])
-    requires { ⌜ (f ≤ 64) × (2 ≤ length (now list)) × (n < length (now offsets)) ⌝ }
-    ensures { λ _. ⌜ now (offsets .exit) ≡ over (now (offsets .entry)) 0 (tabulate (n + 1) (λ j. endOf (tracks (now (list .entry)) f j))) ⌝ }
-{
-    let mut c = Checked::End(2);
-    for j in 0..n {
-        offsets[j] = end_of(c);
-        c = read::next_track(list, f, c);
-    }
-    offsets[n] = end_of(c);
-}
-
 // Where each track of an accepted list starts, and after them where the last one ends, so that a caller takes each track's
 // own bytes without going through the list again.
 pub fn track_offsets(list: &[u8], offsets: &mut [usize]) -> ReadList
     ensures { λ r. ⌜ (r, now (offsets .exit)) ≡ trackOffsets (now (list .entry)) (now (offsets .entry)) ⌝ }
 {
-    let c = read::check_list(list);
+    let mut found = [0; 33];
+    let c = read::check_offsets(list, &mut found);
     match c {
         ReadList::Read { count, dimension } => {
             if offsets.len() <= count {
                 return ReadList::Refused(question::LENGTH);
             }
-            put_offsets(list, layout::fields(dimension), count, offsets);
+            read::copy_offsets(&found, count + 1, offsets);
             ReadList::Read { count, dimension }
         }
         ReadList::Refused(q) => ReadList::Refused(q),

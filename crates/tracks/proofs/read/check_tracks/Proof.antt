@@ -1,46 +1,75 @@
--- `check_tracks` meets its contract: before turn j it has checked the first j tracks.
+-- `check_tracks` meets its contract: before turn j it has checked the first j tracks and stored where they start.
 use mathlib.Core.Path.{_≡_, refl, sym, ap, _∙_}
-use Prim.Native.Nat.{ℕ, _-_, _≤_}
+use Prim.Native.Nat.{ℕ, _+_, _-_, _<_, _≤_}
 use native.Mathlib.Nat.{le-antisymm}
 use native.Mathlib.Omega.{arith}
+use mathlib.Core.List.{List, [], _∷_, _++_}
 use denote.Ref.{now}
+use lib.ListN.{length, set, length-set}
+use Rattle.kernel.specs.Lists.{over, tabulate}
+use Rattle.kernel.proofs.Lists.{length-tabulate, tabulate-more, over-none, over-more}
 use Rattle.tracks.specs.Read.{items, track, tracks}
-use Rattle.tracks.specs.Steps.{ends, continued}
+use Rattle.tracks.specs.Record.{endOf}
+use Rattle.tracks.specs.Steps.{ends, continued, checkedEnd}
 use Rattle.tracks.specs.declared.read.Checked.{Checked}
-use Rattle.tracks.proofs.Items.{ends-next}
+use Rattle.tracks.proofs.Items.{ends-next, checked-end}
 use Rattle.tracks.proofs.Accepted.{tracks-within}
 use Rattle.tracks.proofs.read.check_tracks.Statement.{statement}
 use Rattle.tracks.proofs.read.check_tracks.Tie as tie
 
+-- where the tracks start
+abbrev at : List ℕ → ℕ → ℕ → ℕ
+at list f j = endOf (tracks list f j)
+
 abbrev Inv-loop : tie.InvT-loop
-Inv-loop list f n c₀ j₀ c j = (j ≤ n) × (c ≡ ends (tracks list f j))
+Inv-loop list f n offsets₀ c₀ j₀ offsets c j = (j ≤ n) × (length offsets ≡ length offsets₀) × (c ≡ ends (tracks list f j)) × (offsets ≡ over offsets₀ 0 (tabulate j (at list f)))
 
 abbrev μ-loop : tie.MeasureT-loop
-μ-loop list f n c₀ j₀ c j = n - j
+μ-loop list f n offsets₀ c₀ j₀ offsets c j = n - j
 
 loop-holds : tie.Need-loop-holds Inv-loop μ-loop
-unfolding tracks items
-loop-holds c = (omega arith, refl)
+unfolding tracks items tabulate
+loop-holds c = (omega arith, refl, refl, sym (over-none _ _))
+
+-- one more offset after the first j
+one-more : (list : List ℕ) (f j : ℕ) (old offsets : List ℕ) (c : Checked) {v : ℕ} → j < length old → c ≡ ends (tracks list f j) → offsets ≡ over old 0 (tabulate j (at list f)) → v ≡ checkedEnd c
+    → set offsets j v ≡ over old 0 (tabulate (j + 1) (at list f))
+one-more list f j old offsets c {v} h e o w =
+    let stored : v ≡ at list f j = w ∙ ap checkedEnd e ∙ checked-end (tracks list f j) in
+    ap (λ (l : List ℕ). set l j v) o
+    ∙ over-more old 0 j (tabulate j (at list f)) v (omega (arith, length-tabulate j (at list f))) h
+    ∙ ap (over old 0) (ap (λ (x : ℕ). tabulate j (at list f) ++ (x ∷ [])) stored ∙ sym (tabulate-more j (at list f)))
 
 next-track-requires : tie.Need-next-track-requires Inv-loop μ-loop
 next-track-requires c κs =
-    let x = c .before .before .before .args in
-    let i = c .before .loop in
-    (omega arith, λ at e. tracks-within (now (x .list)) (x .f) (i .counter) (omega arith) at (sym (i .inv .1) ∙ e))
+    let x = c .before .before .before .before .before .args in
+    let i = c .before .before .loop in
+    (omega arith, λ at e. tracks-within (now (x .list)) (x .f) (i .j) (omega arith) at (sym (i .inv .2) ∙ e))
 
 loop-again : tie.Need-loop-again Inv-loop μ-loop
 unfolding tracks
 loop-again c =
-    let x = c .before .before .before .before .args in
-    let i = c .before .before .loop in
-    let read = track (now (x .list)) (x .f) in
-    (omega arith, c .next-track .ensures ∙ ap (λ (b : Checked). continued b (λ at. ends (read at))) (i .inv .1) ∙ sym (ends-next (λ _. read) 2 (i .counter)))
+    let x = c .before .before .before .before .before .before .args in
+    let i = c .before .before .before .loop in
+    let read = track (now (x .list)) (x .f) in (
+      omega arith,
+      length-set (i .offsets) (i .j) _ ∙ i .inv .1,
+      c .next-track .ensures ∙ ap (λ (b : Checked). continued b (λ at. ends (read at))) (i .inv .2) ∙ sym (ends-next (λ _. read) 2 (i .j)),
+      one-more (now (x .list)) (x .f) (i .j) (now (x .offsets)) (i .offsets) (i .c) (omega arith) (i .inv .2) (i .inv .3) (c .before .end-of .ensures),
+    )
+
+same-length : tie.Need-same-length Inv-loop μ-loop
+same-length c = let i = c .before .before .loop in length-set (i .offsets) _ _ ∙ i .inv .1
 
 returns : tie.Need-returns Inv-loop μ-loop
 returns c =
-    let x = c .before .before .before .args in
-    let i = c .before .loop in
-    i .inv .1 ∙ ap (λ (n : ℕ). ends (tracks (now (x .list)) (x .f) n)) (le-antisymm (i .inv .0) (c .loop-test .left))
+    let x = c .before .before .before .before .before .args in
+    let i = c .before .before .loop in
+    let n : i .j ≡ x .n = le-antisymm (i .inv .0) (c .before .loop-test .left) in
+    let stored = one-more (now (x .list)) (x .f) (i .j) (now (x .offsets)) (i .offsets) (i .c) (omega arith) (i .inv .2) (i .inv .3) (c .end-of2 .ensures) in (
+      i .inv .2 ∙ ap (λ (k : ℕ). ends (tracks (now (x .list)) (x .f) k)) n,
+      ap (λ (k : ℕ). set (i .offsets) k (c .end-of2 .result)) (sym n) ∙ stored ∙ ap (λ (k : ℕ). over (now (x .offsets)) 0 (tabulate (k + 1) (at (now (x .list)) (x .f)))) n,
+    )
 
 pub check-tracks-spec : {M : Type 1} → statement M
 check-tracks-spec =
@@ -49,8 +78,15 @@ check-tracks-spec =
     Inv-loop
     μ-loop
     loop-holds
+    (λ c κs. tt)
+    (λ c. omega arith)
+    (λ c. omega arith)
     next-track-requires
     (λ c. omega arith)
     (λ c. omega arith)
     loop-again
+    (λ c κs. tt)
+    (λ c. omega arith)
+    (λ c. omega arith)
+    same-length
     returns)

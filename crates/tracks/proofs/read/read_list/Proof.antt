@@ -10,7 +10,7 @@ use Rattle.kernel.specs.Answer.{Outcome, answered}
 use Rattle.tracks.specs.Layout.{fields}
 use Rattle.tracks.specs.Read.{TrackList, tracks, contents, reading}
 use Rattle.tracks.specs.Calls.{readAnswer, readValues}
-use Rattle.tracks.proofs.Accepted.{Known, known-list, read-refused, reading-fits, reading-short, reading-refused}
+use Rattle.tracks.proofs.Known.{Known, known-list, known-fields, known-tracks, read-refused, reading-fits, reading-short, reading-refused}
 use borrow.Author.Needs.{needs}
 use Rattle.tracks.proofs.read.read_list.Statement.{statement}
 use Rattle.tracks.proofs.read.read_list.Tie as tie
@@ -32,19 +32,12 @@ list-of c = now (start-of c .args .list)
 told : (c : tie.After-known-told) → Known (list-of c) (c .before .c .given .0 .0) (c .before .c .given .0 .1 .0)
 told c = known-list (list-of c) (c .before .before .before .check-list .ensures) (c .before .c .given .1)
 
--- the fields of its tracks
-sized : (c : tie.After-fields) → c .fields .result ≡ fields (told (known c) .held .dimension)
-sized c = c .fields .ensures .0 ∙ ap fields (told (known c) .dimension)
-
 needed : (c : tie.After-fields) → let t = told (known c) .held in known c .before .c .given .0 .0 * c .fields .result ≡ length (t .tracks) * fields (t .dimension)
-needed c = let a = told (known c) in ap (λ (n : ℕ). n * c .fields .result) (a .count) ∙ ap (λ (f : ℕ). length (a .held .tracks) * f) (sized c)
+needed c = known-fields (told (known c)) (c .fields .ensures .0)
 
 read : (c : tie.After-fields) → let l = list-of (known c) in
     tracks l (c .fields .result) (known c .before .c .given .0 .0) ≡ answered (record { value = told (known c) .held .tracks; next = length l })
-read c =
-    let l = list-of (known c) in
-    let a = told (known c) in
-    ap (tracks l (c .fields .result)) (a .count) ∙ ap (λ (f : ℕ). tracks l f (length (a .held .tracks))) (sized c) ∙ a .whole .read
+read c = known-tracks (told (known c)) (c .fields .ensures .0)
 
 -- what is answered, and what is left in the values
 both : (c : tie.Start) {o : Outcome TrackList} → reading (now (c .args .list)) (length (now (c .args .values))) ≡ o

@@ -2,8 +2,8 @@
 use mathlib.Core.Path.{sym, ap}
 use borrow.Author.Needs.{needs}
 use Rattle.tracks.specs.Steps.{checkedEnd}
-use Rattle.tracks.proofs.record.end_of.Statement.{statement}
-use Rattle.tracks.proofs.record.end_of.Tie as tie
+use Rattle.tracks.proofs.read.end_of.Statement.{statement}
+use Rattle.tracks.proofs.read.end_of.Tie as tie
 
 returns : tie.Need-returns
 returns c = sym (ap checkedEnd (c .before .c .given .1))
