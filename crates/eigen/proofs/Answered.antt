@@ -1,20 +1,20 @@
 -- What an answered call says. `eigen-arranged`: its values and vectors are the diagonal and the columns of the settled state, in their order. `eigen-descends`: no later
--- eigenvalue is greater. `eigen-stable`: the order is a permutation, in which equal eigenvalues keep their places. All three are of
+-- eigenvalue is greater. `eigen-stable`: the order is a permutation, in which equal eigenvalues keep their places. `eigen-finite`: each is finite. All are of
 -- `eigenpairs`, which is what an answered `mat_symmetric_eigen` gives (`call-answered`).
 use Prim.Native.Nat.{ℕ, _*_, _<_}
 use native.Mathlib.Omega.{arith}
-use mathlib.Core.Bool.{true, false, not, _&&_}
+use mathlib.Core.Bool.{true, false, _&&_}
 use mathlib.Core.List.{List}
-use mathlib.Core.Path.{_≡_, refl, sym, ap, _∙_, subst}
+use mathlib.Core.Path.{_≡_, refl, sym, ap, _∙_}
 use lib.Dec.{T}
-use lib.Ieee.{Float, nan, inf, fin, lt, isNan}
+use lib.Ieee.{Float, lt}
 use Rattle.kernel.specs.Answer.{answered, ask}
 use Rattle.kernel.specs.Lists.{tabulate}
 use Rattle.kernel.specs.Number.{finite}
 use Rattle.kernel.proofs.Answers.{ask-met, answered-inj}
+use Rattle.kernel.proofs.Differences.{finite-number}
 use Rattle.dense.specs.Matrix.{nth, side, long, finiteEntries}
 use Rattle.dense.proofs.Finite.{finite-entry}
-use Rattle.dense.proofs.Tests.{never}
 use Rattle.dense.proofs.Laws.{nth-tabulate}
 use Rattle.eigen.specs.Rotation.{State}
 use Rattle.eigen.specs.Rows.{Below}
@@ -34,12 +34,6 @@ eigenvalues a n = diagonal (final a n .entries) n
 pub eigenpairs-final : (a : List Float) (n : ℕ) → eigenpairs a n ≡ pairsOf n (final a n)
 unfolding eigenpairs
 eigenpairs-final a n = refl
-
-number : (x : Float) → finite x ≡ true → T (not (isNan x))
-unfolding isNan
-number nan e = never e
-number (inf s) e = tt
-number (fin s m d) e = tt
 
 -- the questions on sides and lengths are met
 pub call-answered : (a : List Float) (n : ℕ) (values vectors : List Float) (r : Eigenpairs) → matSymmetricEigen a n values vectors ≡ answered r → eigenpairs a n ≡ answered r
@@ -68,14 +62,17 @@ module _ (a : List Float) (n : ℕ) (r : Eigenpairs) (met : eigenpairs a n ≡ a
   unfolding Descends
   eigen-descends i j h k = rw (nth-values i (omega arith), nth-values j k) (order-descends (eigenvalues a n) n i j h k)
 
+  finites : (i : ℕ) → i < n → T (finite (nth (eigenvalues a n) i))
+  finites i h = rw (finite-entry (eigenvalues a n) n i (asked .0) h) tt
+
   numbers : Numbers (eigenvalues a n) n
   unfolding Numbers
-  numbers i h = number (nth (eigenvalues a n) i) (finite-entry (eigenvalues a n) n i (asked .0) h)
+  numbers i h = finite-number (nth (eigenvalues a n) i) (finites i h)
 
-  -- every eigenvalue is a number
-  pub eigen-numbers : (i : ℕ) → i < n → T (not (isNan (nth (r .values) i)))
-  unfolding Numbers Below
-  eigen-numbers i h = subst (λ (x : Float). T (not (isNan x))) (sym (nth-values i h)) (numbers (place (order (eigenvalues a n) n) i) (order-below (eigenvalues a n) n i h))
+  -- every eigenvalue is finite
+  pub eigen-finite : (i : ℕ) → i < n → T (finite (nth (r .values) i))
+  unfolding Below
+  eigen-finite i h = rw (nth-values i h) (finites (place (order (eigenvalues a n) n) i) (order-below (eigenvalues a n) n i h))
 
   pub eigen-stable : Once n (order (eigenvalues a n) n) × Stable (eigenvalues a n) n (order (eigenvalues a n) n)
   eigen-stable = (order-once (eigenvalues a n) n, order-stable (eigenvalues a n) n numbers)

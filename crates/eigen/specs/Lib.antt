@@ -1,4 +1,3 @@
 pub mod Rotation
 pub mod Eigen
 pub mod Rows
-pub mod Examples

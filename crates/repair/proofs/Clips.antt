@@ -1,4 +1,4 @@
--- Laws of the report, one eigenvalue more: `count-more` (and `count-within`), `clip-more`, `mask-more`; and of the matrix that is rebuilt, `rebuilt`.
+-- Laws of the report, one eigenvalue more: `count-more` (and `count-within`), `clip-more`, `mask-more`.
 use Prim.Native.Nat.{ℕ, zero, suc, _+_, _*_, _<_, _≤_}
 use native.Mathlib.Omega.{arith}
 use native.Mathlib.Numerals.{add-one}
@@ -13,12 +13,9 @@ use lib.Ieee.{Float, lt}
 use lib.ListN.{length, set, getD, length-set}
 use lib.Seq.{getD-set-same, getD-set-other}
 use Rattle.kernel.specs.Lists.{tabulate}
-use Rattle.kernel.specs.Number.{mul}
-use Rattle.kernel.specs.Constants.{nought}
 use Rattle.kernel.proofs.Lists.{length-tabulate, getD-tabulate, by-elements, tabulate-ext}
-use Rattle.dense.specs.Matrix.{total, sumFrom, nth, at, rowOf}
-use Rattle.dense.proofs.Laws.{sum-ext, nth-tabulate, nth-row}
-use Rattle.repair.specs.Repair.{clips, clipCount, greaterClip, largestClip, clipMask, reportOf, rebuiltEntry}
+use Rattle.dense.specs.Matrix.{nth}
+use Rattle.repair.specs.Repair.{clips, clipCount, greaterClip, largestClip, clipMask, reportOf}
 
 module _ (e : List Float) (floor : Float) where
   pub count-more : (i : ℕ) {c r : ℕ} → c ≡ clipCount e floor i → r ≡ cond (clips floor (nth e i)) 1 0 → c + r ≡ clipCount e floor (i + 1)
@@ -66,15 +63,3 @@ module _ (e : List Float) (floor : Float) where
       → record { «n_clipped» = a; «max_clip_magnitude» = b; «clipped_indices» = m } ≡ reportOf e floor n
   unfolding reportOf
   told n p q r = rw (p, q, r)
-
--- a vector times row j
-pub times-row : (x v : List Float) (n j : ℕ) {y : List Float} {d : Float} → y ≡ rowOf v n j → d ≡ total n (λ k. mul (nth x k) (nth y k)) → d ≡ total n (λ k. mul (nth x k) (at v n j k))
-times-row x v n j {y} p q = q ∙ sum-ext nought n _ _ (λ k h. ap (mul (nth x k)) (ap (λ (l : List Float). nth l k) p ∙ nth-row v n j k h))
-
--- row i, scaled and then multiplied with each row
-pub rebuilt : (v e : List Float) (n i : ℕ) {x : List Float} → x ≡ tabulate n (λ k. mul (at v n i k) (nth e k))
-    → tabulate n (λ j. total n (λ k. mul (nth x k) (at v n j k))) ≡ tabulate n (rebuiltEntry v e n i)
-unfolding rebuiltEntry
-rebuilt v e n i {x} p =
-    tabulate-ext n _ _
-    (λ j h. sum-ext nought n _ _ (λ k b. ap (λ (z : Float). mul z (at v n j k)) (ap (λ (l : List Float). nth l k) p ∙ nth-tabulate n (λ a. mul (at v n i a) (nth e a)) k b)))

@@ -2,3 +2,4 @@ pub mod Clips
 pub mod Outcomes
 pub mod Reports
 pub mod Masks
+pub mod Largest

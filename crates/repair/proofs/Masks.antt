@@ -1,5 +1,5 @@
--- What a mask says. `mask-falls`: of an answered repair, whatever follows a clipped eigenvalue is clipped, so the mask is false, then true. `count-trues`: the count
--- is the number of trues of the mask.
+-- What a mask says. `mask-tells`: element i of an answered repair's mask tells whether eigenvalue i is clipped. `mask-falls`: whatever follows a clipped eigenvalue is
+-- clipped, so the mask is false, then true. `count-trues`: the count is the number of trues of the mask.
 use Prim.Native.Nat.{ℕ, zero, suc, _+_, _*_, _<_, _≤_}
 use native.Mathlib.Omega.{arith}
 use mathlib.Core.Bool.{Bool, true, false, cond, _&&_}
@@ -7,7 +7,8 @@ use mathlib.Core.List.{List}
 use mathlib.Core.Path.{_≡_, refl, sym, ap, _∙_}
 use borrow.Author.Tests.{lt-ltb}
 use lib.Dec.{T, ltb}
-use lib.Ieee.{Float}
+use lib.Ieee.{Float, lt}
+use lib.Ieee.Scale.{finite}
 use lib.ListN.{getD}
 use Rattle.kernel.specs.Answer.{answered, through}
 use Rattle.kernel.proofs.Answers.{ask-met, through-met}
@@ -15,7 +16,8 @@ use Rattle.kernel.proofs.Lists.{getD-tabulate}
 use Rattle.dense.specs.Matrix.{nth, side, long, finiteEntries}
 use Rattle.dense.proofs.Tests.{side-high}
 use Rattle.eigen.specs.Eigen.{Eigenpairs, eigenpairs}
-use Rattle.eigen.proofs.Answered.{eigen-descends, eigen-numbers}
+use Rattle.kernel.proofs.Differences.{finite-number}
+use Rattle.eigen.proofs.Answered.{eigen-descends, eigen-finite}
 use Rattle.eigen.proofs.Stability.{below-too}
 use Rattle.repair.specs.Repair.{clips, clipCount, clipMask, reportOf, Repair, repairOf, repair, nearestPsd}
 use Rattle.repair.proofs.Reports.{mask-is}
@@ -27,7 +29,7 @@ bit e floor n k h b = ap (λ (l : List Bool). getD l k false) (mask-is e floor n
 -- ---- false, then true
 
 -- the eigenpairs of an answered repair, and what is made of them
-pairs-of : (cov : List Float) (floor : Float) (n : ℕ) (out : List Float) (r : Repair) → nearestPsd cov floor n out ≡ answered r
+pub pairs-of : (cov : List Float) (floor : Float) (n : ℕ) (out : List Float) (r : Repair) → nearestPsd cov floor n out ≡ answered r
     → (p : Eigenpairs) × (eigenpairs cov n ≡ answered p) × (repairOf floor n p ≡ r)
 unfolding nearestPsd repair
 pairs-of cov floor n out r met =
@@ -41,32 +43,35 @@ held : (b : Bool) → T b → b ≡ true
 held true t = refl
 held false t = absurd t
 
-falls : (floor : Float) (n i j : ℕ) (p : Eigenpairs) (cov : List Float) → n ≤ 16 → eigenpairs cov n ≡ answered p → i < j → j < n
-    → getD (clipMask (p .values) floor n) i false ≡ true → getD (clipMask (p .values) floor n) j false ≡ true
-falls floor n i j p cov s met h k c =
-    let e = p .values in
-    let x = eigen-numbers cov n p met i (omega arith) in
-    let y = eigen-numbers cov n p met j k in
-    let below = sym (bit e floor n i s (omega arith)) ∙ c in
-    bit e floor n j s k ∙ held _ (below-too (nth e i) floor (nth e j) x y below (eigen-descends cov n p met i j h k))
-
--- its order
-order-of : (cov : List Float) (floor : Float) (n : ℕ) (out : List Float) (r : Repair) → nearestPsd cov floor n out ≡ answered r → n ≤ 16
-unfolding nearestPsd
-order-of cov floor n out r met = side-high n (ask-met 1 (side n) _ met .0)
-
 -- element i of the mask of an answered repair
 abbrev pub masked : Repair → ℕ → Bool
 masked r i = getD (r .report .«clipped_indices») i false
 
-pub mask-falls : (cov : List Float) (floor : Float) (n : ℕ) (out : List Float) (r : Repair) → nearestPsd cov floor n out ≡ answered r → (i j : ℕ) → i < j → j < n
-    → masked r i ≡ true → masked r j ≡ true
-mask-falls cov floor n out r met i j h k c =
-    let w = pairs-of cov floor n out r met in
-    let e = w .0 .values in
-    let mask : (x : ℕ) → masked r x ≡ getD (clipMask e floor n) x false = λ x.
-    ap (λ (z : Repair). masked z x) (sym (w .2)) ∙ ap (λ (l : List Bool). getD l x false) (mask-of floor n (w .0)) in
-    mask j ∙ falls floor n i j (w .0) cov (order-of cov floor n out r met) (w .1) h k (sym (mask i) ∙ c)
+module _ (cov : List Float) (floor : Float) (n : ℕ) (out : List Float) (r : Repair) (met : nearestPsd cov floor n out ≡ answered r) where
+  pub order-side : side n ≡ true
+  unfolding nearestPsd
+  order-side = ask-met 1 (side n) _ met .0
+
+  -- the eigenvalues of cov
+  abbrev pub spectrum : List Float
+  spectrum = pairs-of cov floor n out r met .0 .values
+
+  pub mask-tells : (i : ℕ) → i < n → masked r i ≡ clips floor (nth spectrum i)
+  mask-tells i h =
+      let w = pairs-of cov floor n out r met in
+      ap (λ (z : Repair). masked z i) (sym (w .2)) ∙ ap (λ (l : List Bool). getD l i false) (mask-of floor n (w .0)) ∙ bit spectrum floor n i (side-high n order-side) h
+
+  pub spectrum-finite : (i : ℕ) → i < n → T (finite (nth spectrum i))
+  spectrum-finite = let w = pairs-of cov floor n out r met in eigen-finite cov n (w .0) (w .1)
+
+  pub spectrum-descends : (i j : ℕ) → i < j → j < n → lt (nth spectrum i) (nth spectrum j) ≡ false
+  spectrum-descends = let w = pairs-of cov floor n out r met in eigen-descends cov n (w .0) (w .1)
+
+  pub mask-falls : (i j : ℕ) → i < j → j < n → masked r i ≡ true → masked r j ≡ true
+  mask-falls i j h k c =
+      let x = finite-number (nth spectrum i) (spectrum-finite i (omega arith)) in
+      let y = finite-number (nth spectrum j) (spectrum-finite j k) in
+      mask-tells j k ∙ held _ (below-too (nth spectrum i) floor (nth spectrum j) x y (sym (mask-tells i (omega arith)) ∙ c) (spectrum-descends i j h k))
 
 -- ---- the count
 

@@ -1,2 +1,1 @@
 pub mod Repair
-pub mod Examples

@@ -33,17 +33,16 @@ fn refused(q: u8) -> Repaired
     }
 }
 
-// The eigenpairs of cov, n by n, and then its repair. The slices e, v and x are room for the eigenvalues, the vectors and a row.
+// The eigenpairs of cov, n by n, and then its repair. The slices e and v are room for the eigenvalues and the vectors.
 fn repair_in(
     cov: &[f64],
     floor: f64,
     n: usize,
     e: &mut [f64],
     v: &mut [f64],
-    x: &mut [f64],
     out: &mut [f64],
 ) -> Repaired
-    requires { ⌜ (side n ≡ true) × (length (now cov) ≡ n * n) × (length (now e) ≡ n) × (length (now v) ≡ n * n) × (length (now x) ≡ n) × (length (now out) ≡ n * n) ⌝ }
+    requires { ⌜ (side n ≡ true) × (length (now cov) ≡ n * n) × (length (now e) ≡ n) × (length (now v) ≡ n * n) × (length (now out) ≡ n * n) ⌝ }
     ensures { λ r. ⌜ (r, now (out .exit)) ≡ afterRepair (repair (now (cov .entry)) floor n) (now (out .entry)) ⌝ }
 {
     match mat_symmetric_eigen(cov, n, e, v) {
@@ -51,7 +50,7 @@ fn repair_in(
         Written::Done => {
             let told = report(e, n, floor);
             raise(e, n, floor);
-            rebuild(v, e, n, x, out);
+            rebuild(v, e, n, out);
             Repaired {
                 answer: Written::Done,
                 report: told,
@@ -67,9 +66,8 @@ fn small_repair(cov: &[f64], floor: f64, n: usize, out: &mut [f64]) -> Repaired
 {
     let mut e = [0.0f64; 4];
     let mut v = [0.0f64; 16];
-    let mut x = [0.0f64; 4];
     let size = n * n;
-    repair_in(cov, floor, n, &mut e[..n], &mut v[..size], &mut x[..n], out)
+    repair_in(cov, floor, n, &mut e[..n], &mut v[..size], out)
 }
 
 // The same with room for orders to 16.
@@ -79,9 +77,8 @@ fn large_repair(cov: &[f64], floor: f64, n: usize, out: &mut [f64]) -> Repaired
 {
     let mut e = [0.0f64; 16];
     let mut v = [0.0f64; 256];
-    let mut x = [0.0f64; 16];
     let size = n * n;
-    repair_in(cov, floor, n, &mut e[..n], &mut v[..size], &mut x[..n], out)
+    repair_in(cov, floor, n, &mut e[..n], &mut v[..size], out)
 }
 
 // The matrix nearest to cov, n by n, whose eigenvalues are not below min_eig, into out.

@@ -1,7 +1,6 @@
 -- `rebuild` meets its contract: before turn i the rows above row i are written.
 use Prim.Native.Nat.{_+_, _*_, _-_, _≤_}
 use native.Mathlib.Omega.{arith}
-use mathlib.Core.Path.{_≡_, refl, _∙_}
 use lib.ListN.{length}
 use Rattle.dense.specs.Fill.{FilledRows}
 use Rattle.dense.proofs.Laws.{row-within, length-part, rows-none, rows-more, rows-all}
@@ -10,47 +9,43 @@ use Rattle.repair.proofs.rebuild.rebuild.Statement.{statement}
 use Rattle.repair.proofs.rebuild.rebuild.Tie as tie
 
 abbrev Inv-loop : tie.InvT-loop
-Inv-loop v e n x₀ out₀ i₀ x out i = (i ≤ n) × (length x ≡ length x₀) × FilledRows (rebuiltEntry v e n) n out₀ i out
+Inv-loop v e n out₀ i₀ out i = (i ≤ n) × FilledRows (rebuiltEntry v e n) n out₀ i out
 
 abbrev μ-loop : tie.MeasureT-loop
-μ-loop v e n x₀ out₀ i₀ x out i = n - i
+μ-loop v e n out₀ i₀ out i = n - i
 
 -- row i lies within the slice
 within : (c : tie.In-loop Inv-loop μ-loop)
-    → c .before .loop .i * c .before .before .before .before .before .before .args .n + c .before .before .before .before .before .before .args .n ≤ length (c .before .loop .out)
-within c = omega (arith, row-within (c .before .before .before .before .before .before .args .n) (c .before .before .before .before .before .before .args .n) {i = c .before .loop .i} (omega arith))
+    → c .before .loop .i * c .before .before .before .before .before .args .n + c .before .before .before .before .before .args .n ≤ length (c .before .loop .out)
+within c = omega (arith, row-within (c .before .before .before .before .before .args .n) (c .before .before .before .before .before .args .n) {i = c .before .loop .i} (omega arith))
 
 loop-holds : tie.Need-loop-holds Inv-loop μ-loop
-loop-holds c = (omega arith, refl, rows-none _ _ _)
+loop-holds c = (omega arith, rows-none _ _ _)
 
 rebuilt-row-requires : tie.Need-rebuilt-row-requires Inv-loop μ-loop
 rebuilt-row-requires c κs =
-    let in-loop = c .before .before in
-    let start = in-loop .before .before .before .before .before .before in
-    let x = start in
-    (omega arith, x .pre .0, x .pre .1, in-loop .before .loop .inv .1 ∙ x .pre .2, length-part (in-loop .before .loop .out) (x .args .n) (in-loop .before .loop .i) (within (in-loop)))
+    let in-loop = c .before in
+    let start = in-loop .before .before .before .before .before in
+    (omega arith, start .pre .0, start .pre .1, length-part (in-loop .before .loop .out) (start .args .n) (in-loop .before .loop .i) (within in-loop))
 
 loop-again : tie.Need-loop-again Inv-loop μ-loop
 loop-again c =
-    let after-rebuilt-row = c .before .before .before .before in
-    let in-loop = after-rebuilt-row .before .before .before in
-    let start = in-loop .before .before .before .before .before .before in
+    let after-rebuilt-row = c .before .before in
+    let in-loop = after-rebuilt-row .before .before in
+    let start = in-loop .before .before .before .before .before in
     let turn = in-loop .before .loop in
     let call = after-rebuilt-row .rebuilt-row in
-    (omega arith, call .kept .1 .1 .1 .1 .0 ∙ turn .inv .1, rows-more _ (start .args .n) (turn .i) (within (in-loop)) (call .ensures) (turn .inv .2))
+    (omega arith, rows-more _ (start .args .n) (turn .i) (within in-loop) (call .ensures) (turn .inv .1))
 
 same-length : tie.Need-same-length Inv-loop μ-loop
-same-length c = c .before .loop .inv .1
-
-same-length-2 : tie.Need-same-length-2 Inv-loop μ-loop
-same-length-2 c = c .before .loop .inv .2 .size
+same-length c = c .before .loop .inv .1 .size
 
 returns : tie.Need-returns Inv-loop μ-loop
-returns c = let start = c .before .before .before .before .before .before in rows-all _ _ _ (start .pre .3) (c .before .loop .inv .0) (c .loop-test .left) (c .before .loop .inv .2)
+returns c = rows-all _ _ _ (c .before .before .before .before .before .pre .2) (c .before .loop .inv .0) (c .loop-test .left) (c .before .loop .inv .1)
 
 pub rebuild-spec : {M : Type 1} → statement M
 rebuild-spec =
     tie.close
-    (tie.spec Inv-loop μ-loop loop-holds (λ c. omega (arith, within c)) (λ c. omega (arith, within (c .before))) (λ c. omega (arith, within (c .before)))
-    (λ c. omega arith) (λ c. omega arith) (λ c. omega (arith, within (c .before))) rebuilt-row-requires (λ c. omega arith) (λ c. omega arith) loop-again
-    same-length same-length-2 returns)
+    (tie.spec Inv-loop μ-loop loop-holds (λ c. omega (arith, within c)) (λ c. omega (arith, within c)) (λ c. omega (arith, within c))
+    (λ c. omega arith) (λ c. omega arith) (λ c. omega (arith, within c)) rebuilt-row-requires (λ c. omega arith) (λ c. omega arith) loop-again
+    same-length returns)

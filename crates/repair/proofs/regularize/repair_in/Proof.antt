@@ -10,12 +10,12 @@ use Rattle.repair.proofs.regularize.repair_in.Tie as tie
 report-requires : tie.Need-report-requires
 report-requires c κs =
     let after-mat-symmetric-eigen = c .before .before .before .before .before .before .before in
-    let start = after-mat-symmetric-eigen .before .before .before .before .before .before .before .before in
+    let start = after-mat-symmetric-eigen .before .before .before .before .before .before .before in
     (side-high (start .args .n) (start .pre .0), after-mat-symmetric-eigen .mat-symmetric-eigen .kept .1 .1 .0 ∙ start .pre .2)
 
 -- the place where the function begins
 abbrev entered : tie.After-mat-symmetric-eigen → tie.Start
-entered c = c .before .before .before .before .before .before .before .before
+entered c = c .before .before .before .before .before .before .before
 
 -- questions 1 and 2 are met
 asked : (c : tie.After-mat-symmetric-eigen)
@@ -26,18 +26,18 @@ returns : tie.Need-returns
 returns c =
     let after-q = c .before .before in
     let after-mat-symmetric-eigen = after-q .before .before .before .before .before .before in
-    let x = after-mat-symmetric-eigen .before .before .before .before .before .before .before .before .args in
+    let x = entered after-mat-symmetric-eigen .args in
     repair-refused (x .cov .now) (x .floor) (x .n) (x .e .now) (x .v .now) (x .out .now) (asked after-mat-symmetric-eigen) (after-q .q .given .1)
     (after-mat-symmetric-eigen .mat-symmetric-eigen .ensures) (c .refused .ensures)
 
 returns-2 : tie.Need-returns-2
 returns-2 c =
-    let after-rebuild = c .before .before .before .before in
-    let after-raise = after-rebuild .before .before .before .before .before .before .before in
+    let after-rebuild = c .before .before in
+    let after-raise = after-rebuild .before .before .before .before .before .before in
     let after-report = after-raise .before .before in
     let after-enum-told = after-report .before .before in
     let after-mat-symmetric-eigen = after-enum-told .before .before .before .before .before .before in
-    let x = after-mat-symmetric-eigen .before .before .before .before .before .before .before .before .args in
+    let x = entered after-mat-symmetric-eigen .args in
     repair-done (x .cov .now) (x .floor) (x .n) (x .e .now) (x .v .now) (x .out .now) (asked after-mat-symmetric-eigen) (after-enum-told .enum-told .given .1)
     (after-mat-symmetric-eigen .mat-symmetric-eigen .ensures) (after-report .report .ensures) (after-raise .raise .ensures) (after-rebuild .rebuild .ensures)
 
@@ -45,5 +45,4 @@ pub repair-in-spec : {M : Type 1} → statement M
 repair-in-spec =
     tie.close
     (tie.spec (λ c κs. search needs) (λ c. search needs) (λ c κs. search needs) (λ c. search needs) report-requires (λ c κs. search needs)
-    (λ c κs. search needs) (λ c. search needs) (λ c. search needs) returns (λ c. search needs) (λ c. search needs) (λ c. search needs) (λ c. search needs)
-    returns-2)
+    (λ c κs. search needs) (λ c. search needs) (λ c. search needs) returns (λ c. search needs) (λ c. search needs) (λ c. search needs) returns-2)

@@ -17,17 +17,16 @@ size c = small-size (c .args .n) (order c)
 
 repair-in-requires : tie.Need-repair-in-requires
 repair-in-requires c κs =
-    let start = c .before .before .before .before .before .before in
+    let start = c .before .before .before .before .before in
     let x = start in
     let o = order x in
     let s = size x in
-    (x .pre .0, x .pre .2, length-take-le _ _ (omega arith), length-take-le _ _ (omega arith), length-take-le _ _ (omega arith), x .pre .3)
+    (x .pre .0, x .pre .2, length-take-le _ _ (omega arith), length-take-le _ _ (omega arith), x .pre .3)
 
 pub small-repair-spec : {M : Type 1} → statement M
 small-repair-spec =
     tie.close
     (tie.spec (λ c. omega (arith, size (c .before .before))) (λ c. omega (arith, order (c .before .before)))
     (λ c. sym (length-take-le _ _ (omega (arith, order (c .before .before .before))))) (λ c. omega (arith, size (c .before .before .before)))
-    (λ c. sym (length-take-le _ _ (omega (arith, size (c .before .before .before .before))))) (λ c. omega (arith, order (c .before .before .before .before)))
-    (λ c. sym (length-take-le _ _ (omega (arith, order (c .before .before .before .before .before))))) repair-in-requires (λ c. search needs)
-    (λ c. search needs))
+    (λ c. sym (length-take-le _ _ (omega (arith, size (c .before .before .before .before))))) repair-in-requires
+    (λ c. search needs) (λ c. search needs))
