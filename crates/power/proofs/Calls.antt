@@ -1,0 +1,76 @@
+-- What the calls of the crates below leave where their questions are met. `times-left`, `gram-left` and `damped-left`: the slice holds the product, the
+-- product with the transpose, the damped matrix. `solve-refused` and `solve-done`: what an answer of `mat_solve` says of the solution.
+use Prim.Native.Nat.{ℕ, _+_, _*_}
+use native.Mathlib.Omega.{arith}
+use mathlib.Core.Bool.{Bool, true, false, not}
+use mathlib.Core.List.{List}
+use mathlib.Core.Path.{_≡_, refl, sym, ap, _∙_}
+use borrow.Author.Tests.{eq-eqb}
+use lib.Ieee.{Float}
+use lib.ListN.{length}
+use Rattle.kernel.specs.Answer.{Outcome, refused, answered, ask}
+use Rattle.kernel.proofs.Answers.{answered-inj, ask-met}
+use Rattle.dense.specs.declared.Written.{Written}
+use Rattle.dense.specs.declared.Written.the-variants.{Done, Refused}
+use Rattle.dense.specs.Answer.{after, Leaves}
+use Rattle.dense.specs.Matrix.{matrix, side, long}
+use Rattle.dense.proofs.Tests.{never}
+use Rattle.linalg.specs.Products.{matVecMul, matAta}
+use Rattle.linalg.specs.Regularize.{dampedEntry, tikhonov}
+use Rattle.pivoting.specs.Pivot.{rowNorms, someScale, pivoted}
+use Rattle.pivoting.specs.Solve.{start, reduced, matSolve, solved}
+use Rattle.power.specs.Power.{times, gram}
+use Rattle.power.specs.Condition.{solutionOf, isRefused}
+
+long-of : (a : List Float) (n : ℕ) → length a ≡ n → long a n ≡ true
+unfolding long
+long-of a n e = eq-eqb (length a) n e
+
+-- a call that answers v leaves it
+left : (o : Outcome (List Float)) (old : List Float) {r : Written} {new v : List Float} → o ≡ answered v → Leaves o old r new → new ≡ v
+left o old e l = ap (λ (z : Written × List Float). z .1) (l ∙ ap (λ (p : Outcome (List Float)). after p old) e)
+
+refused-by : (o : Outcome (List Float)) (old : List Float) {k : ℕ} {new : List Float} → Leaves o old (Refused k) new → isRefused o ≡ true
+refused-by (refused k) old l = refl
+refused-by (answered v) old l = let e = ap (λ (z : Written × List Float). z .0) l in absurd (let z : _≡_ {A = ℕ} 0 1 = cc in omega arith)
+
+answered-by : (o : Outcome (List Float)) (old : List Float) {new : List Float} → Leaves o old Done new → o ≡ answered new
+answered-by (refused k) old l = let e = ap (λ (z : Written × List Float). z .0) l in absurd (let z : _≡_ {A = ℕ} 0 1 = cc in omega arith)
+answered-by (answered v) old l = ap (λ (z : Written × List Float). answered (z .1)) (sym l)
+
+-- what is answered after two questions
+value-of : (p q : ℕ) (b c : Bool) (v : List Float) {w : List Float} → ask p b (ask q c (answered v)) ≡ answered w → v ≡ w
+value-of p q b c v e = answered-inj (ask-met q c (answered v) (ask-met p b (ask q c (answered v)) e .1) .1)
+
+module _ (n : ℕ) (s : side n ≡ true) (a : List Float) (h : length a ≡ n * n) where
+  pub times-left : (x old : List Float) {r : Written} {new : List Float} → length x ≡ n → length old ≡ n → Leaves (matVecMul a x n old) old r new → new ≡ times a n x
+  unfolding matVecMul times
+  times-left x old p q l = left (matVecMul a x n old) old (rw (s, long-of a (n * n) h, long-of x n p, long-of old n q)) l
+
+  pub gram-left : (old : List Float) {r : Written} {new : List Float} → length old ≡ n * n → Leaves (matAta a n n old) old r new → new ≡ gram a n
+  unfolding matAta gram
+  gram-left old q l = left (matAta a n n old) old (rw (s, long-of a (n * n) h, long-of old (n * n) q)) l
+
+  pub damped-left : (alpha : Float) (old : List Float) {r : Written} {new : List Float} → length old ≡ n * n → Leaves (tikhonov a alpha n old) old r new
+      → new ≡ matrix n n (dampedEntry a n alpha)
+  unfolding tikhonov
+  damped-left alpha old q l = left (tikhonov a alpha n old) old (rw (s, long-of a (n * n) h, long-of old (n * n) q)) l
+
+  -- the questions on sides and lengths are met
+  asked : (x old : List Float) → length x ≡ n → length old ≡ n → matSolve a x n old ≡ solved a x n 1
+  unfolding matSolve
+  asked x old p q = rw (s, long-of a (n * n) h, long-of x n p, long-of old n q)
+
+  -- r tells whether a solution was written
+  abbrev pub Solves : List Float → Bool → List Float → Type 0
+  Solves x r new = (r ≡ not (isRefused (solved a x n 1))) × (r ≡ true → new ≡ solutionOf a n x)
+
+  module _ (x old : List Float) {r : Written} {new : List Float} (p : length x ≡ n) (q : length old ≡ n) where
+    pub solve-refused : {k : ℕ} → r ≡ Refused k → Leaves (matSolve a x n old) old r new → Solves x false new
+    solve-refused e l = (rw (sym (asked x old p q), refused-by (matSolve a x n old) old (rw e at l)), λ t. never t)
+
+    pub solve-done : r ≡ Done → Leaves (matSolve a x n old) old r new → Solves x true new
+    unfolding solved
+    solve-done e l =
+        let o : solved a x n 1 ≡ answered new = sym (asked x old p q) ∙ answered-by (matSolve a x n old) old (rw e at l) in
+        (rw o, λ t. sym (value-of 5 6 (someScale n (rowNorms a n)) (pivoted n (n + 1) (reduced n (n + 1) (start a x n 1)) n) (solutionOf a n x) o))

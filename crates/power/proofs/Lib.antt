@@ -1,0 +1,13 @@
+pub mod Calls
+pub mod Vectors
+pub mod Stops
+pub mod Iteration
+pub mod Starts
+pub mod Ratios
+pub mod Roots
+pub mod Squares
+pub mod Exacts
+pub mod Ones
+pub mod Underflow
+pub mod Overflow
+pub mod OneByOne

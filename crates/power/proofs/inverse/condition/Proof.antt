@@ -1,0 +1,32 @@
+-- `condition` meets its contract: the local arrays have room for a matrix and three vectors.
+use Prim.Native.Nat.{_*_, _≤_}
+use mathlib.Core.Path.{sym}
+use native.Mathlib.Omega.{arith}
+use lib.Seq.{length-take-le}
+use Rattle.dense.proofs.Tests.{side-high, square-area}
+use Rattle.power.proofs.inverse.condition.Statement.{statement}
+use Rattle.power.proofs.inverse.condition.Tie as tie
+
+-- the order
+order : (c : tie.Start) → c .args .n ≤ 16
+order c = side-high (c .args .n) (c .pre .0)
+
+-- how many entries a matrix has
+size : (c : tie.Start) → c .args .n * c .args .n ≤ 256
+size c = square-area (c .args .n) (c .pre .0)
+
+condition-in-requires : tie.Need-condition-in-requires
+condition-in-requires c κs =
+    let start = c .before .before .before .before .before in
+    let o = order start in
+    let s = size start in
+    (start .pre .0, start .pre .1, length-take-le _ _ (omega arith), length-take-le _ _ (omega arith), length-take-le _ _ (omega arith), length-take-le _ _ (omega arith))
+
+pub condition-spec : {M : Type 1} → statement M
+condition-spec =
+    tie.close
+    (tie.spec (λ c. omega (arith, size (c .before))) (λ c. omega (arith, size (c .before))) (λ c. sym (length-take-le _ _ (omega (arith, size (c .before .before)))))
+    (λ c. omega (arith, order (c .before .before))) (λ c. sym (length-take-le _ _ (omega (arith, order (c .before .before .before)))))
+    (λ c. omega (arith, order (c .before .before .before))) (λ c. sym (length-take-le _ _ (omega (arith, order (c .before .before .before .before)))))
+    (λ c. omega (arith, order (c .before .before .before .before))) (λ c. sym (length-take-le _ _ (omega (arith, order (c .before .before .before .before .before)))))
+    condition-in-requires (λ c. c .before .before .before .before .condition-in .ensures))
