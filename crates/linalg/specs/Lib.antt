@@ -3,4 +3,3 @@ pub mod Sums
 pub mod Norms
 pub mod Cholesky
 pub mod Regularize
-pub mod Examples

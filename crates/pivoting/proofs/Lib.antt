@@ -4,3 +4,4 @@ pub mod Stages
 pub mod Columns
 pub mod Inverse
 pub mod Determinants
+pub mod Rooms

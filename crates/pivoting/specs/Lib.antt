@@ -1,4 +1,3 @@
 pub mod Pivot
 pub mod Solve
 pub mod Det
-pub mod Examples

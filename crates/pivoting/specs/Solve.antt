@@ -1,8 +1,10 @@
 -- Gauss–Jordan elimination by scaled pivots, of document 01, "Pivoting": `mat_solve`, `mat_inv` and the distance over the inverse.
-use Prim.Native.Nat.{ℕ, zero, suc, _+_, _*_, _-_}
+use Prim.Native.Nat.{ℕ, zero, suc, _+_, _*_, _-_, _≤_}
 use mathlib.Core.Bool.{cond, _&&_}
+use mathlib.Core.Path.{_≡_}
 use mathlib.Core.List.{List}
 use lib.Dec.{eqb, ltb}
+use lib.ListN.{length}
 use lib.Ieee.{Float}
 use Rattle.kernel.specs.Number.{sub, mul, div}
 use Rattle.kernel.specs.Answer.{Outcome, answered, ask, through}
@@ -109,3 +111,10 @@ mahalanobis x mu cov n =
     ask 1 (side n)
     (ask 2 (long x n && (long mu n && long cov (n * n)))
     (distance x mu cov n))
+
+-- Two vectors of n entries, at least one, and an n by n matrix.
+pub record Under (x mu cov : List Float) (n : ℕ) : Type 0 where
+  pub some : 1 ≤ n
+  pub first : length x ≡ n
+  pub second : length mu ≡ n
+  pub square : length cov ≡ n * n

@@ -1,7 +1,9 @@
 // Scaled pivoting on f64: row norms, solutions, inverses and determinants of matrices of sides 1 to 16.
 mod choice;
 mod det;
+mod distance;
 pub mod generic;
+mod invert;
 mod norms;
 mod reduce;
 mod rows;

@@ -3,20 +3,16 @@ ghost use mathlib.Core.Path.{_≡_};
 ghost use Prim.Native.Nat.{_+_, _*_, _<_, _≤_};
 ghost use lib.ListN.{length};
 ghost use Rattle.kernel.specs.Lists.{tabulate};
-ghost use Rattle.dense.specs.Answer.{Leaves, given};
-ghost use Rattle.dense.specs.Matrix.{at, matrix, identity};
-ghost use Rattle.linalg.specs.Sums.{difference, quadraticForm};
-ghost use Rattle.pivoting.specs.Solve.{augmentedEntry, augmented, solved, following, distance};
+ghost use Rattle.dense.specs.Answer.{Leaves};
+ghost use Rattle.dense.specs.Matrix.{at, matrix};
+ghost use Rattle.pivoting.specs.Solve.{augmentedEntry, augmented, solved};
 use crate::norms::row_norms;
 use crate::norms::some_scale;
 use crate::reduce::reduce;
-use dense::Number;
 use dense::Written;
 use dense::shape::entry;
-use dense::unit::identity;
 use kernel::question::PIVOT_RATIO;
 use kernel::question::ROW_NORM;
-use linalg::generic::mahalanobis_distance_squared_with_inv;
 
 // Entry (i, j) of [a | b], for a n by n and b n by r.
 fn augmented_entry(a: &[f64], b: &[f64], n: usize, r: usize, i: usize, j: usize) -> f64
@@ -99,8 +95,21 @@ fn solve_in(
     Written::Done
 }
 
-// The same with room of its own.
-pub(crate) fn solve(a: &[f64], b: &[f64], n: usize, r: usize, out: &mut [f64]) -> Written
+// The same with room for orders to 4.
+fn small_solve(a: &[f64], b: &[f64], n: usize, r: usize, out: &mut [f64]) -> Written
+    requires { ⌜ (n ≤ 4) × (r ≤ 4) × (length (now a) ≡ n * n) × (length (now b) ≡ n * r) × (length (now out) ≡ n * r) ⌝ }
+    ensures { λ q. ⌜ Leaves (solved (now (a .entry)) (now (b .entry)) n r) (now (out .entry)) q (now (out .exit)) ⌝ }
+{
+    let mut m = [0.0f64; 32];
+    let mut s = [0.0f64; 4];
+    let mut x = [0.0f64; 8];
+    let w = n + r;
+    let size = n * w;
+    solve_in(a, b, n, r, w, &mut m[..size], &mut s[..n], &mut x[..w], out)
+}
+
+// The same with room for orders to 16.
+fn large_solve(a: &[f64], b: &[f64], n: usize, r: usize, out: &mut [f64]) -> Written
     requires { ⌜ (n ≤ 16) × (r ≤ 16) × (length (now a) ≡ n * n) × (length (now b) ≡ n * r) × (length (now out) ≡ n * r) ⌝ }
     ensures { λ q. ⌜ Leaves (solved (now (a .entry)) (now (b .entry)) n r) (now (out .entry)) q (now (out .exit)) ⌝ }
 {
@@ -112,35 +121,13 @@ pub(crate) fn solve(a: &[f64], b: &[f64], n: usize, r: usize, out: &mut [f64]) -
     solve_in(a, b, n, r, w, &mut m[..size], &mut s[..n], &mut x[..w], out)
 }
 
-// Questions 5 and 6, and then the inverse of a, n by n, into out.
-pub(crate) fn inverse(a: &[f64], n: usize, out: &mut [f64]) -> Written
-    requires { ⌜ (n ≤ 16) × (length (now a) ≡ n * n) × (length (now out) ≡ n * n) ⌝ }
-    ensures { λ q. ⌜ Leaves (solved (now (a .entry)) (identity n) n n) (now (out .entry)) q (now (out .exit)) ⌝ }
+// The same with the room that the order needs.
+pub(crate) fn solve(a: &[f64], b: &[f64], n: usize, r: usize, out: &mut [f64]) -> Written
+    requires { ⌜ (n ≤ 16) × (r ≤ n) × (length (now a) ≡ n * n) × (length (now b) ≡ n * r) × (length (now out) ≡ n * r) ⌝ }
+    ensures { λ q. ⌜ Leaves (solved (now (a .entry)) (now (b .entry)) n r) (now (out .entry)) q (now (out .exit)) ⌝ }
 {
-    let mut e = [0.0f64; 256];
-    let size = n * n;
-    identity(n, &mut e[..size]);
-    solve(a, &e[..size], n, n, out)
-}
-
-// The quadratic form of x - mu under inv, n by n, where the call that wrote inv has answered.
-fn distance_under(answer: Written, x: &[f64], mu: &[f64], inv: &[f64], n: usize) -> Number
-    requires { ⌜ (1 ≤ n) × (n ≤ 16) × (length (now x) ≡ n) × (length (now mu) ≡ n) × (length (now inv) ≡ n * n) ⌝ }
-    ensures { λ q. ⌜ q ≡ following answer (quadraticForm (difference (now (x .entry)) (now (mu .entry)) n) (now (inv .entry)) n) ⌝ }
-{
-    match answer {
-        Written::Refused(q) => Number::Refused(q),
-        Written::Done => mahalanobis_distance_squared_with_inv(x, mu, inv, n),
+    if n <= 4 {
+        return small_solve(a, b, n, r, out);
     }
-}
-
-// Questions 5 and 6, and then the quadratic form of x - mu under the inverse of cov, n by n.
-pub(crate) fn distance(x: &[f64], mu: &[f64], cov: &[f64], n: usize) -> Number
-    requires { ⌜ (1 ≤ n) × (n ≤ 16) × (length (now x) ≡ n) × (length (now mu) ≡ n) × (length (now cov) ≡ n * n) ⌝ }
-    ensures { λ q. ⌜ q ≡ given (distance (now (x .entry)) (now (mu .entry)) (now (cov .entry)) n) ⌝ }
-{
-    let mut inv = [0.0f64; 256];
-    let size = n * n;
-    let answer = inverse(cov, n, &mut inv[..size]);
-    distance_under(answer, x, mu, &inv[..size], n)
+    large_solve(a, b, n, r, out)
 }

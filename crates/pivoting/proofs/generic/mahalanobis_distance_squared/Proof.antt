@@ -28,7 +28,7 @@ distance-requires c κs =
     let x = sided .before .before .before .before .before .args in
     let s = met (sided .before .is-side .ensures) (sided .if1 .left) in
     let l = three-long (x .x .now) (x .mu .now) (x .cov .now) (x .n) (x .n) (x .n * x .n) (met (c .before .is-distance .ensures) (c .if2 .left)) in
-    (side-low (x .n) s, side-high (x .n) s, l .0, l .1, l .2)
+    (record { some = side-low (x .n) s; first = l .0; second = l .1; square = l .2 }, side-high (x .n) s)
 
 returns-3 : tie.Need-returns-3
 unfolding mahalanobis

@@ -2,7 +2,7 @@
 use borrow.Author.Needs.{needs}
 use native.Mathlib.Omega.{arith}
 use Prim.Native.Nat.{_*_}
-use Rattle.dense.proofs.Tests.{met, unmet, area, three-long, side-high}
+use Rattle.dense.proofs.Tests.{met, unmet, area, three-long, side-low, side-high}
 use Rattle.pivoting.specs.Solve.{matSolve}
 use Rattle.pivoting.proofs.generic.mat_solve.Statement.{statement}
 use Rattle.pivoting.proofs.generic.mat_solve.Tie as tie
@@ -30,7 +30,8 @@ solve-requires c κs =
     let sided = c .before .before .before .before in
     let x = sided .before .before .before .before .before .args in
     let l = three-long (x .a .now) (x .b .now) (x .out .now) (x .n * x .n) (x .n) (x .n) (met (c .before .before .is-system .ensures) (c .before .if2 .left)) in
-    (side-high (x .n) (met (sided .before .is-side .ensures) (sided .if1 .left)), omega arith, l .0, omega arith, omega arith)
+    let s = met (sided .before .is-side .ensures) (sided .if1 .left) in
+    (side-high (x .n) s, side-low (x .n) s, l .0, omega arith, omega arith)
 
 returns-3 : tie.Need-returns-3
 unfolding matSolve

@@ -12,8 +12,8 @@ use Rattle.dense.specs.Matrix.{side, long}
 use Rattle.linalg.specs.Sums.{difference, quadraticForm, distanceWithInv}
 use Rattle.pivoting.specs.Solve.{following}
 use borrow.Author.Needs.{needs}
-use Rattle.pivoting.proofs.solve.distance_under.Statement.{statement}
-use Rattle.pivoting.proofs.solve.distance_under.Tie as tie
+use Rattle.pivoting.proofs.distance.distance_under.Statement.{statement}
+use Rattle.pivoting.proofs.distance.distance_under.Tie as tie
 
 answered-by : (x mu inv : List Float) (n : ℕ) → 1 ≤ n → n ≤ 16 → length x ≡ n → length mu ≡ n → length inv ≡ n * n
     → given (distanceWithInv x mu inv n) ≡ Value (quadraticForm (difference x mu n) inv n)

@@ -1,0 +1,32 @@
+-- `small_solve` meets its contract: the local arrays have room for the work.
+use Prim.Native.Nat.{_+_, _*_, _≤_}
+use native.Mathlib.Omega.{arith}
+use mathlib.Core.Path.{refl, sym}
+use lib.Seq.{length-take-le}
+use Rattle.pivoting.proofs.Rooms.{augmented-room}
+use Rattle.pivoting.proofs.solve.small_solve.Statement.{statement}
+use Rattle.pivoting.proofs.solve.small_solve.Tie as tie
+
+-- the rows, and the augmented matrix
+order : (c : tie.Start) → c .args .n ≤ 4
+order c = c .pre .0
+
+width : (c : tie.Start) → c .args .n + c .args .r ≤ 8
+width c = omega (arith, c .pre .0, c .pre .1)
+
+size : (c : tie.Start) → c .args .n * (c .args .n + c .args .r) ≤ 32
+size c = augmented-room 4 (c .args .n) (c .args .r) (c .pre .0) (c .pre .1)
+
+solve-in-requires : tie.Need-solve-in-requires
+solve-in-requires c κs =
+    let x = c .before .before .before .before .before .before .before in
+    (refl, x .pre .2, x .pre .3, length-take-le _ _ (size x), length-take-le _ _ (order x), length-take-le _ _ (width x), x .pre .4)
+
+pub small-solve-spec : {M : Type 1} → statement M
+small-solve-spec =
+    tie.close
+    (tie.spec (λ c. omega arith) (λ c. omega (arith, size (c .before .before .before))) (λ c. size (c .before .before .before))
+    (λ c. sym (length-take-le _ _ (size (c .before .before .before .before)))) (λ c. order (c .before .before .before .before))
+    (λ c. sym (length-take-le _ _ (order (c .before .before .before .before .before)))) (λ c. width (c .before .before .before .before .before))
+    (λ c. sym (length-take-le _ _ (width (c .before .before .before .before .before .before)))) solve-in-requires
+    (λ c. c .before .before .before .before .before .solve-in .kept .1 .1 .1 .1 .1 .1 .1 .1 .0) (λ c. c .before .before .before .before .before .solve-in .ensures))

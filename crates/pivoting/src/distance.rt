@@ -1,0 +1,72 @@
+// The squared distance over the inverse.
+ghost use mathlib.Core.Path.{_≡_};
+ghost use Prim.Native.Nat.{_*_, _≤_};
+ghost use lib.ListN.{length};
+ghost use Rattle.dense.specs.Answer.{given};
+ghost use Rattle.linalg.specs.Sums.{difference, quadraticForm};
+ghost use Rattle.pivoting.specs.Solve.{following, distance, Under};
+use crate::invert::inverse_in;
+use dense::Number;
+use dense::Written;
+use linalg::generic::mahalanobis_distance_squared_with_inv;
+
+// The quadratic form of x - mu under inv, n by n, where the call that wrote inv has answered.
+fn distance_under(answer: Written, x: &[f64], mu: &[f64], inv: &[f64], n: usize) -> Number
+    requires { ⌜ (1 ≤ n) × (n ≤ 16) × (length (now x) ≡ n) × (length (now mu) ≡ n) × (length (now inv) ≡ n * n) ⌝ }
+    ensures { λ q. ⌜ q ≡ following answer (quadraticForm (difference (now (x .entry)) (now (mu .entry)) n) (now (inv .entry)) n) ⌝ }
+{
+    match answer {
+        Written::Refused(q) => Number::Refused(q),
+        Written::Done => mahalanobis_distance_squared_with_inv(x, mu, inv, n),
+    }
+}
+
+// Questions 5 and 6, and then the quadratic form of x - mu under the inverse of cov, n by n. The slices e and inv are room for
+// the identity and the inverse.
+fn distance_in(
+    x: &[f64],
+    mu: &[f64],
+    cov: &[f64],
+    n: usize,
+    e: &mut [f64],
+    inv: &mut [f64],
+) -> Number
+    requires { ⌜ Under (now x) (now mu) (now cov) n × (n ≤ 16) × (length (now e) ≡ n * n) × (length (now inv) ≡ n * n) ⌝ }
+    ensures { λ q. ⌜ q ≡ given (distance (now (x .entry)) (now (mu .entry)) (now (cov .entry)) n) ⌝ }
+{
+    let answer = inverse_in(cov, n, e, inv);
+    distance_under(answer, x, mu, inv, n)
+}
+
+// The same with room for orders to 4.
+fn small_distance(x: &[f64], mu: &[f64], cov: &[f64], n: usize) -> Number
+    requires { ⌜ Under (now x) (now mu) (now cov) n × (n ≤ 4) ⌝ }
+    ensures { λ q. ⌜ q ≡ given (distance (now (x .entry)) (now (mu .entry)) (now (cov .entry)) n) ⌝ }
+{
+    let mut e = [0.0f64; 16];
+    let mut inv = [0.0f64; 16];
+    let size = n * n;
+    distance_in(x, mu, cov, n, &mut e[..size], &mut inv[..size])
+}
+
+// The same with room for orders to 16.
+fn large_distance(x: &[f64], mu: &[f64], cov: &[f64], n: usize) -> Number
+    requires { ⌜ Under (now x) (now mu) (now cov) n × (n ≤ 16) ⌝ }
+    ensures { λ q. ⌜ q ≡ given (distance (now (x .entry)) (now (mu .entry)) (now (cov .entry)) n) ⌝ }
+{
+    let mut e = [0.0f64; 256];
+    let mut inv = [0.0f64; 256];
+    let size = n * n;
+    distance_in(x, mu, cov, n, &mut e[..size], &mut inv[..size])
+}
+
+// The same with the room that the order needs.
+pub(crate) fn distance(x: &[f64], mu: &[f64], cov: &[f64], n: usize) -> Number
+    requires { ⌜ Under (now x) (now mu) (now cov) n × (n ≤ 16) ⌝ }
+    ensures { λ q. ⌜ q ≡ given (distance (now (x .entry)) (now (mu .entry)) (now (cov .entry)) n) ⌝ }
+{
+    if n <= 4 {
+        return small_distance(x, mu, cov, n);
+    }
+    large_distance(x, mu, cov, n)
+}
