@@ -1,0 +1,54 @@
+-- `whole_covariance` meets its contract: each question is put by its own function, and `mirror` has the answer.
+use Prim.Native.Nat.{_*_, _≤_}
+use mathlib.Core.Bool.{true, _&&_}
+use mathlib.Core.Path.{_≡_}
+use borrow.Author.Needs.{needs}
+use borrow.Author.Tests.{leb-true}
+use lib.Dec.{leb}
+use lib.ListN.{length}
+use Rattle.dense.specs.Matrix.{side, long}
+use Rattle.dense.proofs.Answers.{done}
+use Rattle.dense.proofs.Tests.{met, unmet, and-left, and-right, long-length, side-high}
+use Rattle.compare.specs.Fields.{fieldCount, wholeCovariance}
+use Rattle.compare.proofs.fields.whole_covariance.Statement.{statement}
+use Rattle.compare.proofs.fields.whole_covariance.Tie as tie
+
+-- questions 1 and 2 are met
+sided : (c : tie.Else1) → side (c .before .before .before .before .args .d) ≡ true
+sided c = met (c .before .is-side .ensures) (c .if1 .left)
+
+abbrev start-of : tie.Else2 → tie.Start
+start-of c = c .before .before .before .before .before .before .before
+
+shaped : (c : tie.Else2) → let x = start-of c .args in (leb (fieldCount (x .d)) (length (x .v .now)) && long (x .out .now) (x .d * x .d)) ≡ true
+shaped c = met (c .before .is-track .ensures) (c .if2 .left)
+
+returns : tie.Need-returns
+unfolding wholeCovariance
+returns c = rw (unmet (c .before .is-side .ensures) (c .if1 .taken))
+
+returns-2 : tie.Need-returns-2
+unfolding wholeCovariance
+returns-2 c = rw (sided (c .before .before .before), unmet (c .before .is-track .ensures) (c .if2 .taken))
+
+mirror-requires : tie.Need-mirror-requires
+mirror-requires c κs =
+    let two = c .before in
+    let x = start-of two .args in (
+      side-high (x .d) (sided (two .before .before .before)),
+      leb-true (fieldCount (x .d)) (length (x .v .now)) (and-left _ (long (x .out .now) (x .d * x .d)) (shaped two)),
+      long-length (x .out .now) (x .d * x .d) (and-right (leb (fieldCount (x .d)) (length (x .v .now))) _ (shaped two)),
+    )
+
+returns-3 : tie.Need-returns-3
+unfolding wholeCovariance
+returns-3 c =
+    let mirrored = c .before .before in
+    let two = mirrored .before .before in
+    rw (sided (two .before .before .before), shaped two) (done (mirrored .mirror .ensures))
+
+pub whole-covariance-spec : {M : Type 1} → statement M
+whole-covariance-spec =
+    tie.close
+    (tie.spec (λ c κs. search needs) returns (λ c κs. side-high _ (sided (c .before))) (λ c. search needs) returns-2 mirror-requires
+    (λ c. c .before .before .mirror .kept .1 .1 .0) returns-3)

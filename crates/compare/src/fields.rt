@@ -1,0 +1,82 @@
+// A track's covariance from its fields.
+ghost use mathlib.Core.Path.{_≡_};
+ghost use mathlib.Core.Bool.{_&&_};
+ghost use Prim.Native.Nat.{_*_, _<_, _≤_};
+ghost use lib.Dec.{leb};
+ghost use lib.ListN.{length};
+ghost use Rattle.kernel.specs.Lists.{tabulate};
+ghost use Rattle.dense.specs.Answer.{Leaves};
+ghost use Rattle.dense.specs.Matrix.{long};
+ghost use Rattle.compare.specs.Fields.{fieldCount, lowerField, covarianceEntry, trackCovariance, wholeCovariance};
+use dense::Written;
+use dense::shape::is_matrix;
+use dense::shape::is_side;
+use kernel::question::LENGTH;
+use kernel::question::SIDE;
+
+// The place of column j of row i of the lower triangle.
+fn lower_field(d: usize, i: usize, j: usize) -> usize
+    requires { ⌜ (i < d) × (j ≤ i) × (d ≤ 16) ⌝ }
+    ensures { λ r. ⌜ r ≡ lowerField d i j ⌝ }
+{
+    d + i * (i + 1) / 2 + j
+}
+
+// Entry (i, j) of the covariance of the track of dimension d whose fields are v.
+fn covariance_entry(v: &[f64], d: usize, i: usize, j: usize) -> f64
+    requires { ⌜ (i < d) × (j < d) × (d ≤ 16) × (fieldCount d ≤ length (now v)) ⌝ }
+    ensures { λ r. ⌜ r ≡ covarianceEntry d (now (v .entry)) i j ⌝ }
+{
+    if j <= i {
+        let at = lower_field(d, i, j);
+        return v[at];
+    }
+    let at = lower_field(d, j, i);
+    v[at]
+}
+
+// Writes row i of that covariance.
+fn covariance_row(v: &[f64], d: usize, i: usize, y: &mut [f64])
+    requires { ⌜ (i < d) × (d ≤ 16) × (fieldCount d ≤ length (now v)) × (length (now y) ≡ d) ⌝ }
+    ensures { λ _. ⌜ now (y .exit) ≡ tabulate d (covarianceEntry d (now (v .entry)) i) ⌝ }
+{
+    for j in 0..d {
+        y[j] = covariance_entry(v, d, i, j);
+    }
+}
+
+// Writes that covariance.
+fn mirror(v: &[f64], d: usize, out: &mut [f64])
+    requires { ⌜ (d ≤ 16) × (fieldCount d ≤ length (now v)) × (length (now out) ≡ d * d) ⌝ }
+    ensures { λ _. ⌜ now (out .exit) ≡ trackCovariance d (now (v .entry)) ⌝ }
+{
+    for i in 0..d {
+        let start = i * d;
+        covariance_row(v, d, i, &mut out[start..start + d]);
+    }
+}
+
+// Whether v holds the fields of a track of dimension d, and out is a d by d matrix.
+fn is_track(v: &[f64], d: usize, out: &[f64]) -> bool
+    requires { ⌜ d ≤ 16 ⌝ }
+    ensures { λ r. ⌜ r ≡ (leb (fieldCount d) (length (now (v .entry))) && long (now (out .entry)) (d * d)) ⌝ }
+{
+    if v.len() < d + d * (d + 1) / 2 {
+        return false;
+    }
+    is_matrix(out, d, d)
+}
+
+// The covariance of the track of dimension d whose fields stand first in v, as a whole matrix, into out.
+pub fn whole_covariance(v: &[f64], d: usize, out: &mut [f64]) -> Written
+    ensures { λ r. ⌜ Leaves (wholeCovariance (now (v .entry)) d (now (out .entry))) (now (out .entry)) r (now (out .exit)) ⌝ }
+{
+    if !is_side(d) {
+        return Written::Refused(SIDE);
+    }
+    if !is_track(v, d, out) {
+        return Written::Refused(LENGTH);
+    }
+    mirror(v, d, out);
+    Written::Done
+}
