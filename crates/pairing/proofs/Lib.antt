@@ -14,3 +14,4 @@ pub mod Tables
 pub mod Struck
 pub mod Restricted
 pub mod Rekeyed
+pub mod Agreeing
