@@ -1,0 +1,177 @@
+-- Demand 3 of three accepted lists: `demand`. On the way, `given` brings together what the laws on rows ask for, `rows-met` says how many rows there are, and `shown-base-ours`,
+-- `shown-base-theirs` and `shown-ours-theirs` say that the rows show the three pairings.
+use Prim.Native.Nat.{ℕ, _+_, _*_, _≤_}
+use native.Mathlib.Omega.{arith}
+use mathlib.Core.Path.{_≡_, refl, sym, ap, subst, subst₂, _∙_}
+use mathlib.Core.Bool.{true, _&&_}
+use mathlib.Core.List.{List, flatMap}
+use lib.Dec.{eqb}
+use lib.Ieee.{Float}
+use lib.ListN.{length}
+use borrow.Author.Tests.{leb-true}
+use Rattle.kernel.specs.Answer.{answered}
+use Rattle.kernel.specs.Lists.{over}
+use Rattle.kernel.proofs.Lists.{length-over}
+use Rattle.tracks.specs.Read.{TrackList, contents, count}
+use Rattle.tracks.proofs.Accepted.{contents-met}
+use Rattle.pairing.specs.Pairing.{pair, Pairs, Candidates, Ordered, paired, freeSecond}
+use Rattle.pairing.specs.Search.{isFree}
+use Rattle.pairing.proofs.Tests.{left, right}
+use Rattle.pairing.proofs.Stable.{paired-stable}
+use Rattle.merge.specs.Tracks.{trackCount}
+use Rattle.merge.specs.Candidates.{candidatesOf, among}
+use Rattle.merge.specs.Rows.{Row, rowBytes, rowsWith, verdictOn, Pairings, rowsOf}
+use Rattle.merge.specs.Merge.{partnersIn, pairingsOf, mergedRows, roomFor}
+use Rattle.merge.specs.Demand3.{Demand3, OnlyUnblocked, tracksIn, howMany, baseWithOurs, baseWithTheirs, oursWithTheirs}
+use Rattle.merge.proofs.Candidates.{candidates-ordered, among-ordered}
+use Rattle.merge.proofs.Partners.{tabled, free-alike, among-alike}
+use Rattle.merge.proofs.Bytes.{rows-length, rest-byte}
+use Rattle.merge.proofs.Places.{rows-count, rowCount, laid}
+use Rattle.merge.proofs.Standing.{Given, each-base, each-ours, each-theirs, base-index, ours-index, theirs-index, verdict-is}
+use Rattle.merge.proofs.Order.{in-order}
+use Rattle.merge.proofs.Shown.{shows-base-ours, shows-base-theirs, shows-ours-theirs}
+use Rattle.merge.proofs.Totals.{rows-with, counted, all-rows, all-tracks, rows-few}
+use Rattle.merge.proofs.Meaning.{near-pairs, nearest-first, equal-fields, only-unblocked}
+
+module _ (b o t : TrackList) (floor gate : Float) where
+  abbrev m : ℕ
+  m = trackCount b
+
+  abbrev n : ℕ
+  n = trackCount o
+
+  abbrev l : ℕ
+  l = trackCount t
+
+  abbrev base-ours : Candidates
+  base-ours = candidatesOf b o floor gate
+
+  abbrev base-theirs : Candidates
+  base-theirs = candidatesOf b t floor gate
+
+  abbrev ours-theirs : Candidates
+  ours-theirs = among (candidatesOf o t floor gate) (isFree (partnersIn base-ours .seconds)) (isFree (partnersIn base-theirs .seconds))
+
+  third-ordered : Ordered ours-theirs
+  third-ordered = among-ordered o t floor gate (isFree (partnersIn base-ours .seconds)) (isFree (partnersIn base-theirs .seconds))
+
+  abbrev pairings : Pairings
+  pairings = record { baseOurs = partnersIn base-ours; baseTheirs = partnersIn base-theirs; oursTheirs = partnersIn ours-theirs }
+
+  abbrev v : ℕ → ℕ → ℕ → ℕ
+  v = verdictOn b o t
+
+  abbrev pub rows : List Row
+  rows = rowsOf v pairings m n l
+
+  pub rows-are : mergedRows b o t floor gate ≡ rows
+  unfolding mergedRows pairingsOf
+  rows-are = refl
+
+  module _ (few-base : m ≤ 32) (few-ours : n ≤ 32) (few-theirs : l ≤ 32) (old : List ℕ) where
+    abbrev pub new : List ℕ
+    new = over old 0 (flatMap rowBytes rows)
+
+    given : Given v pairings m n l new
+    given = record {
+      few-base = few-base;
+      few-ours = few-ours;
+      few-theirs = few-theirs;
+      baseOurs = paired base-ours;
+      baseTheirs = paired base-theirs;
+      oursTheirs = paired ours-theirs;
+      of-baseOurs = tabled base-ours (candidates-ordered b o floor gate) few-base;
+      of-baseTheirs = tabled base-theirs (candidates-ordered b t floor gate) few-base;
+      of-oursTheirs = tabled ours-theirs third-ordered few-ours;
+      free-of-base = λ j k u.
+          let x = isFree (partnersIn base-ours .seconds) j in
+          let y = isFree (partnersIn base-theirs .seconds) k in
+          let c = right (candidatesOf o t floor gate .candidate j k) (x && y) (paired-stable ours-theirs third-ordered .pairing .candidates (pair j k) u) in
+          (left x y c, right x y c);
+      laid = laid v pairings m n l old;
+    }
+
+    -- ---- how many rows
+
+    abbrev all : ℕ
+    all = rowCount pairings m n l
+
+    rows-met : (k : ℕ) → rowsWith k rows ≡ counted v pairings m n l new given k
+    rows-met k = rows-with k old rows ∙ ap (λ (x : ℕ). howMany x (λ r. eqb (tracksIn new r) k)) (rows-count v pairings m n l)
+
+    written : length (flatMap rowBytes rows) ≡ 4 * all
+    written = rows-length rows ∙ ap (λ (x : ℕ). 4 * x) (rows-count v pairings m n l)
+
+    -- ---- the pairs that they show
+
+    shown-base-ours : baseWithOurs new all ≡ paired base-ours
+    unfolding given
+    shown-base-ours = shows-base-ours v pairings m n l new given
+
+    shown-base-theirs : baseWithTheirs new all ≡ paired base-theirs
+    unfolding given
+    shown-base-theirs = shows-base-theirs v pairings m n l new given
+
+    shown-ours-theirs : oursWithTheirs new all ≡ paired ours-theirs
+    unfolding given
+    shown-ours-theirs = shows-ours-theirs v pairings m n l new given
+
+    free-of-base : among (candidatesOf o t floor gate) (freeSecond base-ours (baseWithOurs new all)) (freeSecond base-theirs (baseWithTheirs new all)) ≡ ours-theirs
+    free-of-base =
+        among-alike (candidatesOf o t floor gate) (candidates-ordered o t floor gate) _ _ _ _
+        (λ j h. ap (λ (s : Pairs). freeSecond base-ours s j) shown-base-ours ∙ sym (free-alike base-ours (candidates-ordered b o floor gate) few-base j h))
+        (λ k h. ap (λ (s : Pairs). freeSecond base-theirs s k) shown-base-theirs ∙ sym (free-alike base-theirs (candidates-ordered b t floor gate) few-base k h))
+
+    -- ---- the record
+
+    pub demand : (base ours theirs : List ℕ) → contents base ≡ answered b → contents ours ≡ answered o → contents theirs ≡ answered t → roomFor b o t (length old) ≡ true
+        → Demand3 base ours theirs floor gate old new (rowsWith 3 rows) (rowsWith 2 rows) (rowsWith 1 rows)
+    demand base ours theirs read-b read-o read-t room = record {
+      b = b;
+      o = o;
+      t = t;
+      base-read = read-b;
+      ours-read = read-o;
+      theirs-read = read-t;
+      rows = all;
+      base-number = numbered-b;
+      ours-number = numbered-o;
+      theirs-number = numbered-t;
+      each-base = λ i h. each-base v pairings m n l new given i (omega (arith, numbered-b));
+      each-ours = λ j h. each-ours v pairings m n l new given j (omega (arith, numbered-o));
+      each-theirs = λ k h. each-theirs v pairings m n l new given k (omega (arith, numbered-t));
+      base-indices = λ r h. rw (sym numbered-b) (base-index v pairings m n l new given r h);
+      ours-indices = λ r h. rw (sym numbered-o) (ours-index v pairings m n l new given r h);
+      theirs-indices = λ r h. rw (sym numbered-t) (theirs-index v pairings m n l new given r h);
+      rows-order = in-order v pairings m n l new given;
+      verdicts = verdict-is v pairings m n l new given;
+      equal = equal-fields;
+      full-rows = rows-met 3;
+      half-rows = rows-met 2;
+      single-rows = rows-met 1;
+      all-tracks = omega (arith, numbered-b, numbered-o, numbered-t, all-tracks v pairings m n l new given, rows-met 3, rows-met 2, rows-met 1);
+      rows-number = omega (arith, rows-met 3, rows-met 2, rows-met 1, all-rows v pairings m n l new given);
+      rows-fit = omega (arith, kept, fits);
+      same-length = kept;
+      rest-stays = λ x h. rest-byte old (flatMap rowBytes rows) x (omega (arith, written, h));
+      near = λ c d. near-pairs c d floor gate;
+      nearest-first = λ c d. nearest-first c d floor gate;
+      base-ours = subst (OnlyUnblocked base-ours) (sym shown-base-ours) (only-unblocked base-ours (candidates-ordered b o floor gate));
+      base-theirs = subst (OnlyUnblocked base-theirs) (sym shown-base-theirs) (only-unblocked base-theirs (candidates-ordered b t floor gate));
+      ours-theirs = subst₂ OnlyUnblocked (sym free-of-base) (sym shown-ours-theirs) (only-unblocked ours-theirs third-ordered);
+    }
+      where
+        numbered-b : m ≡ count base
+        numbered-b = contents-met base read-b .count
+
+        numbered-o : n ≡ count ours
+        numbered-o = contents-met ours read-o .count
+
+        numbered-t : l ≡ count theirs
+        numbered-t = contents-met theirs read-t .count
+
+        fits : 4 * all ≤ length old
+        fits = omega (arith, rows-few v pairings m n l new given, leb-true (4 * (m + n + l)) (length old) room)
+
+        kept : length new ≡ length old
+        kept = length-over old 0 (flatMap rowBytes rows) (omega (arith, written, fits))

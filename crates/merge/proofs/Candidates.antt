@@ -1,0 +1,170 @@
+-- The candidates of two lists and their keys. `near-number`: a pair has a key exactly if it is near. `keys-agree`: the candidates are those of the keys, in the same order, so
+-- they are ordered (`candidates-ordered`, `among-ordered`) and the partners by key are theirs (`keyed-partners`, `all-keyed-partners`); so for the three pairings (`pairings-keyed`).
+use Prim.Native.Nat.{ℕ, _<_}
+use mathlib.Core.Path.{_≡_, refl, sym, ap, subst, _∙_}
+use mathlib.Core.Bool.{Bool, true, false, not, _&&_, cond}
+use mathlib.Core.List.{List}
+use lib.Dec.{T, ltb, ltb→lt}
+use lib.Ieee.{Float, nan, inf, fin, isNan, lt, le}
+use borrow.Author.Tests.{ltb-true}
+use Rattle.kernel.specs.Answer.{Outcome, refused, answered}
+use Rattle.kernel.specs.Constants.{nought}
+use Rattle.dense.proofs.Laws.{at-matrix, matrix-ext}
+use Rattle.tracks.specs.Read.{TrackList}
+use Rattle.compare.specs.Distance.{placed, placedIf, squaredDistance, compared}
+use Rattle.compare.specs.declared.Comparison.the-variants.{Near, Far, NoDistance}
+use Rattle.pairing.specs.Pairing.{Pair, has, In, Candidates, Ordered}
+use Rattle.pairing.specs.Keys.{keyOf, byKey, fromKeys, firstPartners, secondPartners}
+use Rattle.pairing.specs.Search.{isFree}
+use Rattle.pairing.proofs.Tests.{left, right, is-true}
+use Rattle.pairing.proofs.Keys.{ordered}
+use Rattle.pairing.proofs.Agreeing.{Agreeing, agreeing-ordered, agreeing-firsts, agreeing-seconds}
+use Rattle.merge.specs.Tracks.{trackCount}
+use Rattle.merge.specs.Candidates.{comparison, isNear, nearSquare, byDistance, candidatesOf, among, everyone, keysAmong}
+use Rattle.merge.specs.Rows.{Partners}
+use Rattle.merge.specs.Merge.{partnersIn, pairingsOf}
+
+-- the partners by key, as `pair_tracks` writes them
+abbrev pub byKeys : TrackList → TrackList → Float → Float → (ℕ → Bool) → (ℕ → Bool) → Partners
+byKeys a b floor gate first second =
+    let g = fromKeys (keysAmong a b floor gate first second) (trackCount a) (trackCount b) in
+    record { firsts = firstPartners g; seconds = secondPartners g }
+
+-- ---- near means a number
+
+placed-number : (o : Outcome Float) (gate : Float) → isNan (nearSquare (placedIf o gate)) ≡ not (isNear (placedIf o gate))
+unfolding isNan placed
+placed-number (refused q) gate = refl
+placed-number (answered nan) gate = refl
+placed-number (answered (inf s)) gate = refl
+placed-number (answered (fin s m e)) gate = go (not (lt (fin s m e) nought)) (le (fin s m e) gate)
+  where
+    go : (b c : Bool) → isNan (nearSquare (cond b (cond c (Near (fin s m e)) (Far (fin s m e))) NoDistance)) ≡ not (isNear (cond b (cond c (Near (fin s m e)) (Far (fin s m e))) NoDistance))
+    go true true = refl
+    go true false = refl
+    go false c = refl
+
+kept-number : (near kept : Bool) (key : Float) → isNan key ≡ not near → near && kept ≡ not (isNan (cond kept key nan))
+unfolding isNan
+kept-number true true key h = rw h refl
+kept-number true false key h = refl
+kept-number false true key h = rw h refl
+kept-number false false key h = refl
+
+compared-number : (mu x p-i p-j : List Float) (n : ℕ) (floor gate : Float) → isNan (nearSquare (compared mu x p-i p-j n floor gate)) ≡ not (isNear (compared mu x p-i p-j n floor gate))
+unfolding compared
+compared-number mu x p-i p-j n floor gate = placed-number (squaredDistance mu x p-i p-j n floor) gate
+
+module _ (a b : TrackList) (floor gate : Float) where
+  pub near-number : (i j : ℕ) → isNan (nearSquare (comparison a b floor gate i j)) ≡ not (isNear (comparison a b floor gate i j))
+  unfolding comparison
+  near-number i j = compared-number _ _ _ _ _ floor gate
+
+  -- ---- the candidates are those of the keys
+
+  module _ (first second : ℕ → Bool) where
+    abbrev kept : Candidates
+    kept = among (candidatesOf a b floor gate) first second
+
+    abbrev keys : List Float
+    keys = keysAmong a b floor gate first second
+
+    abbrev keyed : Candidates
+    keyed = fromKeys keys (trackCount a) (trackCount b)
+
+    key-is : (p : Pair) → p .first < trackCount a → p .second < trackCount b
+        → keyOf keys (trackCount b) p ≡ cond (first (p .first) && second (p .second)) (nearSquare (comparison a b floor gate (p .first) (p .second))) nan
+    unfolding keysAmong keyOf
+    key-is p h k = at-matrix (trackCount a) (trackCount b) _ (p .first) (p .second) h k
+
+    same-candidate : (p : Pair) → has (kept .candidate) p ≡ has (keyed .candidate) p
+    same-candidate p = go (ltb (p .first) (trackCount a)) (ltb (p .second) (trackCount b)) refl refl
+      where
+        near : Bool
+        near = isNear (comparison a b floor gate (p .first) (p .second))
+
+        go : (x y : Bool) → ltb (p .first) (trackCount a) ≡ x → ltb (p .second) (trackCount b) ≡ y
+            → (x && y && near) && (first (p .first) && second (p .second)) ≡ x && y && not (isNan (keyOf keys (trackCount b) p))
+        go true true e f = rw (key-is p (ltb-true _ _ e) (ltb-true _ _ f)) (kept-number near (first (p .first) && second (p .second)) _ (near-number (p .first) (p .second)))
+        go true false e f = refl
+        go false y e f = refl
+
+    -- keys of which tracks are kept alike
+    pub keys-alike : (first' second' : ℕ → Bool) → ((i : ℕ) → i < trackCount a → first i ≡ first' i) → ((j : ℕ) → j < trackCount b → second j ≡ second' j)
+        → keys ≡ keysAmong a b floor gate first' second'
+    unfolding keysAmong
+    keys-alike first' second' f g = matrix-ext (trackCount a) (trackCount b) _ _ (λ i j h k. rw (f i h, g j k) refl)
+
+    -- the key of a candidate
+    key-of : (p : Pair) → In (kept .candidate) p → keyOf keys (trackCount b) p ≡ nearSquare (comparison a b floor gate (p .first) (p .second))
+    key-of p t =
+        let x = ltb (p .first) (trackCount a) in
+        let y = ltb (p .second) (trackCount b) in
+        let near = isNear (comparison a b floor gate (p .first) (p .second)) in
+        let k = first (p .first) && second (p .second) in
+        let c : T (x && y) = left (x && y) near (left (x && y && near) k t) in
+        let e : k ≡ true = is-true k (right (x && y && near) k t) in
+        rw (key-is p (ltb→lt _ _ (left x y c)) (ltb→lt _ _ (right x y c)), e) refl
+
+    pub keys-agree : Agreeing kept keyed
+    unfolding byDistance byKey
+    keys-agree = record {
+      firsts = refl;
+      seconds = refl;
+      candidate = same-candidate;
+      earlier = λ p q s t. rw (key-of p s, key-of q t) refl;
+    }
+
+    pub among-ordered : Ordered kept
+    among-ordered = agreeing-ordered kept keyed keys-agree (ordered keys (trackCount a) (trackCount b))
+
+    pub keyed-partners : partnersIn kept ≡ byKeys a b floor gate first second
+    unfolding partnersIn
+    keyed-partners = λ x. record {
+      firsts = agreeing-firsts kept keyed keys-agree (ordered keys (trackCount a) (trackCount b)) x;
+      seconds = agreeing-seconds kept keyed keys-agree (ordered keys (trackCount a) (trackCount b)) x;
+    }
+
+  -- ---- all tracks are kept
+
+  abbrev all : Candidates
+  all = among (candidatesOf a b floor gate) everyone everyone
+
+  all-kept : candidatesOf a b floor gate ≡ all
+  all-kept = λ x. record {
+    firsts = trackCount a;
+    seconds = trackCount b;
+    candidate = λ i j. and-true (candidatesOf a b floor gate .candidate i j) x;
+    earlier = byDistance (comparison a b floor gate);
+  }
+    where
+      and-true : (t : Bool) → t ≡ t && true
+      and-true true = refl
+      and-true false = refl
+
+  pub candidates-ordered : Ordered (candidatesOf a b floor gate)
+  candidates-ordered = subst Ordered (sym all-kept) (among-ordered everyone everyone)
+
+  pub all-keyed-partners : partnersIn (candidatesOf a b floor gate) ≡ byKeys a b floor gate everyone everyone
+  all-keyed-partners = ap partnersIn all-kept ∙ keyed-partners everyone everyone
+
+-- ---- the three pairings
+
+pub pairings-keyed : (b o t : TrackList) (floor gate : Float)
+    → pairingsOf b o t floor gate ≡ record {
+      baseOurs = byKeys b o floor gate everyone everyone;
+      baseTheirs = byKeys b t floor gate everyone everyone;
+      oursTheirs = byKeys o t floor gate (isFree (byKeys b o floor gate everyone everyone .seconds)) (isFree (byKeys b t floor gate everyone everyone .seconds));
+    }
+unfolding pairingsOf
+pairings-keyed b o t floor gate = λ x. record {
+  baseOurs = all-keyed-partners b o floor gate x;
+  baseTheirs = all-keyed-partners b t floor gate x;
+  oursTheirs = third x;
+}
+  where
+    third : partnersIn (among (candidatesOf o t floor gate) (isFree (partnersIn (candidatesOf b o floor gate) .seconds)) (isFree (partnersIn (candidatesOf b t floor gate) .seconds)))
+        ≡ byKeys o t floor gate (isFree (byKeys b o floor gate everyone everyone .seconds)) (isFree (byKeys b t floor gate everyone everyone .seconds))
+    third =
+        keyed-partners o t floor gate (isFree (partnersIn (candidatesOf b o floor gate) .seconds)) (isFree (partnersIn (candidatesOf b t floor gate) .seconds))
+        ∙ (λ x. byKeys o t floor gate (isFree (all-keyed-partners b o floor gate x .seconds)) (isFree (all-keyed-partners b t floor gate x .seconds)))

@@ -1,0 +1,77 @@
+-- `key_row` meets its contract: the track's covariance stands in the first d * d entries of a local array.
+use Prim.Native.Nat.{_*_, _≤_}
+use native.Mathlib.Omega.{arith}
+use mathlib.Core.List.{List, _++_}
+use mathlib.Core.Path.{_≡_, sym, ap, _∙_}
+use borrow.Author.Needs.{needs}
+use lib.Dec.{eqb}
+use lib.Ieee.{Float}
+use lib.ListN.{length, take}
+use lib.Seq.{length-take-le, length-front}
+use Rattle.dense.proofs.Laws.{front}
+use Rattle.compare.specs.Fields.{trackState, trackCovariance}
+use Rattle.pairing.specs.Keys.{nobody}
+use Rattle.merge.specs.Steps.{keysFrom}
+use Rattle.merge.proofs.Comparing.{covariance-entries, length-covariance, length-state, covariance-left}
+use Rattle.merge.proofs.keys.key_row.Statement.{statement}
+use Rattle.merge.proofs.keys.key_row.Tie as tie
+
+-- the places on the way
+abbrev entered : tie.After-slice-known → tie.Start
+entered c = c .before .before .before .before
+
+abbrev written : tie.After-put-keys-arg → tie.After-whole-covariance
+written c = c .before .before
+
+abbrev start-of : tie.After-whole-covariance → tie.Start
+start-of c = entered (c .before .before)
+
+-- the square of the dimension
+size : (c : tie.Start) → c .args .d * c .args .d ≤ 81
+size c = covariance-entries (c .pre .0 .0)
+
+state : (c : tie.Start) → length (trackState (c .args .d) (c .args .u .now)) ≡ c .args .d
+state c = length-state (c .args .d) (c .args .u .now) (c .pre .0 .2 ∙ c .pre .0 .1)
+
+array-share-prefix-p : tie.Need-array-share-prefix-p
+array-share-prefix-p c =
+    let d = start-of (written c) .args .d in
+    let whole = written c .whole-covariance in
+    omega (arith, size (start-of (written c)), length-front _ (whole .last .1 .1 .0) (d * d) (whole .kept .1 .1 .0))
+
+left : (c : tie.After-whole-covariance) → c .whole-covariance .last .1 .1 .0 ≡ trackCovariance (start-of c .args .d) (start-of c .args .u .now)
+left c =
+    let start = start-of c in
+    let h = start .pre .0 in
+    covariance-left (start .args .u .now) _ (h .0) (h .2 ∙ h .1) (length-take-le _ _ (size start)) (c .whole-covariance .ensures)
+
+-- the covariance, which the call left in front of the array
+in-front : (c : tie.After-whole-covariance) (rest : List Float)
+    → let x = start-of c .args in
+    take (x .d * x .d) (c .whole-covariance .last .1 .1 .0 ++ rest) ≡ trackCovariance (x .d) (x .u .now)
+in-front c rest = let x = start-of c .args in front rest (length-covariance (x .d) (x .u .now)) (left c)
+
+length-in-front : (c : tie.After-whole-covariance) (rest : List Float) → let d = start-of c .args .d in length (take (d * d) (c .whole-covariance .last .1 .1 .0 ++ rest)) ≡ d * d
+length-in-front c rest = let x = start-of c .args in ap length (in-front c rest) ∙ length-covariance (x .d) (x .u .now)
+
+put-keys-requires : tie.Need-put-keys-requires
+put-keys-requires c κs =
+    let w = written (c .before .before .before) in
+    let start = start-of w in
+    let h = start .pre .0 in
+    ((h .0, h .1, state start, length-in-front w _, length-take-le _ _ (size start)), start .pre .1)
+
+returns : tie.Need-returns
+returns c =
+    let made = c .before .before .before in
+    let w = written (made .before .before .before .before) in
+    let x = start-of w .args in
+    made .put-keys .ensures
+    ∙ ap (λ (p : List Float). keysFrom (eqb (x .first) nobody) (x .d) (x .f) (x .floor) (x .gate) (trackState (x .d) (x .u .now)) p (x .vs .now) (x .partners .now) (x .n)) (in-front w _)
+
+pub key-row-spec : {M : Type 1} → statement M
+key-row-spec =
+    tie.close
+    (tie.spec (λ c. omega (arith, size (entered c))) (λ c. size (entered c)) (λ c. sym (length-take-le _ _ (size (entered (c .before))))) (λ c κs. search needs)
+    (λ c. sym (state (start-of (written c)))) array-share-prefix-p (λ c. sym (length-in-front (written (c .before)) _)) (λ c. size (start-of (written (c .before))))
+    (λ c. sym (length-take-le _ _ (size (start-of (written (c .before .before)))))) put-keys-requires (λ c. search needs) returns)

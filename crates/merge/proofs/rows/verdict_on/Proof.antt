@@ -1,0 +1,46 @@
+-- `verdict_on` meets its contract: the verdict looks only at records that are there.
+use mathlib.Core.Path.{sym, ap, _∙_}
+use mathlib.Core.Bool.{Bool, _&&_}
+use borrow.Author.Needs.{needs}
+use denote.Ref.{now}
+use Rattle.merge.specs.Tracks.{equalTracks}
+use Rattle.merge.specs.Rows.{isTrack, verdict, verdictOn}
+use Rattle.merge.specs.Steps.{held}
+use Rattle.merge.proofs.Groups.{verdict-there}
+use Rattle.merge.proofs.rows.verdict_on.Statement.{statement}
+use Rattle.merge.proofs.rows.verdict_on.Tie as tie
+
+abbrev start-of : tie.After-shared-slice-known6 → tie.Start
+start-of c = c .before .before .before .before .before .before
+
+same-requires : tie.Need-same-tracks-requires
+same-requires c κs = let p = start-of c .pre in (p .0 .of-ours, p .1 .1, p .0 .of-base, p .1 .0, p .0 .ours-dimension)
+
+same-requires-2 : tie.Need-same-tracks-requires-2
+same-requires-2 c κs = let p = start-of (c .before) .pre in (p .0 .of-theirs, p .1 .2, p .0 .of-base, p .1 .0, p .0 .theirs-dimension)
+
+same-requires-3 : tie.Need-same-tracks-requires-3
+same-requires-3 c κs = let p = start-of (c .before .before) .pre in (p .0 .of-ours, p .1 .1, p .0 .of-theirs, p .1 .2, p .0 .ours-dimension ∙ sym (p .0 .theirs-dimension))
+
+returns : tie.Need-returns
+unfolding verdictOn
+returns c =
+    let x = start-of (c .before .before .before .before) .args in
+    let b = held (now (x .base)) in
+    let o = held (now (x .ours)) in
+    let t = held (now (x .theirs)) in
+    let on = verdict (isTrack (x .i)) (isTrack (x .j)) (isTrack (x .k)) in
+    let first = c .before .before .before .same-tracks in
+    let second = c .before .before .same-tracks2 in
+    let third = c .before .same-tracks3 in
+    let both = isTrack (x .j) && (isTrack (x .i) && equalTracks o (x .j) b (x .i)) in
+    let others = isTrack (x .k) && (isTrack (x .i) && equalTracks t (x .k) b (x .i)) in
+    c .verdict .ensures
+    ∙ ap (λ (e : Bool). on (record { oursBase = e; theirsBase = second .result; oursTheirs = third .result })) (first .ensures)
+    ∙ ap (λ (e : Bool). on (record { oursBase = both; theirsBase = e; oursTheirs = third .result })) (second .ensures)
+    ∙ ap (λ (e : Bool). on (record { oursBase = both; theirsBase = others; oursTheirs = e })) (third .ensures)
+    ∙ verdict-there (isTrack (x .i)) (isTrack (x .j)) (isTrack (x .k))
+    (record { oursBase = equalTracks o (x .j) b (x .i); theirsBase = equalTracks t (x .k) b (x .i); oursTheirs = equalTracks o (x .j) t (x .k) })
+
+pub verdict-on-spec : {M : Type 1} → statement M
+verdict-on-spec = tie.close (tie.spec same-requires same-requires-2 same-requires-3 (λ c κs. search needs) returns)

@@ -1,0 +1,9 @@
+pub mod Tracks
+pub mod Candidates
+pub mod Rows
+pub mod Winner
+pub mod Merge
+pub mod Demand3
+pub mod Examples
+pub mod Steps
+pub mod Ticked
