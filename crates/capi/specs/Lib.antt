@@ -1,2 +1,5 @@
 pub mod Told
 pub mod Repairs
+pub mod Powers
+pub mod Comparisons
+pub mod Merges

@@ -9,6 +9,7 @@ use Rattle.dense.specs.declared.Written.{Written}
 use Rattle.dense.specs.declared.Written.the-variants as written
 use Rattle.tracks.specs.Write.{packed}
 use Rattle.repair.specs.declared.RegularizationReport.{RegularizationReport}
+use Rattle.repair.specs.declared.Repaired.{Repaired}
 use Rattle.repair.specs.Repair.{Repair}
 
 -- A mask as bits, that of eigenvalue k at bit k.
@@ -21,9 +22,12 @@ abbrev pub inPlaces : RegularizationReport → ℕ × (Float × ℕ)
 inPlaces t = (t .«n_clipped», (t .«max_clip_magnitude», maskBits (t .«clipped_indices»)))
 
 -- The code of an answer, and the three places afterwards: a refusal writes to none.
-abbrev pub enteredReport : Written → RegularizationReport → ℕ → Float → ℕ → ℕ × (ℕ × (Float × ℕ))
-enteredReport written.Done t count clip mask = (0, inPlaces t)
-enteredReport (written.Refused k) t count clip mask = (k, (count, (clip, mask)))
+abbrev pub enteredAs : Written → RegularizationReport → ℕ → Float → ℕ → ℕ × (ℕ × (Float × ℕ))
+enteredAs written.Done t count clip mask = (0, inPlaces t)
+enteredAs (written.Refused k) t count clip mask = (k, (count, (clip, mask)))
+
+abbrev pub enteredReport : Repaired → ℕ → Float → ℕ → ℕ × (ℕ × (Float × ℕ))
+enteredReport r count clip mask = enteredAs (r .answer) (r .report) count clip mask
 
 abbrev pub toldRepair : Outcome Repair → ℕ → Float → ℕ → ℕ × (ℕ × (Float × ℕ))
 toldRepair (refused k) count clip mask = (k, (count, (clip, mask)))

@@ -3,7 +3,7 @@ ghost use mathlib.Core.Path.{_≡_};
 ghost use Rattle.repair.specs.Repair as Repair;
 ghost use Rattle.capi.specs.Repairs.{maskBits, enteredReport, toldRepair, rebuiltLeft};
 use dense::Written;
-use repair::RegularizationReport;
+use repair::Repaired;
 use repair::regularize;
 
 // The bits of a mask, that of entry k at bit k.
@@ -23,16 +23,17 @@ fn mask_bits(mask: [bool; 16]) -> u32
 
 // The code of an answer, and its report into the three places.
 fn enter_report(
-    answer: Written,
-    report: RegularizationReport,
+    repaired: Repaired,
     n_clipped: &mut usize,
     max_clip_magnitude: &mut f64,
     clipped_indices: &mut u32,
 ) -> u32
-    ensures { λ r. ⌜ (r, (now («n_clipped» .exit), (now («max_clip_magnitude» .exit), now («clipped_indices» .exit)))) ≡ enteredReport answer report (now («n_clipped» .entry)) (now («max_clip_magnitude» .entry)) (now («clipped_indices» .entry)) ⌝ }
+    ensures { λ r. ⌜ (r, (now («n_clipped» .exit), (now («max_clip_magnitude» .exit), now («clipped_indices» .exit)))) ≡ enteredReport repaired (now («n_clipped» .entry)) (now («max_clip_magnitude» .entry)) (now («clipped_indices» .entry)) ⌝ }
 {
+    let answer = repaired.answer;
     match answer {
         Written::Done => {
+            let report = repaired.report;
             let mask = report.clipped_indices;
             *n_clipped = report.n_clipped;
             *max_clip_magnitude = report.max_clip_magnitude;
@@ -57,14 +58,24 @@ pub extern "C" fn pel_nearest_psd(
     ensures { λ r. ⌜ (r, (now («n_clipped» .exit), (now («max_clip_magnitude» .exit), now («clipped_indices» .exit)))) ≡ toldRepair (Repair.nearestPsd (now (cov .entry)) «min_eig» n (now (out .entry))) (now («n_clipped» .entry)) (now («max_clip_magnitude» .entry)) (now («clipped_indices» .entry)) ⌝ }
     ensures { λ _. ⌜ now (out .exit) ≡ rebuiltLeft (Repair.nearestPsd (now (cov .entry)) «min_eig» n (now (out .entry))) (now (out .entry)) ⌝ }
 {
-    let r = regularize::nearest_psd(cov, min_eig, n, out);
-    let answer = r.answer;
-    let report = r.report;
-    enter_report(
-        answer,
-        report,
-        n_clipped,
-        max_clip_magnitude,
-        clipped_indices,
-    )
+    let repaired = regularize::nearest_psd(cov, min_eig, n, out);
+    enter_report(repaired, n_clipped, max_clip_magnitude, clipped_indices)
+}
+
+// The same by its other name.
+#[no_mangle]
+pub extern "C" fn pel_eigenvalue_floor(
+    cov: &[f64],
+    min_eig: f64,
+    n: usize,
+    out: &mut [f64],
+    count: &mut usize,
+    clip: &mut f64,
+    mask: &mut u32,
+) -> u32
+    ensures { λ r. ⌜ (r, (now (count .exit), (now (clip .exit), now (mask .exit)))) ≡ toldRepair (Repair.nearestPsd (now (cov .entry)) «min_eig» n (now (out .entry))) (now (count .entry)) (now (clip .entry)) (now (mask .entry)) ⌝ }
+    ensures { λ _. ⌜ now (out .exit) ≡ rebuiltLeft (Repair.nearestPsd (now (cov .entry)) «min_eig» n (now (out .entry))) (now (out .entry)) ⌝ }
+{
+    let repaired = regularize::eigenvalue_floor(cov, min_eig, n, out);
+    enter_report(repaired, count, clip, mask)
 }

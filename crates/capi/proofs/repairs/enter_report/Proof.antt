@@ -5,19 +5,20 @@ use denote.Ref.{now}
 use mathlib.Core.Path.{sym, ap, _∙_}
 use lib.Ieee.{Float}
 use Rattle.dense.specs.declared.Written.{Written}
-use Rattle.capi.specs.Repairs.{enteredReport}
+use Rattle.capi.specs.Repairs.{enteredAs}
 use Rattle.capi.proofs.repairs.enter_report.Statement.{statement}
 use Rattle.capi.proofs.repairs.enter_report.Tie as tie
 
 -- what the places hold for an answer
 abbrev entered : tie.Start → Written → ℕ × (ℕ × (Float × ℕ))
-entered c a = let x = c .args in enteredReport a (x .report) (now (x .n-clipped)) (now (x .max-clip-magnitude)) (now (x .clipped-indices))
+entered c a = let x = c .args in enteredAs a (x .repaired .report) (now (x .n-clipped)) (now (x .max-clip-magnitude)) (now (x .clipped-indices))
 
 returns : tie.Need-returns
 returns c =
-    let start = c .before .before .before .before in
-    ap (λ (bits : ℕ). (0, (start .args .report .«n_clipped», (start .args .report .«max_clip_magnitude», bits)))) (c .mask-bits .ensures)
-    ∙ ap (entered start) (sym (c .before .before .enum-told .given .1))
+    let start = c .before .before .before .before .before in
+    let report = start .args .repaired .report in
+    ap (λ (bits : ℕ). (0, (report .«n_clipped», (report .«max_clip_magnitude», bits)))) (c .mask-bits .ensures)
+    ∙ ap (entered start) (sym (c .before .before .before .enum-told .given .1))
 
 returns-2 : tie.Need-returns-2
 returns-2 c = ap (entered (c .before .before .before)) (sym (c .before .answer .given .1))

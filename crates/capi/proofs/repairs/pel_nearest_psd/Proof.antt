@@ -7,7 +7,7 @@ use Rattle.capi.proofs.repairs.pel_nearest_psd.Tie as tie
 
 returns : tie.Need-returns
 returns c =
-    let after-call = c .before .before .before .before .before .before .before in
+    let after-call = c .before .before .before .before .before .before in
     let x = after-call .before .before .before .before .args in
     repair-tells (nearestPsd (x .cov .now) (x .min-eig) (x .n) (x .out .now)) (x .out .now) _ _ _ _ _ _ (c .enter-report .ensures) (after-call .nearest-psd .ensures)
 

@@ -1,0 +1,15 @@
+-- `pel_eigenvalue_floor` meets its contract.
+use borrow.Author.Needs.{needs}
+use Rattle.repair.specs.Repair.{nearestPsd}
+use Rattle.capi.proofs.Reported.{repair-tells}
+use Rattle.capi.proofs.repairs.pel_eigenvalue_floor.Statement.{statement}
+use Rattle.capi.proofs.repairs.pel_eigenvalue_floor.Tie as tie
+
+returns : tie.Need-returns
+returns c =
+    let after-call = c .before .before .before .before .before .before in
+    let x = after-call .before .before .before .before .args in
+    repair-tells (nearestPsd (x .cov .now) (x .min-eig) (x .n) (x .out .now)) (x .out .now) _ _ _ _ _ _ (c .enter-report .ensures) (after-call .eigenvalue-floor .ensures)
+
+pub pel-eigenvalue-floor-spec : {M : Type 1} → statement M
+pel-eigenvalue-floor-spec = tie.close (tie.spec (λ c κs. search needs) (λ c κs. search needs) (λ c. search needs) returns)
