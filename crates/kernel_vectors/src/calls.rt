@@ -5,7 +5,7 @@ use linalg::generic;
 use linalg::regularize;
 use pivoting::generic as solvers;
 
-fn written(answer: Written) -> u64 {
+pub(crate) fn written(answer: Written) -> u64 {
     match answer {
         Written::Done => 0,
         Written::Refused(question) => question as u64,
@@ -13,7 +13,7 @@ fn written(answer: Written) -> u64 {
 }
 
 // A single number goes into the first entry of out.
-fn entered(answer: Number, out: &mut [f64]) -> u64 {
+pub(crate) fn entered(answer: Number, out: &mut [f64]) -> u64 {
     match answer {
         Number::Value(x) => {
             if 0 < out.len() {

@@ -3,6 +3,9 @@
 // the call, three sides, a double, the lengths of the three slices that are read and of the one that is written, and the
 // answer's number; then the entries of the slices that are read, and those of the one that is written after the call.
 mod calls;
+mod comparison;
+mod iterating;
+mod spectral;
 
 use kernel::bytes;
 ghost use Prim.Native.Nat.{_+_, _≤_};
@@ -11,7 +14,14 @@ const HEAD: usize = 11;
 // The most entries of a slice, one of a wrong length included.
 const ENTRIES: usize = 272;
 
-const CALLS: usize = 22;
+// Those from SPECTRAL on rotate, then comes the comparison of two tracks, and those from ITERATING on iterate.
+const CALLS: usize = 30;
+
+const SPECTRAL: usize = 22;
+
+const COMPARISON: usize = 25;
+
+const ITERATING: usize = 26;
 
 // What stands in a slice before it is written.
 const BEFORE: f64 = 7.0;
@@ -79,10 +89,18 @@ fn is_met(
     let k = number(s, 3) as usize;
     let n = number(s, 4) as usize;
     let x = replay::double(number(s, 5));
-    if calls::answer(call, m, k, n, x, a, b, c, out) != number(s, 10) {
-        return false;
+    let told = number(s, 10);
+    if ITERATING <= call {
+        let rounds = (number(s, 3) % 0x1_0000_0000) as u32;
+        return iterating::answer(call, rounds, n, x, a, out) == told && agrees(after, out);
     }
-    agrees(after, out)
+    if call == COMPARISON {
+        return comparison::compared(a, b, c, n, x, out) == told && agrees(after, out);
+    }
+    if SPECTRAL <= call {
+        return spectral::answer(call, n, x, a, out) == told && agrees(after, out);
+    }
+    calls::answer(call, m, k, n, x, a, b, c, out) == told && agrees(after, out)
 }
 
 // The same with the slices out of the record.
@@ -112,7 +130,7 @@ fn is_record_met(s: &[u8], call: usize) -> bool {
 
 // Counts the record at the start of s under its call, and where it is answered otherwise, that too.
 fn replay_record(s: &[u8], cases: &mut [u64; CALLS], differences: &mut [u64; CALLS]) {
-    let call = (number(s, 1) % 22) as usize;
+    let call = (number(s, 1) % 30) as usize;
     cases[call] = one_more(cases[call]);
     if !is_record_met(s, call) {
         differences[call] = one_more(differences[call]);
@@ -162,42 +180,55 @@ fn replay_input(cases: &mut [u64; CALLS], differences: &mut [u64; CALLS]) {
     }
 }
 
-fn print_call(name: &[u8], cases: u64, differences: u64) {
-    io::write_all(1, name);
-    io::print_decimal(1, cases);
-    io::write_all(1, b" cases ");
-    io::print_decimal(1, differences);
-    io::write_all(1, b" differences\n");
+// Writes the name of a call, and answers whether it could.
+fn print_name(call: usize) -> bool {
+    match call {
+        0 => io::write_all(1, b"mat_mul "),
+        1 => io::write_all(1, b"mat_transpose "),
+        2 => io::write_all(1, b"mat_ata "),
+        3 => io::write_all(1, b"mat_frobenius "),
+        4 => io::write_all(1, b"mat_symmetrize "),
+        5 => io::write_all(1, b"mat_trace "),
+        6 => io::write_all(1, b"mat_trace_product "),
+        7 => io::write_all(1, b"mat_trace_cube "),
+        8 => io::write_all(1, b"mat_vec_mul "),
+        9 => io::write_all(1, b"mat_quadratic_form "),
+        10 => io::write_all(1, b"vec_norm "),
+        11 => io::write_all(1, b"mahalanobis_distance_squared_with_inv "),
+        12 => io::write_all(1, b"mat_cholesky "),
+        13 => io::write_all(1, b"tikhonov "),
+        14 => io::write_all(1, b"mat3_det "),
+        15 => io::write_all(1, b"mat3_inv "),
+        16 => io::write_all(1, b"mat3_solve "),
+        17 => io::write_all(1, b"row_inf_norms "),
+        18 => io::write_all(1, b"mat_solve "),
+        19 => io::write_all(1, b"mat_inv "),
+        20 => io::write_all(1, b"mat_det "),
+        21 => io::write_all(1, b"mahalanobis_distance_squared "),
+        22 => io::write_all(1, b"mat_symmetric_eigen "),
+        23 => io::write_all(1, b"nearest_psd "),
+        24 => io::write_all(1, b"eigenvalue_floor "),
+        25 => io::write_all(1, b"compare "),
+        26 => io::write_all(1, b"mat_eigenvector_max "),
+        27 => io::write_all(1, b"mat_largest_singular_value "),
+        28 => io::write_all(1, b"condition_number "),
+        _ => io::write_all(1, b"tikhonov_with_report "),
+    }
+}
+
+fn print_calls(cases: [u64; CALLS], differences: [u64; CALLS]) {
+    for call in 0..CALLS {
+        print_name(call);
+        io::print_decimal(1, cases[call]);
+        io::write_all(1, b" cases ");
+        io::print_decimal(1, differences[call]);
+        io::write_all(1, b" differences\n");
+    }
 }
 
 fn main() {
     let mut cases = [0u64; CALLS];
     let mut differences = [0u64; CALLS];
     replay_input(&mut cases, &mut differences);
-    print_call(b"mat_mul ", cases[0], differences[0]);
-    print_call(b"mat_transpose ", cases[1], differences[1]);
-    print_call(b"mat_ata ", cases[2], differences[2]);
-    print_call(b"mat_frobenius ", cases[3], differences[3]);
-    print_call(b"mat_symmetrize ", cases[4], differences[4]);
-    print_call(b"mat_trace ", cases[5], differences[5]);
-    print_call(b"mat_trace_product ", cases[6], differences[6]);
-    print_call(b"mat_trace_cube ", cases[7], differences[7]);
-    print_call(b"mat_vec_mul ", cases[8], differences[8]);
-    print_call(b"mat_quadratic_form ", cases[9], differences[9]);
-    print_call(b"vec_norm ", cases[10], differences[10]);
-    print_call(
-        b"mahalanobis_distance_squared_with_inv ",
-        cases[11],
-        differences[11],
-    );
-    print_call(b"mat_cholesky ", cases[12], differences[12]);
-    print_call(b"tikhonov ", cases[13], differences[13]);
-    print_call(b"mat3_det ", cases[14], differences[14]);
-    print_call(b"mat3_inv ", cases[15], differences[15]);
-    print_call(b"mat3_solve ", cases[16], differences[16]);
-    print_call(b"row_inf_norms ", cases[17], differences[17]);
-    print_call(b"mat_solve ", cases[18], differences[18]);
-    print_call(b"mat_inv ", cases[19], differences[19]);
-    print_call(b"mat_det ", cases[20], differences[20]);
-    print_call(b"mahalanobis_distance_squared ", cases[21], differences[21]);
+    print_calls(cases, differences);
 }
