@@ -15,7 +15,7 @@ SHELL = bash
 
 cargo = cargo run --release --offline --quiet --manifest-path
 
-.PHONY: test beside differential oracle vectors bench capi
+.PHONY: test beside differential oracle vectors bench capi trackmerge
 
 test:
 	@log=$$(mktemp); trap 'rm -f "$$log"' EXIT; \
@@ -32,10 +32,10 @@ beside:
 	    echo "no differential run: it needs cargo and the Rust source, and NOLAN_SRC is $(NOLAN_SRC)"; \
 	fi
 
-differential: capi
+differential: capi trackmerge
 	$(cargo) oracle/Cargo.toml -- quick
 
-oracle: capi
+oracle: capi trackmerge
 	$(cargo) oracle/Cargo.toml -- long
 
 vectors: capi
@@ -48,3 +48,7 @@ bench: capi
 # The static library that the runs above link. The bench links that of the pairing too.
 capi:
 	rt staticlib capi
+
+# The program that the differential run starts in its folders.
+trackmerge:
+	rt check trackmerge

@@ -78,6 +78,47 @@ extern "C" {
         max_clip_magnitude: &mut f64,
         clipped_indices: &mut u32,
     ) -> u32;
+    fn pel_eigenvalue_floor(
+        cov: *const f64,
+        cov_len: usize,
+        min_eig: f64,
+        n: usize,
+        out: *mut f64,
+        out_len: usize,
+        n_clipped: &mut usize,
+        max_clip_magnitude: &mut f64,
+        clipped_indices: &mut u32,
+    ) -> u32;
+
+    fn pel_mat_eigenvector_max(
+        a: *const f64,
+        a_len: usize,
+        n: usize,
+        max_iter: u32,
+        tol: f64,
+        v: *mut f64,
+        v_len: usize,
+        lambda: &mut f64,
+    ) -> u32;
+    fn pel_mat_largest_singular_value(
+        a: *const f64,
+        a_len: usize,
+        n: usize,
+        max_iter: u32,
+        tol: f64,
+        out: &mut f64,
+    ) -> u32;
+    fn pel_condition_number(a: *const f64, a_len: usize, n: usize, out: &mut f64) -> u32;
+    fn pel_tikhonov_with_report(
+        cov: *const f64,
+        cov_len: usize,
+        alpha: f64,
+        n: usize,
+        out: *mut f64,
+        out_len: usize,
+        before: &mut f64,
+        after: &mut f64,
+    ) -> u32;
 
     fn pel_row_inf_norms(a: *const f64, a_len: usize, n: usize, out: *mut f64, out_len: usize) -> u32;
     fn pel_mat_solve(
@@ -102,6 +143,22 @@ extern "C" {
         out: &mut f64,
     ) -> u32;
 
+    fn pel_compare(
+        mu: *const f64,
+        mu_len: usize,
+        x: *const f64,
+        x_len: usize,
+        p_i: *const f64,
+        p_i_len: usize,
+        p_j: *const f64,
+        p_j_len: usize,
+        n: usize,
+        floor: f64,
+        gate: f64,
+        kind: &mut u32,
+        d2: &mut f64,
+    ) -> u32;
+
     fn pel_read_list(
         list: *const u8,
         list_len: usize,
@@ -120,6 +177,33 @@ extern "C" {
         length: &mut usize,
     ) -> u32;
     fn pel_record(list: *const u8, list_len: usize, offset: usize, start: &mut usize, length: &mut usize);
+
+    fn pel_merge(
+        base: *const u8,
+        base_len: usize,
+        ours: *const u8,
+        ours_len: usize,
+        theirs: *const u8,
+        theirs_len: usize,
+        floor: f64,
+        gate: f64,
+        rows: *mut u8,
+        rows_len: usize,
+        full: &mut usize,
+        half: &mut usize,
+        single: &mut usize,
+    ) -> u32;
+    fn pel_winner(
+        ours: *const u8,
+        ours_len: usize,
+        theirs: *const u8,
+        theirs_len: usize,
+        row: *const u8,
+        row_len: usize,
+        list: &mut u32,
+        start: &mut usize,
+        length: &mut usize,
+    );
 }
 
 pub fn abs(x: f64) -> f64 {
@@ -235,16 +319,41 @@ pub fn mat_symmetric_eigen(a: &[f64], n: usize, values: &mut [f64], vectors: &mu
     }
 }
 
-/// The report goes to its three places: the clip count, the largest clip, and the mask's bits.
-pub fn nearest_psd(
-    cov: &[f64],
-    min_eig: f64,
-    n: usize,
-    out: &mut [f64],
-    report: (&mut usize, &mut f64, &mut u32),
-) -> u32 {
+/// What a repair reports: the clip count, the largest clip, and the mask's bits.
+#[derive(Clone, Copy, PartialEq)]
+pub struct Report {
+    pub count: usize,
+    pub clip: f64,
+    pub mask: u32,
+}
+
+/// The report goes to its three places.
+pub fn nearest_psd(cov: &[f64], min_eig: f64, n: usize, out: &mut [f64], to: &mut Report) -> u32 {
+    let (count, clip, mask) = (&mut to.count, &mut to.clip, &mut to.mask);
+    unsafe { pel_nearest_psd(cov.as_ptr(), cov.len(), min_eig, n, out.as_mut_ptr(), out.len(), count, clip, mask) }
+}
+
+pub fn eigenvalue_floor(cov: &[f64], min_eig: f64, n: usize, out: &mut [f64], to: &mut Report) -> u32 {
+    let (count, clip, mask) = (&mut to.count, &mut to.clip, &mut to.mask);
+    unsafe { pel_eigenvalue_floor(cov.as_ptr(), cov.len(), min_eig, n, out.as_mut_ptr(), out.len(), count, clip, mask) }
+}
+
+pub fn mat_eigenvector_max(a: &[f64], n: usize, max_iter: u32, tol: f64, v: &mut [f64], lambda: &mut f64) -> u32 {
+    unsafe { pel_mat_eigenvector_max(a.as_ptr(), a.len(), n, max_iter, tol, v.as_mut_ptr(), v.len(), lambda) }
+}
+
+pub fn mat_largest_singular_value(a: &[f64], n: usize, max_iter: u32, tol: f64, out: &mut f64) -> u32 {
+    unsafe { pel_mat_largest_singular_value(a.as_ptr(), a.len(), n, max_iter, tol, out) }
+}
+
+pub fn condition_number(a: &[f64], n: usize, out: &mut f64) -> u32 {
+    unsafe { pel_condition_number(a.as_ptr(), a.len(), n, out) }
+}
+
+/// The report goes to its two places: the condition numbers before and after.
+pub fn tikhonov_with_report(cov: &[f64], alpha: f64, n: usize, out: &mut [f64], report: (&mut f64, &mut f64)) -> u32 {
     unsafe {
-        pel_nearest_psd(cov.as_ptr(), cov.len(), min_eig, n, out.as_mut_ptr(), out.len(), report.0, report.1, report.2)
+        pel_tikhonov_with_report(cov.as_ptr(), cov.len(), alpha, n, out.as_mut_ptr(), out.len(), report.0, report.1)
     }
 }
 
@@ -270,6 +379,28 @@ pub fn mahalanobis_distance_squared(x: &[f64], mu: &[f64], cov: &[f64], n: usize
     }
 }
 
+/// Two tracks, each a state and a covariance, with the floor and the gate; the kind and the squared distance go to their places.
+pub fn compare(i: [&[f64]; 2], j: [&[f64]; 2], n: usize, within: (f64, f64), kind: &mut u32, d2: &mut f64) -> u32 {
+    let ([mu, p_i], [x, p_j], (floor, gate)) = (i, j, within);
+    unsafe {
+        pel_compare(
+            mu.as_ptr(),
+            mu.len(),
+            x.as_ptr(),
+            x.len(),
+            p_i.as_ptr(),
+            p_i.len(),
+            p_j.as_ptr(),
+            p_j.len(),
+            n,
+            floor,
+            gate,
+            kind,
+            d2,
+        )
+    }
+}
+
 pub fn read_list(list: &[u8], values: &mut [f64], count: &mut usize, dimension: &mut usize) -> u32 {
     unsafe { pel_read_list(list.as_ptr(), list.len(), values.as_mut_ptr(), values.len(), count, dimension) }
 }
@@ -281,4 +412,44 @@ pub fn write_list(count: usize, dimension: usize, values: &[f64], out: &mut [u8]
 /// The record's part of the list, by its start and length.
 pub fn record(list: &[u8], offset: usize, start: &mut usize, length: &mut usize) {
     unsafe { pel_record(list.as_ptr(), list.len(), offset, start, length) }
+}
+
+/// Base, ours and theirs with the floor and the gate; the rows go to the buffer, and how many have three, two and one track
+/// to the counts.
+pub fn merge(lists: [&[u8]; 3], within: (f64, f64), rows: &mut [u8], counts: [&mut usize; 3]) -> u32 {
+    let ([base, ours, theirs], (floor, gate), [full, half, single]) = (lists, within, counts);
+    unsafe {
+        pel_merge(
+            base.as_ptr(),
+            base.len(),
+            ours.as_ptr(),
+            ours.len(),
+            theirs.as_ptr(),
+            theirs.len(),
+            floor,
+            gate,
+            rows.as_mut_ptr(),
+            rows.len(),
+            full,
+            half,
+            single,
+        )
+    }
+}
+
+/// The winning record's part of ours, list 1, or of theirs, list 2, by its start and length.
+pub fn winner(ours: &[u8], theirs: &[u8], row: &[u8], list: &mut u32, start: &mut usize, length: &mut usize) {
+    unsafe {
+        pel_winner(
+            ours.as_ptr(),
+            ours.len(),
+            theirs.as_ptr(),
+            theirs.len(),
+            row.as_ptr(),
+            row.len(),
+            list,
+            start,
+            length,
+        )
+    }
 }

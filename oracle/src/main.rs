@@ -1,6 +1,6 @@
-//! `oracle quick` or `oracle long`, with the topics `number`, `matrix`, `lists` to run, or all; `oracle vectors` writes the
-//! frozen answers.
-use oracle::{ffi, lists, matrix, number, vectors};
+//! `oracle quick` or `oracle long`, with the topics `number`, `matrix`, `comparisons`, `lists`, `merge` or the matrix calls to run, or
+//! all; `oracle vectors` writes the frozen answers.
+use oracle::{comparisons, ffi, lists, matrix, number, vectors};
 use std::process::ExitCode;
 
 fn main() -> ExitCode {
@@ -15,7 +15,7 @@ fn main() -> ExitCode {
             return ExitCode::SUCCESS;
         }
         _ => {
-            eprintln!("usage: oracle quick|long [number] [matrix] [lists], or oracle vectors");
+            eprintln!("usage: oracle quick|long [number] [matrix] [comparisons] [lists] [merge] [CALL].., or oracle vectors");
             return ExitCode::from(2);
         }
     };
@@ -23,11 +23,15 @@ fn main() -> ExitCode {
     if wanted("number") {
         differences += number::run(if long { 200_000_000 } else { 20_000_000 });
     }
-    if wanted("matrix") {
-        differences += matrix::run(long);
+    differences += matrix::run(long, &|call| wanted("matrix") || wanted(call));
+    if wanted("comparisons") {
+        differences += comparisons::run(long);
     }
     if wanted("lists") {
         differences += lists::run(long);
+    }
+    if wanted("merge") {
+        differences += oracle::merge::run::run(long);
     }
     for name in ffi::UNKNOWN {
         println!("{name}: declared in the header, and not compared");

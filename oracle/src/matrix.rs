@@ -2,7 +2,9 @@
 use crate::classes::{Class, Named, CLASSES};
 use crate::ffi;
 use crate::number::{sample, special};
+use crate::power::{limits, ITERATING, POWER};
 use crate::rng::Rng;
+use crate::rotating::{draw_floor, ROTATING};
 use crate::symmetric::SYMMETRIC;
 use crate::tally::{same, Tally};
 use nolan::flat::{at, Given, Theirs, PRODUCT_SIDES};
@@ -26,7 +28,7 @@ fn no_sides() -> Vec<Vec<usize>> {
     vec![vec![]]
 }
 
-fn one_side() -> Vec<Vec<usize>> {
+pub fn one_side() -> Vec<Vec<usize>> {
     (1..=16).map(|n| vec![n]).collect()
 }
 
@@ -40,7 +42,7 @@ fn three_sides() -> Vec<Vec<usize>> {
     all.chain((1..=16).filter(|n| !of.contains(n)).map(|n| vec![n, n, n])).collect()
 }
 
-fn square(s: &[usize]) -> Vec<(usize, usize)> {
+pub fn square(s: &[usize]) -> Vec<(usize, usize)> {
     vec![(s[0], s[0])]
 }
 
@@ -56,7 +58,7 @@ fn rectangle(s: &[usize]) -> Vec<(usize, usize)> {
     vec![(s[0], s[1])]
 }
 
-pub const CALLS: &[Call] = &[
+const CALLS: &[Call] = &[
     Call {
         name: "mat_mul",
         sides: three_sides,
@@ -259,42 +261,35 @@ pub const CALLS: &[Call] = &[
     },
 ];
 
-/// The calls that rotate, which are compared on symmetric matrices too.
-const ROTATING: &[Call] = &[
-    Call {
-        name: "mat_symmetric_eigen",
-        sides: one_side,
-        reads: square,
-        // The eigenvalues, and after them the vectors.
-        writes: |s| s[0] + s[0] * s[0],
-        single: false,
-        ours: |g, s, out| {
-            let (values, vectors) = out.split_at_mut(s[0].min(out.len()));
-            ffi::mat_symmetric_eigen(g.slices[0], s[0], values, vectors)
-        },
-        theirs: at::mat_symmetric_eigen,
-    },
-    Call {
-        name: "nearest_psd",
-        sides: one_side,
-        reads: square,
-        // The matrix, and after it the clip count, the largest clip and the mask as a number.
-        writes: |s| s[0] * s[0] + 3,
-        single: false,
-        ours: |g, s, out| {
-            let (matrix, told) = out.split_at_mut(out.len().saturating_sub(3));
-            let (mut count, mut clip, mut mask) = (usize::MAX, -1.0, u32::MAX);
-            let number = ffi::nearest_psd(g.slices[0], g.number, s[0], matrix, (&mut count, &mut clip, &mut mask));
-            if number == 0 {
-                told.copy_from_slice(&[count as f64, clip, f64::from(mask)]);
-            } else {
-                assert!((count, clip, mask) == (usize::MAX, -1.0, u32::MAX), "a refusal wrote a report");
-            }
-            number
-        },
-        theirs: at::nearest_psd,
-    },
+/// Calls that are compared alike. Frozen answers name a call by its place among the calls of all groups, in this order.
+pub struct Group {
+    pub calls: &'static [Call],
+    pub classes: fn() -> Vec<Named>,
+    pub draw: fn(&mut Rng, Class, &[(usize, usize)]) -> (Vec<Vec<f64>>, f64),
+    /// How many matrices of a class there are at each of so many sides, in the long form or not.
+    pub count: fn(bool, usize) -> usize,
+}
+
+pub const GROUPS: &[Group] = &[
+    Group { calls: CALLS, classes: || CLASSES.to_vec(), draw, count: many },
+    Group { calls: ROTATING, classes: || [CLASSES, SYMMETRIC].concat(), draw: draw_floor, count: many },
 ];
+
+/// The calls that iterate: one that does not converge takes much longer than another call, so there are fewer cases.
+pub const ITERATED: Group = Group {
+    calls: ITERATING,
+    classes: || [CLASSES, SYMMETRIC, POWER].concat(),
+    draw,
+    count: |long, _| if long { 1_000 } else { 40 },
+};
+
+fn many(long: bool, sides: usize) -> usize {
+    if long {
+        2_000
+    } else {
+        (6_000 / sides).max(12)
+    }
+}
 
 /// The lent result stands between two stretches of this length, which no call may touch.
 const GUARD: usize = 4;
@@ -360,16 +355,17 @@ pub fn draw(rng: &mut Rng, fill: Class, shapes: &[(usize, usize)]) -> (Vec<Vec<f
 }
 
 /// Cases of every class at these sides.
-fn answers(call: &Call, tally: &mut Tally, rng: &mut Rng, classes: &[Named], sides: &[usize], count: usize) {
+fn answers(group: &Group, call: &Call, tally: &mut Tally, rng: &mut Rng, sides: &[usize], count: usize) {
     let shapes = (call.reads)(sides);
     let length = (call.writes)(sides);
     let theirs = (call.theirs)(sides);
     let mut result = vec![0.0; length];
-    for (name, fill) in classes {
+    for (name, fill) in (group.classes)() {
         for _ in 0..count {
-            let (slices, number) = draw(rng, *fill, &shapes);
+            let (slices, number) = (group.draw)(rng, fill, &shapes);
             let slices: Vec<&[f64]> = slices.iter().map(Vec::as_slice).collect();
-            let given = Given { slices: &slices, number };
+            let (max_iter, tol) = limits(rng, slices[0]);
+            let given = Given { slices: &slices, number, max_iter, tol };
             let wanted = theirs(&given, &mut result);
             compare(call, tally, &given, sides, length, (wanted, &result), name);
         }
@@ -424,28 +420,27 @@ fn refusals(call: &Call, tally: &mut Tally, rng: &mut Rng, sides: &[usize]) {
     let entries: Vec<f64> = (0..16 * 16 + 16).map(|_| rng.unit()).collect();
     for case in refused(call, sides, &[0, 17, 18, 32, 256, 1 << 32, 1 << 60, usize::MAX]) {
         let slices: Vec<&[f64]> = case.lengths.iter().map(|n| &entries[..*n]).collect();
-        let given = Given { slices: &slices, number: 1.0 };
+        let given = Given { slices: &slices, number: 1.0, max_iter: 7, tol: 1e-6 };
         compare(call, tally, &given, &case.sides, case.length, (case.number, &[]), "refused");
     }
 }
 
-/// Compares a call on matrices of these classes at all its sides, and answers the number of differences.
-fn run_call(call: &Call, classes: &[Named], long: bool) -> u64 {
+/// Compares a call at all its sides, and answers the number of differences.
+fn run_call(group: &Group, call: &Call, long: bool) -> u64 {
     let all = (call.sides)();
-    // So many of each class at each of the call's sides.
-    let count = if long { 2_000 } else { (6_000 / all.len()).max(12) };
+    let count = (group.count)(long, all.len());
     let mut tally = Tally::new(call.name);
     let mut rng = Rng::new(5);
     for sides in &all {
-        answers(call, &mut tally, &mut rng, classes, sides, count);
+        answers(group, call, &mut tally, &mut rng, sides, count);
         refusals(call, &mut tally, &mut rng, sides);
     }
     tally.close()
 }
 
-/// Runs every call, and answers the number of differences.
-pub fn run(long: bool) -> u64 {
-    let rotating = [CLASSES, SYMMETRIC].concat();
-    let plain: u64 = CALLS.iter().map(|call| run_call(call, CLASSES, long)).sum();
-    plain + ROTATING.iter().map(|call| run_call(call, &rotating, long)).sum::<u64>()
+/// Runs every call, or those named, and answers the number of differences.
+pub fn run(long: bool, wanted: &dyn Fn(&str) -> bool) -> u64 {
+    let groups = GROUPS.iter().chain([&ITERATED]);
+    let calls = groups.flat_map(|group| group.calls.iter().map(move |call| (group, call)));
+    calls.filter(|(_, call)| wanted(call.name)).map(|(group, call)| run_call(group, call, long)).sum()
 }

@@ -17,7 +17,7 @@ pub const SYMMETRIC: &[Named] = &[
 ];
 
 /// Fills a square matrix from its entries on and below the diagonal.
-fn mirrored(m: &mut [f64], n: usize, mut entry: impl FnMut(usize, usize) -> f64) {
+pub fn mirrored(m: &mut [f64], n: usize, mut entry: impl FnMut(usize, usize) -> f64) {
     for i in 0..n {
         for j in 0..=i {
             let x = entry(i, j);
@@ -28,7 +28,7 @@ fn mirrored(m: &mut [f64], n: usize, mut entry: impl FnMut(usize, usize) -> f64)
 }
 
 /// B Bᵀ, at any scale.
-fn covariance(rng: &mut Rng, n: usize, m: &mut [f64]) {
+pub fn covariance(rng: &mut Rng, n: usize, m: &mut [f64]) {
     let scale = f64::powi(10.0, rng.below(13) as i32 - 6);
     let b: Vec<f64> = (0..n * n).map(|_| rng.unit() * scale).collect();
     mirrored(m, n, |i, j| (0..n).map(|k| b[i * n + k] * b[j * n + k]).sum());

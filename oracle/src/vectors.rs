@@ -2,7 +2,9 @@
 //! Every answer is the Rust's; the library is not asked.
 use crate::classes::CLASSES;
 use crate::lists;
-use crate::matrix::{draw, refused, Call, CALLS};
+use crate::comparisons::{self, Kinds, Pair, BAD_FLOORS, BAD_GATES};
+use crate::matrix::{refused, Call, Group, GROUPS, ITERATED};
+use crate::power::limits;
 use crate::number::{powers_of_two, sample, special};
 use crate::rng::Rng;
 use nolan::flat::Given;
@@ -93,38 +95,100 @@ fn record(frozen: &mut Frozen, call: usize, sides: &[usize], given: &Given, numb
     frozen.words(&words);
 }
 
-/// Answers at every order, of every class at the small ones, and refusals.
+/// Answers at every order, of every class at the small ones, and refusals. A record of a call that iterates has its most rounds as a side.
+fn answers(frozen: &mut Frozen, place: usize, group: &Group, call: &Call, iterates: bool) {
+    let all = (group.classes)();
+    let mut rng = Rng::new(23 + place as u64);
+    let mut cases = 0;
+    for sides in frozen_sides(call) {
+        let shapes = (call.reads)(&sides);
+        let largest = sides.iter().copied().max().unwrap_or(3);
+        // Those that all calls are compared on come first, and then those of the group.
+        let classes = (0..all.len()).filter(|class| largest <= 4 || *class % CLASSES.len() == largest % 5);
+        for class in classes {
+            let (slices, number) = (group.draw)(&mut rng, all[class].1, &shapes);
+            let slices: Vec<&[f64]> = slices.iter().map(Vec::as_slice).collect();
+            let mut given = Given { slices: &slices, number, ..Given::default() };
+            let mut sides_told = sides.clone();
+            if iterates {
+                let (max_iter, tol) = limits(&mut rng, slices[0]);
+                let tolerant = call.name != "tikhonov_with_report";
+                given = Given { slices: &slices, number: if tolerant { tol } else { number }, max_iter, tol };
+                sides_told = vec![0, max_iter as usize, sides[0]];
+            }
+            let mut result = vec![BEFORE; (call.writes)(&sides)];
+            let told = (call.theirs)(&sides)(&given, &mut result);
+            record(frozen, place, &sides_told, &given, told, &result);
+            cases += 1;
+        }
+    }
+    let sides = &(call.sides)()[0];
+    let sides: Vec<usize> = (0..sides.len()).map(|i| 2 + i).collect();
+    for case in refused(call, &sides, &[0, 17]) {
+        let entries: Vec<f64> = (0..64).map(|_| rng.unit()).collect();
+        let slices: Vec<&[f64]> = case.lengths.iter().map(|n| &entries[..*n]).collect();
+        let given = Given { slices: &slices, number: 1.0, ..Given::default() };
+        record(frozen, place, &case.sides, &given, case.number, &vec![BEFORE; case.length]);
+        cases += 1;
+    }
+    frozen.line(call.name, cases);
+}
+
+/// The matrix calls, then comparisons, then the calls that iterate.
 fn matrices() {
     let mut frozen = Frozen::new();
-    for (place, call) in CALLS.iter().enumerate() {
-        let mut rng = Rng::new(23 + place as u64);
-        let mut cases = 0;
-        for sides in frozen_sides(call) {
-            let shapes = (call.reads)(&sides);
-            let largest = sides.iter().copied().max().unwrap_or(3);
-            let classes = (0..CLASSES.len()).filter(|class| largest <= 4 || *class == largest % 5);
-            for class in classes {
-                let (slices, number) = draw(&mut rng, CLASSES[class].1, &shapes);
-                let slices: Vec<&[f64]> = slices.iter().map(Vec::as_slice).collect();
-                let given = Given { slices: &slices, number };
-                let mut result = vec![BEFORE; (call.writes)(&sides)];
-                let told = (call.theirs)(&sides)(&given, &mut result);
-                record(&mut frozen, place, &sides, &given, told, &result);
+    let mut place = 0;
+    for group in GROUPS {
+        for call in group.calls {
+            answers(&mut frozen, place, group, call, false);
+            place += 1;
+        }
+    }
+    tracks(&mut frozen, place);
+    for (at, call) in ITERATED.calls.iter().enumerate() {
+        answers(&mut frozen, place + 1 + at, &ITERATED, call, true);
+    }
+    frozen.write("kernel_vectors");
+}
+
+/// A record of a comparison: the states and the gate are its first slice, the result is the kind and the squared distance.
+fn comparison(frozen: &mut Frozen, call: usize, n: usize, pair: &Pair, within: (f64, f64), answer: (u32, [f64; 2])) {
+    let (floor, gate) = within;
+    let states = [&pair.mu[..], &pair.x, &[gate]].concat();
+    let given = Given { slices: &[&states, &pair.p_i, &pair.p_j], number: floor, ..Given::default() };
+    record(frozen, call, &[n], &given, answer.0, &answer.1);
+}
+
+/// Comparisons at every dimension, also with the squared distance and its neighbours as the gate, and refusals.
+fn tracks(frozen: &mut Frozen, call: usize) {
+    let mut rng = Rng::new(23 + call as u64);
+    let mut cases = 0;
+    let mut kinds = Kinds::default();
+    for n in 1..=16 {
+        let classes = comparisons::classes();
+        let classes = classes.iter().enumerate().filter(|(at, _)| n <= 4 || at % 8 == n % 8);
+        for (_, class) in classes {
+            let (pair, floor) = comparisons::draw(&mut rng, class, n);
+            let (asked, d2, gates) = comparisons::gates(&mut rng, n, &pair, floor);
+            for gate in gates {
+                let (number, kind, _) = kinds.wanted(asked, d2, gate);
+                let result = [f64::from(kind), if kind == 0 { BEFORE } else { d2 }];
+                comparison(frozen, call, n, &pair, (floor, gate), (number, result));
                 cases += 1;
             }
         }
-        let sides = &(call.sides)()[0];
-        let sides: Vec<usize> = (0..sides.len()).map(|i| 2 + i).collect();
-        for case in refused(call, &sides, &[0, 17]) {
-            let entries: Vec<f64> = (0..64).map(|_| rng.unit()).collect();
-            let slices: Vec<&[f64]> = case.lengths.iter().map(|n| &entries[..*n]).collect();
-            let given = Given { slices: &slices, number: 1.0 };
-            record(&mut frozen, place, &case.sides, &given, case.number, &vec![BEFORE; case.length]);
-            cases += 1;
-        }
-        frozen.line(call.name, cases);
     }
-    frozen.write("kernel_vectors");
+    let mut refuse = |n: usize, lengths: [usize; 2], within: (f64, f64), number: u32| {
+        let mut entries = |n: usize| (0..n).map(|_| rng.unit()).collect::<Vec<f64>>();
+        let pair = Pair { mu: entries(n), x: entries(n), p_i: entries(lengths[0]), p_j: entries(lengths[1]) };
+        comparison(frozen, call, n, &pair, within, (number, [BEFORE; 2]));
+        cases += 1;
+    };
+    [0, 17].iter().for_each(|n| refuse(*n, [4, 4], (0.0, 16.0), 1));
+    [[3, 4], [4, 5], [0, 4], [4, 16]].iter().for_each(|lengths| refuse(2, *lengths, (0.0, 16.0), 2));
+    BAD_FLOORS.iter().for_each(|floor| refuse(2, [4, 4], (*floor, 16.0), 18));
+    BAD_GATES.iter().for_each(|gate| refuse(2, [4, 4], (1.0, *gate), 18));
+    frozen.line("compare", cases);
 }
 
 /// Every order, and some sides that differ.

@@ -1,10 +1,13 @@
 //! The source's functions on flat slices, row by row: each at all its sides, as a table of its instances.
 use crate::linalg::{generic, mat3, regularize, NOLAN_MIN_SCALE};
 
-/// What a call is lent to read: its slices, and the one number that some calls take.
+/// What a call is lent to read: its slices, the one number that some calls take, and the limits of those that iterate.
+#[derive(Default)]
 pub struct Given<'a> {
     pub slices: &'a [&'a [f64]],
     pub number: f64,
+    pub max_iter: u32,
+    pub tol: f64,
 }
 
 /// A function of the source at one order: 0 and the result, or the number of the question that its `None` stands for.
@@ -75,20 +78,53 @@ fn eigen<const N: usize>(g: &Given, out: &mut [f64]) -> u32 {
     })
 }
 
+type Repaired<const N: usize> = Result<regularize::RegularizationReport<N>, regularize::RegularizationError>;
+
 /// The matrix, and after it the clip count, the largest clip and the mask as a number, bit k for eigenvalue k.
-fn psd<const N: usize>(g: &Given, out: &mut [f64]) -> u32 {
-    match regularize::nearest_psd::<N>(matrix(g.slices[0]), g.number) {
+fn repaired<const N: usize>(repaired: Repaired<N>, out: &mut [f64]) -> u32 {
+    match repaired {
         Err(regularize::RegularizationError::NonFiniteInput) => 3,
         Err(regularize::RegularizationError::EigendecompositionFailed) => 4,
         Ok(report) => {
             let (front, rest) = out.split_at_mut(N * N);
-            let bits: u32 = report.clipped_indices.iter().enumerate().map(|(k, clipped)| u32::from(*clipped) << k).sum();
+            let bits: u32 =
+                report.clipped_indices.iter().enumerate().map(|(k, clipped)| u32::from(*clipped) << k).sum();
             rest.copy_from_slice(&[report.n_clipped as f64, report.max_clip_magnitude, f64::from(bits)]);
             answer(front, report.cov.as_flattened())
         }
     }
 }
 
+fn psd<const N: usize>(g: &Given, out: &mut [f64]) -> u32 {
+    repaired(regularize::nearest_psd::<N>(matrix(g.slices[0]), g.number), out)
+}
+
+fn raised<const N: usize>(g: &Given, out: &mut [f64]) -> u32 {
+    repaired(regularize::eigenvalue_floor::<N>(matrix(g.slices[0]), g.number), out)
+}
+
+/// The vector, and after it the eigenvalue.
+fn eigenvector_max<const N: usize>(g: &Given, out: &mut [f64]) -> u32 {
+    let (vector, value) = generic::mat_eigenvector_max::<N>(matrix(g.slices[0]), g.max_iter as usize, g.tol);
+    let (front, rest) = out.split_at_mut(N);
+    rest[0] = value;
+    answer(front, &vector)
+}
+
+/// The matrix, and after it the condition numbers before and after.
+fn damping<const N: usize>(g: &Given, out: &mut [f64]) -> u32 {
+    let report = regularize::tikhonov_with_report::<N>(matrix(g.slices[0]), g.number);
+    let (front, rest) = out.split_at_mut(N * N);
+    rest.copy_from_slice(&[report.condition_number_before, report.condition_number_after]);
+    answer(front, report.cov.as_flattened())
+}
+
+theirs!(singular_value<N> g => [[generic::mat_largest_singular_value::<N>(
+    matrix(g.slices[0]),
+    g.max_iter as usize,
+    g.tol,
+)]]);
+theirs!(condition<N> g => [[generic::condition_number::<N>(matrix(g.slices[0]))]]);
 theirs!(norms<N> g => [generic::row_inf_norms::<f64, N>(matrix(g.slices[0]))]);
 theirs!(det<N> g => [[generic::mat_det::<N>(matrix(g.slices[0]))]]);
 
@@ -105,6 +141,19 @@ fn inv<const N: usize>(g: &Given, out: &mut [f64]) -> u32 {
 fn distance<const N: usize>(g: &Given, out: &mut [f64]) -> u32 {
     let d = generic::mahalanobis_distance_squared::<N>(vector(g.slices[0]), vector(g.slices[1]), matrix(g.slices[2]));
     d.map_or_else(|| unsolved::<N>(g.slices[2]), |d| answer(out, &[d]))
+}
+
+/// The squared distance of two tracks, with the states and then the covariances of i and j, under the repaired sum; the number is the floor.
+fn joint<const N: usize>(g: &Given, out: &mut [f64]) -> u32 {
+    let sum: Vec<f64> = g.slices[2].iter().zip(g.slices[3]).map(|(a, b)| a + b).collect();
+    match regularize::nearest_psd::<N>(matrix(&sum), g.number) {
+        Err(regularize::RegularizationError::NonFiniteInput) => 3,
+        Err(regularize::RegularizationError::EigendecompositionFailed) => 4,
+        Ok(repaired) => {
+            let cov = repaired.cov.as_flattened();
+            distance::<N>(&Given { slices: &[g.slices[1], g.slices[0], cov], number: 0.0, ..Given::default() }, out)
+        }
+    }
 }
 
 fn inv3(g: &Given, out: &mut [f64]) -> u32 {
@@ -270,6 +319,26 @@ pub mod at {
         orders!(psd)[s[0] - 1]
     }
 
+    pub fn eigenvalue_floor(s: &[usize]) -> Theirs {
+        orders!(raised)[s[0] - 1]
+    }
+
+    pub fn mat_eigenvector_max(s: &[usize]) -> Theirs {
+        orders!(eigenvector_max)[s[0] - 1]
+    }
+
+    pub fn mat_largest_singular_value(s: &[usize]) -> Theirs {
+        orders!(singular_value)[s[0] - 1]
+    }
+
+    pub fn condition_number(s: &[usize]) -> Theirs {
+        orders!(condition)[s[0] - 1]
+    }
+
+    pub fn tikhonov_with_report(s: &[usize]) -> Theirs {
+        orders!(damping)[s[0] - 1]
+    }
+
     pub fn row_inf_norms(s: &[usize]) -> Theirs {
         orders!(norms)[s[0] - 1]
     }
@@ -288,6 +357,10 @@ pub mod at {
 
     pub fn mahalanobis_distance_squared(s: &[usize]) -> Theirs {
         orders!(distance)[s[0] - 1]
+    }
+
+    pub fn joint_distance(s: &[usize]) -> Theirs {
+        orders!(joint)[s[0] - 1]
     }
 
     pub fn mat3_det(_: &[usize]) -> Theirs {

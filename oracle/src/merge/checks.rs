@@ -1,0 +1,128 @@
+//! What the second merger itself is held to: examples worked out by hand, and document 01's sentences on rows and counts.
+use super::cases::listed;
+use super::pairings::{by_order, by_size, by_trying, Candidate};
+use super::reference::{merge, Merged, Within, NONE};
+use crate::rng::Rng;
+
+/// Floor and gate of the program and of the examples.
+pub const WITHIN: Within = Within { floor: 1.0, gate: 16.0 };
+
+/// The lines that the program prints.
+pub fn text(answer: &Result<Merged, u32>) -> String {
+    let merged = match answer {
+        Ok(merged) => merged,
+        Err(number) => return format!("no {number}\n"),
+    };
+    let index = |i: u8| if i == NONE { "-".to_string() } else { i.to_string() };
+    let mut lines = String::new();
+    for [b, o, t, verdict] in &merged.rows {
+        lines.push_str(&format!("{} {} {} {verdict}\n", index(*b), index(*o), index(*t)));
+    }
+    lines + &format!("{} {} {}\n", merged.full, merged.half, merged.single)
+}
+
+/// Lists of dimension 1 by their states and variances, and the lines by hand.
+type Example = ([&'static [(f64, f64)]; 3], &'static str);
+
+const EXAMPLES: &[Example] = &[
+    // k of document 01.
+    (
+        [
+            &[(10.0, 1.0), (20.0, 1.0), (30.0, 1.0)],
+            &[(10.0, 1.0), (30.0, 1.0)],
+            &[(10.0, 1.0), (20.0, 1.0), (30.5, 1.0)],
+        ],
+        "0 0 0 0\n1 - 1 3\n2 1 2 2\n2 1 0\n",
+    ),
+    ([&[], &[], &[]], "0 0 0\n"),
+    // Paired crosswise, not by place; theirs is left with nobody near.
+    ([&[(10.0, 1.0), (20.0, 1.0)], &[(20.0, 1.0), (10.0, 1.0)], &[(60.0, 1.0)]], "0 1 - 3\n1 0 - 3\n- - 0 2\n0 2 1\n"),
+    // Ours 0 is as far from base 0 as from base 1, then theirs 0 as far as theirs 1: the lower place wins.
+    ([&[(0.0, 1.0), (4.0, 1.0)], &[(2.0, 1.0)], &[]], "0 0 - 4\n1 - - 3\n0 1 1\n"),
+    ([&[(4.0, 1.0)], &[], &[(6.0, 1.0), (2.0, 1.0)]], "0 - 0 4\n- - 1 2\n0 1 1\n"),
+    // Base 1 and ours 0 are nearest; base 0 is left with ours 1, at d² 8.
+    ([&[(0.0, 1.0), (3.0, 1.0)], &[(2.0, 1.0), (4.0, 1.0)], &[]], "0 1 - 4\n1 0 - 4\n0 2 0\n"),
+    // At the gate, d² 16, and past it.
+    ([&[(0.0, 0.5), (100.0, 0.5)], &[(4.0, 0.5), (104.25, 0.5)], &[]], "0 0 - 4\n1 - - 3\n- 1 - 1\n0 1 2\n"),
+    // Both sides changed base alike; both added one track alike, and one differently.
+    (
+        [&[(0.0, 1.0)], &[(1.0, 1.0), (50.0, 1.0), (90.0, 1.0)], &[(90.5, 1.0), (50.0, 1.0), (1.0, 1.0)]],
+        "0 0 2 1\n- 1 1 1\n- 2 0 4\n1 2 0\n",
+    ),
+    // Theirs stayed; both changed differently; a zero of the other sign is another record.
+    (
+        [
+            &[(0.0, 1.0), (50.0, 1.0), (90.0, 1.0)],
+            &[(1.0, 1.0), (51.0, 1.0), (90.0, 2.0)],
+            &[(0.0, 1.0), (52.0, 1.0), (90.0, 1.0)],
+        ],
+        "0 0 0 1\n1 1 1 4\n2 2 2 1\n3 0 0\n",
+    ),
+    ([&[(0.0, 1.0)], &[(-0.0, 1.0)], &[(0.0, 1.0)]], "0 0 0 1\n1 0 0\n"),
+    ([&[], &[(0.0, 1.0)], &[(-0.0, 1.0)]], "- 0 0 4\n0 1 0\n"),
+    // Theirs 1 is free of base and nearer to ours 0 than theirs 0, which base took; ours 0 is base's, too.
+    ([&[(0.0, 1.0)], &[(3.0, 1.0)], &[(0.5, 1.0), (3.0, 1.0)]], "0 0 0 4\n- - 1 2\n1 0 1\n"),
+    // The repair lifts a variance of 0 to the floor: d² 16, and 25 where it is 25 / 1.
+    ([&[(0.0, 0.0), (50.0, 0.0)], &[(4.0, 0.0), (55.0, 0.0)], &[]], "0 0 - 4\n1 - - 3\n- 1 - 1\n0 1 2\n"),
+];
+
+fn examples() {
+    for (lists, wanted) in EXAMPLES {
+        let lists = lists.map(|tracks| listed(&tracks.iter().map(|(x, p)| vec![*x, *p]).collect::<Vec<_>>(), 1));
+        let answer = merge([&lists[0], &lists[1], &lists[2]], WITHIN, 384, by_size);
+        assert!(text(&answer) == *wanted, "the second merger answers\n{}where it is\n{wanted}", text(&answer));
+    }
+}
+
+/// Candidates of few distances between few tracks: trying all pairings finds what their order gives.
+fn two_ways() {
+    let mut rng = Rng::new(31);
+    for _ in 0..20_000 {
+        let (m, n, distances) = (rng.below(5), rng.below(5), 1 + rng.below(5) as usize);
+        let mut candidates = Vec::new();
+        for (first, second) in (0..m as usize).flat_map(|i| (0..n as usize).map(move |j| (i, j))) {
+            if rng.below(4) != 0 {
+                let d2 = rng.one_of(&[-0.0, 0.0, 1.0, 2.0, 3.0][..distances]);
+                candidates.push(Candidate { d2, first, second });
+            }
+        }
+        let (mut tried, mut ordered) = (by_trying(candidates.clone()).pairs, by_order(candidates).pairs);
+        tried.sort_by_key(|pair| pair.first);
+        ordered.sort_by_key(|pair| pair.first);
+        assert!(tried == ordered, "two pairings: {tried:?} and {ordered:?}");
+    }
+}
+
+/// Every track of the three lists stands in exactly one row, and every index is a track's or 255; the rows' order; the
+/// counts; and the pairs that the rows show are the three pairings.
+pub fn whole(merged: &Merged, counts: [usize; 3]) {
+    let Merged { rows, full, half, single, pairings } = merged;
+    for (list, count) in counts.into_iter().enumerate() {
+        let mut indices: Vec<u8> = rows.iter().map(|row| row[list]).filter(|i| *i != NONE).collect();
+        indices.sort_unstable();
+        assert!(indices.into_iter().eq((0..count).map(|i| i as u8)), "list {list}: not each track once in {rows:?}");
+    }
+    let group = |row: &[u8; 4]| row[..3].iter().position(|i| *i != NONE).expect("a row without a track");
+    let places: Vec<(usize, u8)> = rows.iter().map(|row| (group(row), row[group(row)])).collect();
+    assert!(places.is_sorted(), "the rows' order: {rows:?}");
+    assert!(rows.iter().all(|row| row[3] <= 4));
+    assert!(full + half + single == rows.len());
+    assert!(3 * full + 2 * half + single == counts.iter().sum());
+    let shown = |first: usize, second: usize, among: fn(&[u8; 4]) -> bool| -> Vec<(usize, usize)> {
+        let pairs = rows.iter().filter(|row| among(row) && row[first] != NONE && row[second] != NONE);
+        pairs.map(|row| (row[first] as usize, row[second] as usize)).collect()
+    };
+    let three = [shown(0, 1, |_| true), shown(0, 2, |_| true), shown(1, 2, |row| row[0] == NONE)];
+    for (mut shown, pairing) in three.into_iter().zip(pairings) {
+        let mut pairs: Vec<(usize, usize)> = pairing.pairs.iter().map(|pair| (pair.first, pair.second)).collect();
+        shown.sort_unstable();
+        pairs.sort_unstable();
+        assert!(shown == pairs, "the rows show {shown:?}, paired are {pairs:?}");
+    }
+}
+
+pub fn run() {
+    examples();
+    two_ways();
+    println!("second merger: {} examples by hand, 20,000 pairings found in two ways", EXAMPLES.len());
+}
