@@ -1,18 +1,33 @@
-//! Times of the library's calls beside the Rust's, in one run: the ratio is what counts.
+//! Times of the library's calls beside the Rust's, in one run: the ratio is what counts. A word names a topic to run alone.
+mod comparisons;
 mod lists;
 mod matrix;
+mod merging;
 mod pairing;
+mod power;
 mod root;
 mod timer;
 
-use std::fs;
+use std::{env, fs};
 
 fn main() {
     let about = fs::read_to_string("/proc/cpuinfo").unwrap_or_default();
     let model = about.lines().find_map(|line| line.strip_prefix("model name")?.split_once(": "));
     println!("machine: {}", model.map_or("unknown", |(_, name)| name));
-    root::run();
-    matrix::run();
-    lists::run();
-    pairing::run();
+    let words: Vec<String> = env::args().skip(1).collect();
+    let topics: [(&str, fn()); 8] = [
+        ("root", root::run),
+        ("matrix", matrix::run),
+        ("rotating", matrix::run_rotating),
+        ("power", power::run),
+        ("comparisons", comparisons::run),
+        ("lists", lists::run),
+        ("pairing", pairing::run),
+        ("merging", merging::run),
+    ];
+    for (topic, run) in topics {
+        if words.is_empty() || words.iter().any(|word| word == topic) {
+            run();
+        }
+    }
 }

@@ -9,15 +9,15 @@ use std::hint::black_box;
 const MATRICES: usize = 64;
 const TIMES: usize = 20;
 
-struct Case<const N: usize> {
-    a: [[f64; N]; N],
-    b: [[f64; N]; N],
-    x: [f64; N],
-    y: [f64; N],
+pub struct Case<const N: usize> {
+    pub a: [[f64; N]; N],
+    pub b: [[f64; N]; N],
+    pub x: [f64; N],
+    pub y: [f64; N],
 }
 
 /// Symmetric matrices with a heavy diagonal, so that no call refuses.
-fn cases<const N: usize>() -> Vec<Case<N>> {
+pub fn cases<const N: usize>() -> Vec<Case<N>> {
     let mut rng = Rng::new(17);
     let mut matrix = || {
         let mut m = [[0.0; N]; N];
@@ -33,7 +33,7 @@ fn cases<const N: usize>() -> Vec<Case<N>> {
 }
 
 /// Times a call beside the source's function on the same cases.
-fn compare<const N: usize, R>(
+pub fn compare<const N: usize, R>(
     name: &str,
     cases: &[Case<N>],
     mut ours: impl FnMut(&Case<N>) -> u32,
@@ -146,12 +146,18 @@ fn order<const N: usize>() {
     );
 }
 
-/// The calls that rotate, on covariances B Bᵀ.
-fn rotating<const N: usize>() {
+/// Covariances B Bᵀ.
+pub fn covariances<const N: usize>() -> Vec<Case<N>> {
     let mut cases = cases::<N>();
     for case in &mut cases {
         case.a = generic::mat_mul(&case.b, &generic::mat_transpose(&case.b));
     }
+    cases
+}
+
+/// The calls that rotate, on covariances.
+fn rotating<const N: usize>() {
+    let cases = covariances::<N>();
     let mut memory = [[0.0; N]; N];
     let matrix = black_box(memory.as_flattened_mut());
     let mut vector = [0.0; N];
@@ -161,6 +167,14 @@ fn rotating<const N: usize>() {
         &cases,
         |c| ffi::mat_symmetric_eigen(c.a.as_flattened(), N, vector, matrix),
         |c| generic::mat_symmetric_eigen(&c.a),
+    );
+    let mut report = ffi::Report { count: 0, clip: 0.0, mask: 0 };
+    let report = black_box(&mut report);
+    compare(
+        "nearest_psd",
+        &cases,
+        |c| ffi::nearest_psd(c.a.as_flattened(), 1.0, N, matrix, report),
+        |c| regularize::nearest_psd(&c.a, 1.0),
     );
 }
 
@@ -190,6 +204,10 @@ pub fn run() {
     order::<6>();
     order::<9>();
     order::<16>();
+}
+
+/// The calls that rotate, by themselves.
+pub fn run_rotating() {
     rotating::<1>();
     rotating::<2>();
     rotating::<3>();
