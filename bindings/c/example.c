@@ -1,0 +1,68 @@
+/* Case k of document 01 from C: three lists are written, merged and shown, and the winning records' places are told.
+ *
+ *     cc -Wall -Wextra -Werror -I include bindings/c/example.c target/staticlib/libcapi.a -o example && ./example
+ */
+#include <pelosumba.h>
+#include <stdio.h>
+
+enum { ROOM = 14050, TRACKS = 3, ROWS = 4 * 96 };
+
+static const char *const VERDICTS[] = {"keep", "take ours", "take theirs", "deleted", "conflict"};
+
+/* A list of dimension 1 with variances of 1, and its length. */
+static size_t write_list(const double *states, size_t count, uint8_t *list)
+{
+    double values[2 * TRACKS];
+    size_t length = 0;
+    for (size_t i = 0; i < count; i++) {
+        values[2 * i] = states[i];
+        values[2 * i + 1] = 1.0;
+    }
+    uint32_t question = pel_write_list(count, 1, values, 2 * count, list, ROOM, &length);
+    if (question != 0) {
+        printf("no %u\n", (unsigned)question);
+    }
+    return length;
+}
+
+static void show_index(uint8_t index)
+{
+    if (index == 255) {
+        printf("  -");
+    } else {
+        printf("%3u", (unsigned)index);
+    }
+}
+
+int main(void)
+{
+    static uint8_t base[ROOM], ours[ROOM], theirs[ROOM];
+    const size_t base_len = write_list((const double[]){10.0, 20.0, 30.0}, 3, base);
+    const size_t ours_len = write_list((const double[]){10.0, 30.0}, 2, ours);
+    const size_t theirs_len = write_list((const double[]){10.0, 20.0, 30.5}, 3, theirs);
+
+    uint8_t rows[ROWS];
+    size_t full, half, single;
+    const uint32_t question = pel_merge(base, base_len, ours, ours_len, theirs, theirs_len, 1.0, 16.0, rows, sizeof rows,
+                                        &full, &half, &single);
+    if (question != 0) {
+        printf("no %u\n", (unsigned)question);
+        return 1;
+    }
+    for (size_t r = 0; r < full + half + single; r++) {
+        const uint8_t *row = rows + 4 * r;
+        uint32_t list;
+        size_t start, length;
+        pel_winner(ours, ours_len, theirs, theirs_len, row, 4, &list, &start, &length);
+        show_index(row[0]);
+        show_index(row[1]);
+        show_index(row[2]);
+        printf("  %s", VERDICTS[row[3]]);
+        if (list != 0) {
+            printf(", %zu bytes of %s from %zu on", length, list == 1 ? "ours" : "theirs", start);
+        }
+        printf("\n");
+    }
+    printf("%zu of three tracks, %zu of two, %zu of one\n", full, half, single);
+    return 0;
+}

@@ -1,0 +1,67 @@
+//! Track lists.
+use crate::{ffi, Refusal};
+
+/// The bytes of the largest list, and the values of one.
+const LARGEST: usize = 14_050;
+const VALUES: usize = 32 * 54;
+
+/// A track: its state, and the lower triangle of its covariance row by row.
+#[derive(Clone, Debug, PartialEq)]
+pub struct Track {
+    pub state: Vec<f64>,
+    pub triangle: Vec<f64>,
+}
+
+/// A list that was accepted: its bytes, and what they hold.
+#[derive(Clone, Debug, PartialEq)]
+pub struct List {
+    bytes: Vec<u8>,
+    dimension: usize,
+    tracks: Vec<Track>,
+}
+
+impl List {
+    /// Reads a list.
+    pub fn read(bytes: &[u8]) -> Result<List, Refusal> {
+        let mut values = [0.0; VALUES];
+        let (count, dimension) = ffi::read_list(bytes, &mut values)?;
+        let fields = dimension + dimension * (dimension + 1) / 2;
+        let track = |fields: &[f64]| {
+            let (state, triangle) = fields.split_at(dimension);
+            Track { state: state.to_vec(), triangle: triangle.to_vec() }
+        };
+        let tracks = values[..count * fields].chunks_exact(fields).map(track).collect();
+        Ok(List { bytes: bytes.to_vec(), dimension, tracks })
+    }
+
+    /// Writes tracks of a dimension as a list. A track of another dimension is refused with 2.
+    pub fn write(dimension: usize, tracks: &[Track]) -> Result<List, Refusal> {
+        let fields = |track: &Track| [&track.state[..], &track.triangle].concat();
+        let values: Vec<f64> = tracks.iter().flat_map(fields).collect();
+        let mut bytes = vec![0; LARGEST];
+        let length = ffi::write_list(tracks.len(), dimension, &values, &mut bytes)?;
+        List::read(&bytes[..length])
+    }
+
+    pub fn bytes(&self) -> &[u8] {
+        &self.bytes
+    }
+
+    pub fn dimension(&self) -> usize {
+        self.dimension
+    }
+
+    pub fn tracks(&self) -> &[Track] {
+        &self.tracks
+    }
+
+    /// The tracks' own bytes, one record after the other.
+    pub fn records(&self) -> impl Iterator<Item = &[u8]> {
+        let mut at = 2;
+        std::iter::from_fn(move || {
+            let (start, length) = ffi::record(&self.bytes, at);
+            at = start + length;
+            (length != 0).then(|| &self.bytes[start..start + length])
+        })
+    }
+}

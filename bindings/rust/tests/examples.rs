@@ -1,0 +1,108 @@
+//! Document 01's examples, and refusals, through the crate.
+use pelosumba::kernel::{self, Comparison};
+use pelosumba::{merge, winner, List, Track, Verdict};
+
+fn list(states: &[f64]) -> List {
+    let track = |x: &f64| Track { state: vec![*x], triangle: vec![1.0] };
+    List::write(1, &states.iter().map(track).collect::<Vec<_>>()).expect("a list")
+}
+
+#[test]
+fn roots() {
+    assert_eq!(kernel::sqrt(2.0).to_bits(), 0x3FF6A09E667F3BCD);
+    assert_eq!(kernel::sqrt(f64::MAX).to_bits(), 0x5FEFFFFFFFFFFFFF);
+    assert_eq!(kernel::sqrt(-0.0).to_bits(), (-0.0f64).to_bits());
+}
+
+#[test]
+fn eigenpairs_and_repair() {
+    let (mut values, mut vectors) = ([0.0; 2], [0.0; 4]);
+    kernel::mat_symmetric_eigen(&[2.0, 1.0, 1.0, 2.0], 2, &mut values, &mut vectors).unwrap();
+    assert_eq!(values, [3.0, 1.0]);
+    let mut out = [7.0; 4];
+    let report = kernel::nearest_psd(&[1.0, 0.0, 0.0, -2.0], 0.0, 2, &mut out).unwrap();
+    assert_eq!((out, report.n_clipped, report.max_clip_magnitude), ([1.0, 0.0, 0.0, 0.0], 1, 2.0));
+    let report = kernel::nearest_psd(&[-3.0, 0.0, 0.0, 5.0], 1.0, 2, &mut out).unwrap();
+    assert_eq!((out, report.clipped_indices[0], report.clipped_indices[1]), ([1.0, 0.0, 0.0, 5.0], false, true));
+    assert_eq!(report.max_clip_magnitude, 4.0);
+}
+
+#[test]
+fn solutions() {
+    let mut x = [7.0; 2];
+    kernel::mat_solve(&[0.0, 1.0, 2.0, 0.0], &[3.0, 4.0], 2, &mut x).unwrap();
+    assert_eq!(x, [2.0, 3.0]);
+    assert_eq!(kernel::mat_det(&[0.0, 1.0, 2.0, 0.0], 2).unwrap(), -2.0);
+    kernel::mat_solve(&[2.0, 1048576.0, 1.0, 1.0], &[1048578.0, 2.0], 2, &mut x).unwrap();
+    assert_eq!(x, [1.0, 1.0]);
+    let mut out = [7.0; 4];
+    assert_eq!(kernel::mat_inv(&[1.0, 2.0, 2.0, 4.0], 2, &mut out).unwrap_err().number(), 6);
+    assert_eq!(out, [7.0; 4]);
+    assert_eq!(kernel::mat_det(&[1.0, 2.0, 2.0, 4.0], 2).unwrap(), 0.0);
+    assert_eq!(kernel::mat_inv(&[1e-151], 1, &mut out[..1]).unwrap_err().number(), 5);
+    kernel::mat_cholesky(&[4.0, 9.0, 2.0, 5.0], 2, &mut out).unwrap();
+    assert_eq!(out, [2.0, 0.0, 1.0, 2.0]);
+    assert_eq!(kernel::mat_cholesky(&[0.0], 1, &mut out[..1]).unwrap_err().number(), 7);
+}
+
+#[test]
+fn lists() {
+    assert_eq!(List::read(&[1, 1, 6]).unwrap_err().number(), 13);
+    assert_eq!(List::read(&[]).unwrap_err().to_string(), "no 9: are there two bytes?");
+    let bytes = [1, 1, 2, 0, 0, 0, 0, 0, 0, 0xF0, 0x3F];
+    let one = List::read(&bytes).unwrap();
+    assert_eq!(one.tracks(), [Track { state: vec![0.0], triangle: vec![1.0] }]);
+    assert_eq!(List::write(1, one.tracks()).unwrap().bytes(), bytes);
+    assert_eq!(one.records().collect::<Vec<_>>(), [&bytes[2..]]);
+    assert_eq!(List::write(2, one.tracks()).unwrap_err().number(), 2);
+}
+
+#[test]
+fn case_k() {
+    let (base, ours, theirs) = (list(&[10.0, 20.0, 30.0]), list(&[10.0, 30.0]), list(&[10.0, 20.0, 30.5]));
+    let merged = merge(&base, &ours, &theirs, 1.0, 16.0).unwrap();
+    let rows: Vec<[u8; 4]> = merged.rows.iter().map(|row| row.bytes()).collect();
+    assert_eq!(rows, [[0, 0, 0, 0], [1, 255, 1, 3], [2, 1, 2, 2]]);
+    assert_eq!((merged.full, merged.half, merged.single), (2, 1, 0));
+    assert_eq!(merged.rows[1].ours, None);
+    assert_eq!(merged.rows[2].verdict, Verdict::TakeTheirs);
+    assert_eq!(winner(&ours, &theirs, &merged.rows[2]), theirs.records().nth(2));
+    assert_eq!(winner(&ours, &theirs, &merged.rows[0]), None);
+}
+
+#[test]
+fn refusals() {
+    let one = list(&[10.0]);
+    let flat = List::write(2, &[]).unwrap();
+    assert_eq!(merge(&one, &one, &flat, 1.0, 16.0).unwrap_err().number(), 17);
+    assert_eq!(merge(&one, &one, &one, 0.0, 16.0).unwrap_err().number(), 18);
+    assert_eq!(merge(&one, &one, &one, 1.0, f64::NAN).unwrap_err().number(), 18);
+    let near = kernel::compare([&[10.0], &[11.0]], [&[1.0], &[1.0]], 1, 1.0, 16.0).unwrap();
+    assert_eq!(near, Comparison::Near(0.5));
+}
+
+#[test]
+fn every_kind_of_call() {
+    let a = [4.0, 2.0, 2.0, 3.0];
+    let mut out = [7.0; 4];
+    kernel::mat_mul(&a, &a, 2, 2, 2, &mut out).unwrap();
+    assert_eq!(out, [20.0, 14.0, 14.0, 13.0]);
+    kernel::mat_ata(&a, 2, 2, &mut out).unwrap();
+    assert_eq!(out, [20.0, 14.0, 14.0, 13.0]);
+    kernel::mat_vec_mul(&a, &[1.0, 2.0], 2, &mut out[..2]).unwrap();
+    assert_eq!(out[..2], [8.0, 8.0]);
+    kernel::tikhonov(&a, 0.5, 2, &mut out).unwrap();
+    assert_eq!(out, [4.5, 2.0, 2.0, 3.5]);
+    assert_eq!(kernel::mat_trace(&a, 2).unwrap(), 7.0);
+    assert_eq!(kernel::mat_quadratic_form(&[1.0, 2.0], &a, 2).unwrap(), 24.0);
+    assert_eq!(kernel::mat_frobenius(&[3.0, 4.0], 1, 2).unwrap(), 5.0);
+    assert_eq!(kernel::condition_number(&[5.0], 1).unwrap(), f64::INFINITY);
+    assert_eq!(kernel::mat3_det(&[2.0, 0.0, 0.0, 0.0, 3.0, 0.0, 0.0, 0.0, 4.0]).unwrap(), 24.0);
+    let lambda = kernel::mat_eigenvector_max(&[2.0, 0.0, 0.0, 2.0], 2, 0, 1e-9, &mut out[..2]).unwrap();
+    assert!((lambda - 2.0).abs() < 1e-12);
+    let (before, after) = kernel::tikhonov_with_report(&a, 0.0, 2, &mut out).unwrap();
+    assert_eq!(before, after);
+    assert_eq!(kernel::max(f64::NAN, 1.0), 1.0);
+    assert_eq!(kernel::mat_mul(&a, &a, 2, 2, 17, &mut out).unwrap_err().number(), 1);
+    assert_eq!(kernel::mat_mul(&a, &a[..3], 2, 2, 2, &mut out).unwrap_err().number(), 2);
+}
