@@ -20,7 +20,7 @@ use Rattle.merge.specs.Demand3.{tracksIn, howMany}
 use Rattle.merge.specs.Steps.{held, Located, Compares, Appended, mergeThree}
 use Rattle.merge.specs.declared.Merged.{Merged}
 use Rattle.merge.specs.declared.Merged.the-variants as Merged
-use Rattle.merge.proofs.Groups.{length-rows}
+use Rattle.merge.proofs.Bytes.{rows-length}
 use Rattle.merge.proofs.Totals.{rows-with}
 use Rattle.merge.proofs.Writing.{rows-room}
 
@@ -96,4 +96,4 @@ module _ (b o t : TrackList) (floor gate : Float) (old : List ℕ) where
   unfolding mergedRows
   rows-few =
       let p = pairingsOf b o t floor gate in
-      omega (arith, rows-room (verdictOn b o t) p (trackCount b) (trackCount o) (trackCount t), length-rows (mergedRows b o t floor gate))
+      omega (arith, rows-room (verdictOn b o t) p (trackCount b) (trackCount o) (trackCount t), rows-length (mergedRows b o t floor gate))

@@ -12,23 +12,19 @@ use Rattle.kernel.specs.Lists.{over, tabulate}
 use Rattle.kernel.proofs.Lists.{length-over, over-none, over-over}
 use Rattle.tracks.proofs.Lists.{flatMap-append}
 use Rattle.kernel.proofs.Lists.{length-tabulate, tabulate-more}
+use Rattle.merge.proofs.Bytes.{rows-length}
 use Rattle.merge.proofs.Writing.{selected-few}
 use Rattle.merge.specs.Rows.{Row, rowBytes, verdict, Equal, selected}
 use Rattle.merge.specs.Demand3.{howMany}
 use Rattle.merge.specs.Steps.{rowsBytes, onlyIf, Appended}
 
-pub length-rows : (rows : List Row) → length (rowsBytes rows) ≡ 4 * length rows
-unfolding flatMap
-length-rows [] = refl
-length-rows (w ∷ rows) = omega (arith, length-rows rows)
-
 pub appended-length : {rows : List Row} {at r : ℕ} {old new : List ℕ} → Appended rows at old r new → 4 * (at + length rows) ≤ length old → length new ≡ length old
-appended-length {rows} {at} {r} {old} a h = ap length (a .bytes) ∙ length-over old (4 * at) (rowsBytes rows) (omega (arith, length-rows rows))
+appended-length {rows} {at} {r} {old} a h = ap length (a .bytes) ∙ length-over old (4 * at) (rowsBytes rows) (omega (arith, rows-length rows))
 
 pub appended-more : (rows more : List Row) {at r x : ℕ} {old new newer : List ℕ} → Appended rows at old r new → 4 * (at + length rows) ≤ length old → Appended more r new x newer
     → Appended (rows ++ more) at old x newer
 appended-more rows more {at} {r} {x} {old} {new} a h b =
-    let n = length-rows rows in
+    let n = rows-length rows in
     record {
       next = omega (arith, a .next, b .next, length-append rows more);
       bytes =

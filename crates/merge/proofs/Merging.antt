@@ -19,7 +19,7 @@ use Rattle.merge.specs.Merge.{partnersIn, pairingsOf, mergedRows}
 use Rattle.merge.specs.Demand3.{TrackOrNone}
 use Rattle.merge.specs.Steps.{held, Index, Lists, Read, OneDimension, Sizes, Tables, pairingsIn, pairedValues}
 use Rattle.merge.proofs.Candidates.{candidates-ordered, among-ordered}
-use Rattle.merge.proofs.Located.{few-tracks}
+use Rattle.merge.proofs.Located.{few-located}
 use Rattle.merge.proofs.Partners.{tabled, first-index}
 use Rattle.merge.proofs.Paired.{Holds, paired-values, firsts-long, seconds-long}
 use Rattle.merge.proofs.Readings.{values-few}
@@ -28,7 +28,7 @@ use Rattle.merge.proofs.Readings.{values-few}
 
 module _ {l offsets : List ℕ} {values : List Float} {n : ℕ} (r : Read l offsets values n) where
   pub few-read : n ≤ 32
-  few-read = omega (arith, r .number, few-tracks (r .located))
+  few-read = omega (arith, r .number, few-located (r .located))
 
   module _ {d f : ℕ} (e : d ≡ held l .dimension) (g : f ≡ fields d) where
     size : f ≡ fields (held l .dimension)
@@ -104,9 +104,9 @@ module _ {base base-offsets ours ours-offsets theirs theirs-offsets : List ℕ} 
             theirs-base-long = ap (λ (p : Pairings). length (p .baseTheirs .seconds)) e ∙ seconds-long bt ∙ sym (rt .number);
             ours-theirs-long = ap length of-ot ∙ firsts-long kept ∙ sym (ro .number);
             theirs-ours-long = ap (λ (p : Pairings). length (p .oursTheirs .seconds)) e ∙ seconds-long kept ∙ sym (rt .number);
-            of-base-ours = λ x h. partners ours bo (candidates-ordered (held base) (held ours) floor gate) (few-tracks (rb .located)) base-ours of-bo refl x (omega (arith, rb .number));
-            of-base-theirs = λ x h. partners theirs bt (candidates-ordered (held base) (held theirs) floor gate) (few-tracks (rb .located)) base-theirs of-bt refl x (omega (arith, rb .number));
-            of-ours-theirs = λ x h. partners theirs kept kept-ordered (few-tracks (ro .located)) ours-theirs of-ot refl x (omega (arith, ro .number));
+            of-base-ours = λ x h. partners ours bo (candidates-ordered (held base) (held ours) floor gate) (few-located (rb .located)) base-ours of-bo refl x (omega (arith, rb .number));
+            of-base-theirs = λ x h. partners theirs bt (candidates-ordered (held base) (held theirs) floor gate) (few-located (rb .located)) base-theirs of-bt refl x (omega (arith, rb .number));
+            of-ours-theirs = λ x h. partners theirs kept kept-ordered (few-located (ro .located)) ours-theirs of-ot refl x (omega (arith, ro .number));
           }
 
       pub rows-of : rowsOf (verdictOn (held base) (held ours) (held theirs)) (pairingsIn base-ours ours-base base-theirs theirs-base ours-theirs theirs-ours) m n l

@@ -1,11 +1,9 @@
 -- An accepted list has at most 32 tracks (`few-tracks`). What code reads of a track is the track: `values-read`, its part of the values that `read_list` leaves; `records-compared`,
--- the test on its own bytes; `verdict-alike`, that a verdict does not look at equalities with a track that is not there.
+-- the test on its own bytes.
 use Prim.Native.Nat.{ℕ, _+_, _*_, _<_, _≤_}
 use native.Mathlib.Omega.{arith}
-use mathlib.Core.Path.{_≡_, refl, sym, ap, _∙_}
-use mathlib.Core.Bool.{Bool, true, false}
+use mathlib.Core.Path.{_≡_, sym, ap, _∙_}
 use mathlib.Core.List.{List, []}
-use lib.Dec.{T}
 use lib.Ieee.{Float, binary64, ofBits}
 use lib.ListN.{length, getD, take, drop, length-map, length-drop}
 use lib.Seq.{take-append-le, drop-append-le}
@@ -26,7 +24,6 @@ use Rattle.tracks.proofs.RoundTrip.{accepted-fit, joined-fit}
 use Rattle.tracks.proofs.RecordParts.{equal-records}
 use Rattle.pairing.proofs.Tests.{alike, is-true}
 use Rattle.merge.specs.Tracks.{trackCount, trackAt, equalTracks}
-use Rattle.merge.specs.Rows.{Equal, verdict}
 use Rattle.merge.proofs.Meaning.{equal-fields}
 
 pub few-tracks : (l : List ℕ) (c : TrackList) → contents l ≡ answered c → trackCount c ≤ 32
@@ -62,16 +59,3 @@ records-compared l m hl hm c d p q same j k lj lk =
     let w = equal-records l m hl hm c d p q same j k lj lk in
     let test = sameBytes (recordAt l (offset l j)) (recordAt m (offset m k)) in
     alike test (equalTracks c j d k) (λ t. equal-fields c d j k .1 (w .0 (is-true test t))) (λ t. rw (w .1 (equal-fields c d j k .0 t)) tt)
-
--- equalities with a track that is not there do not matter
-pub verdict-alike : (x y z : Bool) (e f : Equal) → (T x → T y → e .oursBase ≡ f .oursBase) → (T x → T z → e .theirsBase ≡ f .theirsBase) → (T y → T z → e .oursTheirs ≡ f .oursTheirs)
-    → verdict x y z e ≡ verdict x y z f
-unfolding verdict
-verdict-alike true true true e f p q r = rw (p tt tt, q tt tt, r tt tt) refl
-verdict-alike true true false e f p q r = rw (p tt tt) refl
-verdict-alike true false true e f p q r = rw (q tt tt) refl
-verdict-alike true false false e f p q r = refl
-verdict-alike false true true e f p q r = rw (r tt tt) refl
-verdict-alike false true false e f p q r = refl
-verdict-alike false false true e f p q r = refl
-verdict-alike false false false e f p q r = refl

@@ -10,7 +10,7 @@ use mathlib.Core.List.{List}
 use Rattle.tracks.specs.Record.{offset, recordAt, sameBytes}
 use Rattle.merge.specs.Tracks.{trackCount}
 use Rattle.merge.specs.Steps.{held, Index}
-use Rattle.merge.proofs.Located.{same-tracks}
+use Rattle.merge.proofs.Tracks.{records-compared}
 use Rattle.merge.proofs.parts.same_tracks.Statement.{statement}
 use Rattle.merge.proofs.parts.same_tracks.Tie as tie
 
@@ -52,8 +52,9 @@ returns-3 c =
     (c .same-record .ensures
     ∙ ap (λ (u : List ℕ). sameBytes u (now (c .before .track-part2 .result))) (c .before .before .track-part .ensures .0)
     ∙ ap (sameBytes (recordAt (now (x .a)) (offset (now (x .a)) (x .i)))) (c .before .track-part2 .ensures .0)
-    ∙ same-tracks (λ n. omega (arith, k .before .before .before .shared-slice-known .given n)) (λ n. omega (arith, k .before .shared-slice-known3 .given n))
-    (s .pre .0) (s .pre .2) (s .pre .4) (x .i) (x .j) (first e) (second e))
+    ∙ records-compared (now (x .a)) (now (x .b)) (λ n. omega (arith, k .before .before .before .shared-slice-known .given n))
+    (λ n. omega (arith, k .before .shared-slice-known3 .given n)) (held (now (x .a))) (held (now (x .b))) (s .pre .0 .accepted) (s .pre .2 .accepted) (s .pre .4) (x .i) (x .j)
+    (first e) (second e))
 
 pub same-tracks-spec : {M : Type 1} → statement M
 same-tracks-spec = tie.close (tie.spec returns returns-2 part-requires part-requires-2 (λ c κs. search needs) returns-3)

@@ -8,24 +8,24 @@ use Rattle.tracks.specs.Layout.{part}
 use Rattle.tracks.specs.Record.{offset}
 use Rattle.tracks.proofs.Walk.{record-part}
 use Rattle.merge.specs.Steps.{held}
-use Rattle.merge.proofs.Located.{few-tracks, starts, ends, bounds}
+use Rattle.merge.proofs.Located.{few-located, starts, ends, bounds}
 use Rattle.merge.proofs.parts.track_part.Statement.{statement}
 use Rattle.merge.proofs.parts.track_part.Tie as tie
 
 mul-start : tie.Need-mul-start
-mul-start c = omega (arith, few-tracks (c .pre .0))
+mul-start c = omega (arith, few-located (c .pre .0))
 
 read-start : tie.Need-shared-slice-read-start
-read-start c = omega (arith, few-tracks (c .before .pre .0), c .before .pre .0 .room)
+read-start c = omega (arith, few-located (c .before .pre .0), c .before .pre .0 .room)
 
 add-end : tie.Need-add-end
-add-end c = omega (arith, few-tracks (c .before .pre .0))
+add-end c = omega (arith, few-located (c .before .pre .0))
 
 mul-end : tie.Need-mul-end
-mul-end c = omega (arith, few-tracks (c .before .pre .0))
+mul-end c = omega (arith, few-located (c .before .pre .0))
 
 read-end : tie.Need-shared-slice-read-end
-read-end c = omega (arith, few-tracks (c .before .before .pre .0), c .before .before .pre .0 .room)
+read-end c = omega (arith, few-located (c .before .before .pre .0), c .before .before .pre .0 .room)
 
 between : tie.Need-sub-result
 between c = let p = c .before .before .pre in omega (arith, bounds (p .0) (p .1))

@@ -12,7 +12,7 @@ use Rattle.tracks.specs.Record.{offset}
 use Rattle.merge.specs.Tracks.{trackCount}
 use Rattle.merge.specs.Steps.{held, Located}
 use Rattle.merge.specs.declared.winner.Place.the-variants.{At}
-use Rattle.merge.proofs.Located.{few-tracks, starts}
+use Rattle.merge.proofs.Located.{few-located, starts}
 use Rattle.merge.proofs.Winning.{list-located, list-refused, place-refused, place-other-refused, place-missing, place-there}
 use Rattle.merge.proofs.winner.place_in.Statement.{statement}
 use Rattle.merge.proofs.winner.place_in.Tie as tie
@@ -59,10 +59,10 @@ track-part-requires : tie.Need-track-part-requires
 track-part-requires c κs = (located (read (c .before .before)) .0, there (c .before))
 
 mul-start : tie.Need-mul-t19
-mul-start c = let e = c .before .before in omega (arith, there e, few-tracks (located (read (e .before)) .0))
+mul-start c = let e = c .before .before in omega (arith, there e, few-located (located (read (e .before)) .0))
 
 read-start : tie.Need-array-read-t22
-read-start c = let e = c .before .before in omega (arith, there e, few-tracks (located (read (e .before)) .0))
+read-start c = let e = c .before .before in omega (arith, there e, few-located (located (read (e .before)) .0))
 
 returns-2 : tie.Need-returns-2
 returns-2 c =
