@@ -1,5 +1,5 @@
 -- The candidates of two lists and their keys. `near-number`: a pair has a key exactly if it is near. `keys-agree`: the candidates are those of the keys, in the same order, so
--- they are ordered (`candidates-ordered`, `among-ordered`) and the partners by key are theirs (`keyed-partners`, `all-keyed-partners`); so for the three pairings (`pairings-keyed`).
+-- they are ordered (`candidates-ordered`, `among-ordered`) and the partners by key are theirs (`keyed-partners`, `all-keyed-partners`).
 use Prim.Native.Nat.{ℕ, _<_}
 use mathlib.Core.Path.{_≡_, refl, sym, ap, subst, _∙_}
 use mathlib.Core.Bool.{Bool, true, false, not, _&&_, cond}
@@ -9,20 +9,19 @@ use lib.Ieee.{Float, nan, inf, fin, isNan, lt, le}
 use borrow.Author.Tests.{ltb-true}
 use Rattle.kernel.specs.Answer.{Outcome, refused, answered}
 use Rattle.kernel.specs.Constants.{nought}
-use Rattle.dense.proofs.Laws.{at-matrix, matrix-ext}
+use Rattle.dense.proofs.Laws.{at-matrix}
 use Rattle.tracks.specs.Read.{TrackList}
 use Rattle.compare.specs.Distance.{placed, placedIf, squaredDistance, compared}
 use Rattle.compare.specs.declared.Comparison.the-variants.{Near, Far, NoDistance}
 use Rattle.pairing.specs.Pairing.{Pair, has, In, Candidates, Ordered}
 use Rattle.pairing.specs.Keys.{keyOf, byKey, fromKeys, firstPartners, secondPartners}
-use Rattle.pairing.specs.Search.{isFree}
 use Rattle.pairing.proofs.Tests.{left, right, is-true}
 use Rattle.pairing.proofs.Keys.{ordered}
 use Rattle.pairing.proofs.Agreeing.{Agreeing, agreeing-ordered, agreeing-firsts, agreeing-seconds}
 use Rattle.merge.specs.Tracks.{trackCount}
 use Rattle.merge.specs.Candidates.{comparison, isNear, nearSquare, byDistance, candidatesOf, among, everyone, keysAmong}
 use Rattle.merge.specs.Rows.{Partners}
-use Rattle.merge.specs.Merge.{partnersIn, pairingsOf}
+use Rattle.merge.specs.Merge.{partnersIn}
 
 -- the partners by key, as `pair_tracks` writes them
 abbrev pub byKeys : TrackList → TrackList → Float → Float → (ℕ → Bool) → (ℕ → Bool) → Partners
@@ -89,12 +88,6 @@ module _ (a b : TrackList) (floor gate : Float) where
         go true false e f = refl
         go false y e f = refl
 
-    -- keys of which tracks are kept alike
-    pub keys-alike : (first' second' : ℕ → Bool) → ((i : ℕ) → i < trackCount a → first i ≡ first' i) → ((j : ℕ) → j < trackCount b → second j ≡ second' j)
-        → keys ≡ keysAmong a b floor gate first' second'
-    unfolding keysAmong
-    keys-alike first' second' f g = matrix-ext (trackCount a) (trackCount b) _ _ (λ i j h k. rw (f i h, g j k) refl)
-
     -- the key of a candidate
     key-of : (p : Pair) → In (kept .candidate) p → keyOf keys (trackCount b) p ≡ nearSquare (comparison a b floor gate (p .first) (p .second))
     key-of p t =
@@ -147,24 +140,3 @@ module _ (a b : TrackList) (floor gate : Float) where
 
   pub all-keyed-partners : partnersIn (candidatesOf a b floor gate) ≡ byKeys a b floor gate everyone everyone
   all-keyed-partners = ap partnersIn all-kept ∙ keyed-partners everyone everyone
-
--- ---- the three pairings
-
-pub pairings-keyed : (b o t : TrackList) (floor gate : Float)
-    → pairingsOf b o t floor gate ≡ record {
-      baseOurs = byKeys b o floor gate everyone everyone;
-      baseTheirs = byKeys b t floor gate everyone everyone;
-      oursTheirs = byKeys o t floor gate (isFree (byKeys b o floor gate everyone everyone .seconds)) (isFree (byKeys b t floor gate everyone everyone .seconds));
-    }
-unfolding pairingsOf
-pairings-keyed b o t floor gate = λ x. record {
-  baseOurs = all-keyed-partners b o floor gate x;
-  baseTheirs = all-keyed-partners b t floor gate x;
-  oursTheirs = third x;
-}
-  where
-    third : partnersIn (among (candidatesOf o t floor gate) (isFree (partnersIn (candidatesOf b o floor gate) .seconds)) (isFree (partnersIn (candidatesOf b t floor gate) .seconds)))
-        ≡ byKeys o t floor gate (isFree (byKeys b o floor gate everyone everyone .seconds)) (isFree (byKeys b t floor gate everyone everyone .seconds))
-    third =
-        keyed-partners o t floor gate (isFree (partnersIn (candidatesOf b o floor gate) .seconds)) (isFree (partnersIn (candidatesOf b t floor gate) .seconds))
-        ∙ (λ x. byKeys o t floor gate (isFree (all-keyed-partners b o floor gate x .seconds)) (isFree (all-keyed-partners b t floor gate x .seconds)))

@@ -1,4 +1,4 @@
--- How many numbers below n pass a test, and the list of them. `howMany k` is the place of k among those that pass: `rank-below` and `rank-one` say that places rise, `rank-found`
+-- How many numbers below n pass a test, and the list of them. `howMany k` is the place of k among those that pass: `rank-below` says that places rise, `rank-found`
 -- that each is taken, `getD-selected` that `selected` has there what belongs to k. `howMany-indices`: where each of m indices stands at exactly one place, m places have one.
 use Prim.Native.Nat.{ℕ, zero, suc, _+_, _≤_, _<_}
 use native.Mathlib.Decide.{decLt, ℕ-discrete}
@@ -41,14 +41,6 @@ module _ (test : ℕ → Bool) where
       go : Dec (j < k) → j < k
       go (yes l) = l
       go (no l) = absurd (omega (arith, rank-up k j (omega arith)))
-
-  pub rank-one : (j k : ℕ) → T (test j) → T (test k) → howMany j test ≡ howMany k test → j ≡ k
-  rank-one j k s t e = go (decLt j k) (decLt k j)
-    where
-      go : Dec (j < k) → Dec (k < j) → j ≡ k
-      go (yes l) d = absurd (omega (arith, rank-below j k l s))
-      go (no l) (yes u) = absurd (omega (arith, rank-below k j u t))
-      go (no l) (no u) = omega arith
 
   pub rank-found : (n r : ℕ) → r < howMany n test → (k : ℕ) × (k < n) × T (test k) × (r ≡ howMany k test)
   unfolding howMany

@@ -13,7 +13,6 @@ pub mod Meaning
 pub mod AcceptedLists
 pub mod Demand3
 pub mod Tracks
-pub mod Questions
 pub mod Writing
 pub mod Comparing
 pub mod Paired

@@ -54,12 +54,12 @@ pub record Lists (base base-offsets ours ours-offsets theirs theirs-offsets : Li
   pub theirs-dimension : held theirs .dimension ≡ held base .dimension
 
 -- The verdict on three tracks of three lists.
-abbrev pub verdictIn3 : List ℕ → List ℕ → List ℕ → ℕ → ℕ → ℕ → ℕ
-verdictIn3 base ours theirs = verdictOn (held base) (held ours) (held theirs)
+abbrev pub verdictHeld : List ℕ → List ℕ → List ℕ → ℕ → ℕ → ℕ → ℕ
+verdictHeld base ours theirs = verdictOn (held base) (held ours) (held theirs)
 
 -- The row of three tracks.
 abbrev pub rowOn : List ℕ → List ℕ → List ℕ → ℕ → ℕ → ℕ → Row
-rowOn base ours theirs i j k = record { base = i; ours = j; theirs = k; verdict = verdictIn3 base ours theirs i j k }
+rowOn base ours theirs i j k = record { base = i; ours = j; theirs = k; verdict = verdictHeld base ours theirs i j k }
 
 -- The bytes of rows.
 abbrev pub rowsBytes : List Row → List ℕ
@@ -164,7 +164,7 @@ pub record AllFree (table : List ℕ) : Type 0 where
   pub long : length table ≡ 32
   pub free : (i : ℕ) → i < 32 → getD table i 0 ≡ nobody
 
--- The values and the tables of a list of n tracks of f fields have these lengths.
+-- That there are values for a list of n tracks of f fields.
 pub record Sizes (values : List Float) (n f : ℕ) : Type 0 where
   pub few : n ≤ 32
   pub values-long : n * f ≤ length values

@@ -9,7 +9,7 @@ ghost use Rattle.kernel.specs.Lists.{over};
 ghost use Rattle.merge.specs.Tracks.{trackCount};
 ghost use Rattle.merge.specs.Rows.{tracksAmong, rowsOf};
 ghost use Rattle.merge.specs.Demand3.{tracksIn, howMany};
-ghost use Rattle.merge.specs.Steps.{held, Lists, Index, Indices, verdictIn3, rowOn, rowsBytes, baseGroup, oursGroup, theirsGroup, onlyIf, Appended, Tables, pairingsIn};
+ghost use Rattle.merge.specs.Steps.{held, Lists, Index, Indices, verdictHeld, rowOn, rowsBytes, baseGroup, oursGroup, theirsGroup, onlyIf, Appended, Tables, pairingsIn};
 use crate::parts::NOBODY;
 use crate::parts::both_free;
 use crate::parts::same_tracks;
@@ -29,7 +29,7 @@ fn verdict_on(
 ) -> u8
     requires { ⌜ Lists (now base) (now «base_offsets») (now ours) (now «ours_offsets») (now theirs) (now «theirs_offsets») ⌝ }
     requires { ⌜ Index (now base) i × Index (now ours) j × Index (now theirs) k ⌝ }
-    ensures { λ r. ⌜ r ≡ verdictIn3 (now (base .entry)) (now (ours .entry)) (now (theirs .entry)) i j k ⌝ }
+    ensures { λ r. ⌜ r ≡ verdictHeld (now (base .entry)) (now (ours .entry)) (now (theirs .entry)) i j k ⌝ }
 {
     let ours_base = same_tracks(ours, ours_offsets, j, base, base_offsets, i);
     let theirs_base = same_tracks(theirs, theirs_offsets, k, base, base_offsets, i);
@@ -226,7 +226,7 @@ pub(crate) fn write_groups(
 ) -> usize
     requires { ⌜ Lists (now base) (now «base_offsets») (now ours) (now «ours_offsets») (now theirs) (now «theirs_offsets») ⌝ }
     requires { ⌜ Tables (now base) (now ours) (now theirs) (now «base_ours») (now «ours_base») (now «base_theirs») (now «theirs_base») (now «ours_theirs») (now «theirs_ours») m n l × (4 * (m + n + l) ≤ length (now rows)) ⌝ }
-    ensures { λ r. ⌜ Appended (rowsOf (verdictIn3 (now (base .entry)) (now (ours .entry)) (now (theirs .entry))) (pairingsIn (now («base_ours» .entry)) (now («ours_base» .entry)) (now («base_theirs» .entry)) (now («theirs_base» .entry)) (now («ours_theirs» .entry)) (now («theirs_ours» .entry))) m n l) 0 (now (rows .entry)) r (now (rows .exit)) ⌝ }
+    ensures { λ r. ⌜ Appended (rowsOf (verdictHeld (now (base .entry)) (now (ours .entry)) (now (theirs .entry))) (pairingsIn (now («base_ours» .entry)) (now («ours_base» .entry)) (now («base_theirs» .entry)) (now («theirs_base» .entry)) (now («ours_theirs» .entry)) (now («theirs_ours» .entry))) m n l) 0 (now (rows .entry)) r (now (rows .exit)) ⌝ }
 {
     base_rows(
         base,
