@@ -1,5 +1,6 @@
 -- The doubles that the source names, and the small ones that its formulas write out.
-use lib.Ieee.{Float, binary64, ofBits}
+use mathlib.Core.Bool.{false}
+use lib.Ieee.{Float, inf, binary64, ofBits}
 
 -- 0.0, with which every sum of the kernel starts
 abbrev pub nought : Float
@@ -36,3 +37,14 @@ farTheta = ofBits binary64 0x5F13_8D35_2E50_96AF
 -- `f64::MIN_POSITIVE`, the least normal number
 abbrev pub minPositive : Float
 minPositive = ofBits binary64 0x0010_0000_0000_0000
+
+-- 1e-30: a product whose norm is below this vanishes
+abbrev pub vanishing : Float
+vanishing = ofBits binary64 0x39B4_484B_FEEB_C2A0
+
+-- 1e-300: a norm below this is taken for 0
+abbrev pub leastNorm : Float
+leastNorm = ofBits binary64 0x01A5_6E1F_C2F8_F359
+
+abbrev pub infinity : Float
+infinity = inf false

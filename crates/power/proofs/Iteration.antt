@@ -9,7 +9,7 @@ use lib.Dec.{ltb}
 use lib.Ieee.{Float, lt}
 use lib.ListN.{length}
 use Rattle.kernel.specs.Answer.{answered}
-use Rattle.kernel.specs.Constants.{nought}
+use Rattle.kernel.specs.Constants.{nought, vanishing}
 use Rattle.kernel.specs.First.{firstBelow}
 use Rattle.kernel.specs.Lists.{tabulate}
 use Rattle.kernel.specs.Number.{sub, mul, div}
@@ -17,7 +17,7 @@ use Rattle.kernel.proofs.First.{first-more}
 use Rattle.kernel.proofs.Lists.{length-tabulate}
 use Rattle.dense.specs.Matrix.{nth, side, long}
 use Rattle.linalg.specs.Norms.{norm}
-use Rattle.power.specs.Power.{vanishing, times, dotProduct, rayleigh, residual, advanced, signOf, roundValue}
+use Rattle.power.specs.Power.{times, dotProduct, rayleigh, residual, advanced, signOf, roundValue}
 use Rattle.power.specs.Power.{vanishes, isSmall, converges, afterRounds, isLast, eigenpair, refined, concluded, lastRound}
 use Rattle.power.specs.Power.{iterated, evenVector, dominant, matEigenvectorMax}
 use Rattle.power.proofs.Stops.{stopped, unstopped}

@@ -15,11 +15,11 @@ use lib.Ieee.Fits.{mul-fits}
 use lib.Ieee.Positive.{positive}
 use lib.Ieee.Scale.{finite}
 use Rattle.kernel.specs.Answer.{answered}
-use Rattle.kernel.specs.Constants.{nought, one, relTol}
+use Rattle.kernel.specs.Constants.{nought, one, relTol, infinity}
 use Rattle.kernel.specs.Number.{add, mul}
 use Rattle.kernel.specs.Sqrt.{scaled}
 use Rattle.power.specs.Power.{vanishes, dominant, gram}
-use Rattle.power.specs.Condition.{maxRounds, infinity, ratioOf, condition, conditionNumber}
+use Rattle.power.specs.Condition.{maxRounds, ratioOf, condition, conditionNumber}
 use Rattle.power.proofs.Exacts.{unsigned, zero-double, zero-plus}
 use Rattle.power.proofs.Ones.{measured, unsigned-of, round-measured, squared, large-ratio, small-ratio, refused-ratio, refused-nan, refused-infinite, vanished-ratio}
 use Rattle.power.proofs.Underflow.{small-vanishes}

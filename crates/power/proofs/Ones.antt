@@ -14,7 +14,7 @@ use lib.Ieee.{Float, nan, inf, fin, binary64, fits, ofBits, round, lt, le}
 use lib.Ieee.Fits.{round-is, mul-fits}
 use lib.Ieee.Positive.{num, den, den-pos, positive, own-value, mul-at}
 use lib.Ieee.Scale.{finite}
-use Rattle.kernel.specs.Constants.{nought, one, relTol}
+use Rattle.kernel.specs.Constants.{nought, one, relTol, vanishing, infinity}
 use Rattle.kernel.specs.Number.{add, sub, mul, div}
 use Rattle.kernel.specs.Lists.{tabulate}
 use Rattle.kernel.specs.Sqrt.{scaled, sqrt}
@@ -22,8 +22,8 @@ use Rattle.dense.specs.Matrix.{sumFrom, nth}
 use Rattle.linalg.specs.Norms.{norm}
 use Rattle.kernel.proofs.First.{first-none}
 use Rattle.pivoting.specs.Solve.{solved}
-use Rattle.power.specs.Power.{vanishing, times, advanced, vanishes, Eigenpair, eigenpair, evenVector, iterated, dominant}
-use Rattle.power.specs.Condition.{maxRounds, infinity, iterate, isRefused, normalized, deflated, startIndex, iteratedRatio, ratioFrom, ratioOf}
+use Rattle.power.specs.Power.{times, advanced, vanishes, Eigenpair, eigenpair, evenVector, iterated, dominant}
+use Rattle.power.specs.Condition.{maxRounds, iterate, isRefused, normalized, deflated, startIndex, iteratedRatio, ratioFrom, ratioOf}
 use Rattle.power.proofs.Iteration as power
 use Rattle.power.proofs.Ratios as inverse
 use Rattle.power.proofs.Exacts.{unsigned, zero-plus, times-one, over-itself}

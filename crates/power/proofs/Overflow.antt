@@ -7,7 +7,7 @@ use lib.Dec.{T}
 use lib.Ieee as Ieee
 use lib.Ieee.{Float, nan, inf, fin, binary64, fits, ofBits, lt, le}
 use lib.Ieee.Positive.{positive}
-use Rattle.kernel.specs.Constants.{nought, one, minusOne, relTol}
+use Rattle.kernel.specs.Constants.{nought, one, minusOne, relTol, vanishing, infinity}
 use Rattle.kernel.specs.Number.{add, sub, mul, div, abs}
 use Rattle.kernel.specs.Sqrt.{sqrt}
 use Rattle.kernel.proofs.SquareRoot.{sqrt-infinity}
@@ -15,8 +15,8 @@ use Rattle.dense.specs.Matrix.{sumFrom, nth}
 use Rattle.linalg.specs.Norms.{norm}
 use Rattle.kernel.specs.Lists.{tabulate}
 use Rattle.kernel.proofs.First.{first-none}
-use Rattle.power.specs.Power.{vanishing, times, dotProduct, residual, advanced, signOf, roundValue, vanishes, isSmall, converges, iterated, dominant}
-use Rattle.power.specs.Condition.{maxRounds, infinity, ratioOf}
+use Rattle.power.specs.Power.{times, dotProduct, residual, advanced, signOf, roundValue, vanishes, isSmall, converges, iterated, dominant}
+use Rattle.power.specs.Condition.{maxRounds, ratioOf}
 use Rattle.power.proofs.Iteration as power
 use Rattle.power.proofs.Exacts.{times-zero}
 use Rattle.power.proofs.Ones.{product, length-of, vanish-test, advanced-to, even-one, zero-ratio}

@@ -7,14 +7,14 @@ use mathlib.Core.List.{List}
 use mathlib.Core.Path.{_≡_, refl, sym, ap, _∙_}
 use borrow.Author.Tests.{not-true, not-false}
 use lib.Ieee.{Float, lt, le}
-use Rattle.kernel.specs.Constants.{nought, relTol}
+use Rattle.kernel.specs.Constants.{nought, relTol, leastNorm, infinity}
 use Rattle.kernel.specs.First.{firstBelow}
 use Rattle.kernel.specs.Sqrt.{sqrt}
 use Rattle.kernel.proofs.First.{first-more}
 use Rattle.linalg.specs.Norms.{norm}
 use Rattle.pivoting.specs.Solve.{solved}
 use Rattle.power.specs.Power.{dotProduct, gram, Eigenpair, eigenpair, dominant}
-use Rattle.power.specs.Condition.{leastNorm, maxRounds, infinity, normalized, deflated, startIndex, Iterate, iterate, solutionOf, isRefused, inverted, fails, isSteady}
+use Rattle.power.specs.Condition.{maxRounds, normalized, deflated, startIndex, Iterate, iterate, solutionOf, isRefused, inverted, fails, isSteady}
 use Rattle.power.specs.Condition.{afterInverses, isLastInverse, lastInverse, ratio, concludedRatio, iteratedRatio, ratioFrom, ratioOf, condition}
 use Rattle.power.proofs.Stops.{stopped, unstopped}
 use Rattle.power.proofs.Starts.{Starts}

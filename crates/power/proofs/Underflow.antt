@@ -15,13 +15,12 @@ use lib.Ieee.Fits.{mul-fits}
 use lib.Ieee.Order.{le-of-values}
 use lib.Ieee.Positive.{positive, values-of-le, mul-mono}
 use lib.Ieee.Scale.{finite}
-use Rattle.kernel.specs.Constants.{minPositive}
+use Rattle.kernel.specs.Constants.{minPositive, vanishing}
 use Rattle.kernel.specs.Number.{mul}
 use Rattle.kernel.specs.Sqrt.{square, scaled, nextDown, sqrt}
 use Rattle.kernel.proofs.Doubles.{positive-no-nan}
 use Rattle.kernel.proofs.Order.{lt-trichotomy, eq-symmetric}
 use Rattle.kernel.proofs.SquareRoot.{sqrt-root}
-use Rattle.power.specs.Power.{vanishing}
 use Rattle.power.proofs.Squares.{value-of}
 use Rattle.power.proofs.Exacts.{zero-double}
 use Rattle.power.proofs.Ones.{measured}

@@ -3,11 +3,11 @@ use Prim.Native.Nat.{ℕ, zero, suc, _*_}
 use mathlib.Core.Bool.{Bool, true, false, cond, not, _&&_, _||_}
 use mathlib.Core.List.{List}
 use lib.Dec.{eqb, ltb}
-use lib.Ieee.{Float, inf, binary64, ofBits, lt, le}
+use lib.Ieee.{Float, lt, le}
 use Rattle.kernel.specs.Number.{sub, mul, div, abs}
 use Rattle.kernel.specs.Sqrt.{sqrt}
 use Rattle.kernel.specs.Answer.{Outcome, refused, answered, ask}
-use Rattle.kernel.specs.Constants.{nought, one, relTol}
+use Rattle.kernel.specs.Constants.{nought, one, relTol, leastNorm, infinity}
 use Rattle.kernel.specs.First.{firstBelow}
 use Rattle.kernel.specs.Lists.{tabulate}
 use Rattle.dense.specs.Matrix.{sumFrom, nth, matrix, side, long}
@@ -19,16 +19,9 @@ use Rattle.power.specs.declared.Damped.{Damped}
 use Rattle.power.specs.declared.Damped.the-variants as answer
 use Rattle.power.specs.Power.{dotProduct, gram, Eigenpair, dominant}
 
--- 1e-300: a norm below this is taken for 0
-abbrev pub leastNorm : Float
-leastNorm = ofBits binary64 0x01A5_6E1F_C2F8_F359
-
 -- `CONDITION_NUMBER_MAX_ITER`
 abbrev pub maxRounds : ℕ
 maxRounds = 500
-
-abbrev pub infinity : Float
-infinity = inf false
 
 -- ---- the start
 

@@ -4,11 +4,11 @@ use mathlib.Core.Bool.{Bool, cond, _&&_, _||_}
 use mathlib.Core.List.{List}
 use lib.Dec.{ltb}
 use lib.IntN.{pos}
-use lib.Ieee.{Float, binary64, ofBits, ofInt, lt, le}
+use lib.Ieee.{Float, binary64, ofInt, lt, le}
 use Rattle.kernel.specs.Number.{sub, mul, div, abs}
 use Rattle.kernel.specs.Sqrt.{sqrt}
 use Rattle.kernel.specs.Answer.{Outcome, refused, answered, ask}
-use Rattle.kernel.specs.Constants.{nought, one, minusOne}
+use Rattle.kernel.specs.Constants.{nought, one, minusOne, vanishing}
 use Rattle.kernel.specs.First.{firstBelow}
 use Rattle.kernel.specs.Lists.{tabulate}
 use Rattle.dense.specs.Matrix.{total, sumFrom, nth, matrix, side, long}
@@ -16,10 +16,6 @@ use Rattle.dense.specs.declared.Number.{Number}
 use Rattle.dense.specs.declared.Number.the-variants as number
 use Rattle.linalg.specs.Norms.{norm}
 use Rattle.linalg.specs.Products.{vectorEntry, ataEntry}
-
--- 1e-30: a product whose norm is below this vanishes
-abbrev pub vanishing : Float
-vanishing = ofBits binary64 0x39B4_484B_FEEB_C2A0
 
 -- the product of a, n by n, and the vector x
 unfoldable pub times : List Float → ℕ → List Float → List Float

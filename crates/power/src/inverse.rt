@@ -11,30 +11,23 @@ ghost use Rattle.dense.specs.Matrix.{nth, side};
 ghost use Rattle.linalg.specs.Norms.{norm};
 ghost use Rattle.pivoting.specs.Solve.{unitVector, solved};
 ghost use Rattle.power.specs.Power.{gram, eigenpair};
-ghost use Rattle.power.specs.Condition.{infinity, normalized, deflated, isStart, startIndex, iterate, solutionOf, isRefused, isSteady, ratio, iteratedRatio, ratioOf, condition};
+ghost use Rattle.power.specs.Condition.{normalized, deflated, isStart, startIndex, iterate, solutionOf, isRefused, isSteady, ratio, iteratedRatio, ratioOf, condition};
 use crate::rounds::dominant;
 use crate::vector::fill;
 use crate::vector::multiply;
 use crate::vector::norm;
 use dense::vector::dot;
+use kernel::constants::LEAST_NORM;
 use kernel::constants::REL_TOL;
+use kernel::constants::infinity;
 use kernel::number::abs;
 use kernel::number::sqrt;
 use linalg::generic::mat_ata;
 use pivoting::Written;
 use pivoting::generic::mat_solve;
 
-// A norm below this is taken for 0.
-const LEAST_NORM: f64 = 1e-300;
-
 // `CONDITION_NUMBER_MAX_ITER`: the most rounds that are made.
 const MAX_ROUNDS: u32 = 500;
-
-fn infinity() -> f64
-    ensures { λ r. ⌜ r ≡ infinity ⌝ }
-{
-    1.0 / 0.0
-}
 
 // Writes unit vector k.
 fn unit_vector(n: usize, k: usize, y: &mut [f64])
@@ -135,7 +128,7 @@ fn rounds(g: &[f64], n: usize, sigma: f64, x: &mut [f64], y: &mut [f64]) -> f64
     let mut estimate = 0.0;
     for k in 0..MAX_ROUNDS {
         if !solve(g, x, n, y) {
-            return infinity();
+            return infinity(); // no solution
         }
         let size = norm(y, n);
         if size < LEAST_NORM {

@@ -13,11 +13,9 @@ use crate::vector::fill;
 use crate::vector::norm;
 use crate::vector::times;
 use dense::vector::dot;
+use kernel::constants::VANISHING;
 use kernel::number::abs;
 use kernel::number::sqrt;
-
-// A product whose norm is below this vanishes.
-const VANISHING: f64 = 1e-30;
 
 // The sign of an inner product, 1.0 or -1.0.
 fn sign_of(d: f64) -> f64

@@ -6,11 +6,11 @@ use borrow.Author.Needs.{needs}
 use borrow.Author.Tests.{not-false}
 use lib.Ieee.{lt}
 use lib.ListN.{length}
-use Rattle.kernel.specs.Constants.{nought}
+use Rattle.kernel.specs.Constants.{nought, leastNorm}
 use Rattle.kernel.specs.First.{firstBelow}
 use Rattle.kernel.proofs.First.{first-none}
 use Rattle.dense.proofs.Tests.{met, unmet}
-use Rattle.power.specs.Condition.{leastNorm, maxRounds, Iterate, iterate, solutionOf, fails, afterInverses}
+use Rattle.power.specs.Condition.{maxRounds, Iterate, iterate, solutionOf, fails, afterInverses}
 use Rattle.power.proofs.Ratios.{fails-refused, fails-test, lastInverseAt, begun, ends-failed, ends-steady, ends-after-all, goes-on, more}
 use Rattle.power.proofs.inverse.rounds.Statement.{statement}
 use Rattle.power.proofs.inverse.rounds.Tie as tie

@@ -3,7 +3,8 @@ use mathlib.Core.Path.{sym, ap, _∙_}
 use borrow.Author.Needs.{needs}
 use borrow.Author.Tests.{not-true, not-false}
 use lib.Ieee.{lt}
-use Rattle.power.specs.Power.{vanishing, isSmall}
+use Rattle.kernel.specs.Constants.{vanishing}
+use Rattle.power.specs.Power.{isSmall}
 use Rattle.power.proofs.rounds.is_small.Statement.{statement}
 use Rattle.power.proofs.rounds.is_small.Tie as tie
 

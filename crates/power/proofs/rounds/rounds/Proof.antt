@@ -4,9 +4,10 @@ use native.Mathlib.Omega.{arith}
 use mathlib.Core.Path.{_≡_, sym, _∙_}
 use lib.Ieee.{lt}
 use lib.ListN.{length}
+use Rattle.kernel.specs.Constants.{vanishing}
 use Rattle.kernel.specs.First.{firstBelow}
 use Rattle.kernel.proofs.First.{first-none}
-use Rattle.power.specs.Power.{vanishing, times, vanishes, afterRounds}
+use Rattle.power.specs.Power.{times, vanishes, afterRounds}
 use Rattle.power.proofs.Iteration.{length-times, length-advanced, vanish-test, lastAt, begun, more, goes-on, ends-vanished, ends-converged, ends-after-all}
 use Rattle.power.proofs.rounds.rounds.Statement.{statement}
 use Rattle.power.proofs.rounds.rounds.Tie as tie
