@@ -13,22 +13,24 @@ use Rattle.dense.specs.declared.Written.{Written}
 use Rattle.dense.specs.declared.Written.the-variants.{Done}
 use Rattle.dense.specs.Answer.{after, Leaves}
 use Rattle.dense.specs.Matrix.{side, long}
-use Rattle.compare.specs.Fields.{fieldCount, lowerField, trackCovariance, wholeCovariance}
+use Rattle.tracks.specs.Layout.{fields}
+use Rattle.compare.specs.Fields.{lowerField, trackCovariance, wholeCovariance}
 
-pub field-within : (d i j : ℕ) → i < d → j ≤ i → lowerField d i j < fieldCount d
+pub field-within : (d i j : ℕ) → i < d → j ≤ i → lowerField d i j < fields d
+unfolding fields
 field-within d i j h k =
     let l : suc (i + 1) ≤ d + 1 = omega arith in
     omega (arith, mul-le-mul h l, suc-mul i (suc (i + 1)), mul-suc i (i + 1))
 
 -- and the product that leads there is small
-pub row-product : (d i : ℕ) → i < d → d ≤ 16 → i * (i + 1) ≤ 256
-row-product d i h k = let a : i ≤ 15 = omega arith in let b : i + 1 ≤ 16 = omega arith in omega (arith, mul-le-mul a b)
+pub row-product : (d i : ℕ) → i ≤ d → d ≤ 16 → i * (i + 1) ≤ 272
+row-product d i h k = let a : i ≤ 16 = omega arith in let b : i + 1 ≤ 17 = omega arith in omega (arith, mul-le-mul a b)
 
 -- a caller that knows the lengths is never refused
-module _ (v out : List Float) (d : ℕ) (s : side d ≡ true) (h : fieldCount d ≤ length v) (e : length out ≡ d * d) where
+module _ (v out : List Float) (d : ℕ) (s : side d ≡ true) (h : fields d ≤ length v) (e : length out ≡ d * d) where
   outcome : wholeCovariance v d out ≡ answered (trackCovariance d v)
   unfolding wholeCovariance long
-  outcome = rw (s, le-leb (fieldCount d) (length v) h, eq-eqb (length out) (d * d) e)
+  outcome = rw (s, le-leb (fields d) (length v) h, eq-eqb (length out) (d * d) e)
 
   pub whole-met : {r : Written} {new : List Float} → Leaves (wholeCovariance v d out) out r new → (r ≡ Done) × (new ≡ trackCovariance d v)
   whole-met l =

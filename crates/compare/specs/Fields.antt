@@ -6,11 +6,8 @@ use lib.Dec.{leb}
 use lib.ListN.{length, take}
 use lib.Ieee.{Float}
 use Rattle.kernel.specs.Answer.{Outcome, answered, ask}
+use Rattle.tracks.specs.Layout.{fields}
 use Rattle.dense.specs.Matrix.{nth, matrix, side, long}
-
--- how many fields there are: the state, and the lower triangle of the covariance
-abbrev pub fieldCount : ℕ → ℕ
-fieldCount d = d + d * (d + 1) / 2
 
 -- the d values of the state
 abbrev pub trackState : ℕ → List Float → List Float
@@ -31,8 +28,8 @@ trackCovariance d v = matrix d d (covarianceEntry d v)
 
 -- `whole_covariance`: of values read from a list there may be more than the track's fields.
 unfoldable pub wholeCovariance : List Float → ℕ → List Float → Outcome (List Float)
-unfolding trackCovariance side long
+unfolding trackCovariance side long fields
 wholeCovariance v d out =
     ask 1 (side d)
-    (ask 2 (leb (fieldCount d) (length v) && long out (d * d))
+    (ask 2 (leb (fields d) (length v) && long out (d * d))
     (answered (trackCovariance d v)))

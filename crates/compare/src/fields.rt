@@ -7,16 +7,17 @@ ghost use lib.ListN.{length};
 ghost use Rattle.kernel.specs.Lists.{tabulate};
 ghost use Rattle.dense.specs.Answer.{Leaves};
 ghost use Rattle.dense.specs.Matrix.{long};
-ghost use Rattle.compare.specs.Fields.{fieldCount, lowerField, covarianceEntry, trackCovariance, wholeCovariance};
+ghost use Rattle.tracks.specs.Layout.{fields};
+ghost use Rattle.compare.specs.Fields.{lowerField, covarianceEntry, trackCovariance, wholeCovariance};
 use dense::Written;
 use dense::shape::is_matrix;
 use dense::shape::is_side;
 use kernel::question::LENGTH;
 use kernel::question::SIDE;
 
-// The place of column j of row i of the lower triangle.
+// The place of column j of row i of the lower triangle. A row d would start where the fields end.
 fn lower_field(d: usize, i: usize, j: usize) -> usize
-    requires { ⌜ (i < d) × (j ≤ i) × (d ≤ 16) ⌝ }
+    requires { ⌜ (i ≤ d) × (j ≤ i) × (d ≤ 16) ⌝ }
     ensures { λ r. ⌜ r ≡ lowerField d i j ⌝ }
 {
     d + i * (i + 1) / 2 + j
@@ -24,7 +25,7 @@ fn lower_field(d: usize, i: usize, j: usize) -> usize
 
 // Entry (i, j) of the covariance of the track of dimension d whose fields are v.
 fn covariance_entry(v: &[f64], d: usize, i: usize, j: usize) -> f64
-    requires { ⌜ (i < d) × (j < d) × (d ≤ 16) × (fieldCount d ≤ length (now v)) ⌝ }
+    requires { ⌜ (i < d) × (j < d) × (d ≤ 16) × (fields d ≤ length (now v)) ⌝ }
     ensures { λ r. ⌜ r ≡ covarianceEntry d (now (v .entry)) i j ⌝ }
 {
     if j <= i {
@@ -37,7 +38,7 @@ fn covariance_entry(v: &[f64], d: usize, i: usize, j: usize) -> f64
 
 // Writes row i of that covariance.
 fn covariance_row(v: &[f64], d: usize, i: usize, y: &mut [f64])
-    requires { ⌜ (i < d) × (d ≤ 16) × (fieldCount d ≤ length (now v)) × (length (now y) ≡ d) ⌝ }
+    requires { ⌜ (i < d) × (d ≤ 16) × (fields d ≤ length (now v)) × (length (now y) ≡ d) ⌝ }
     ensures { λ _. ⌜ now (y .exit) ≡ tabulate d (covarianceEntry d (now (v .entry)) i) ⌝ }
 {
     for j in 0..d {
@@ -47,7 +48,7 @@ fn covariance_row(v: &[f64], d: usize, i: usize, y: &mut [f64])
 
 // Writes that covariance.
 fn mirror(v: &[f64], d: usize, out: &mut [f64])
-    requires { ⌜ (d ≤ 16) × (fieldCount d ≤ length (now v)) × (length (now out) ≡ d * d) ⌝ }
+    requires { ⌜ (d ≤ 16) × (fields d ≤ length (now v)) × (length (now out) ≡ d * d) ⌝ }
     ensures { λ _. ⌜ now (out .exit) ≡ trackCovariance d (now (v .entry)) ⌝ }
 {
     for i in 0..d {
@@ -59,9 +60,9 @@ fn mirror(v: &[f64], d: usize, out: &mut [f64])
 // Whether v holds the fields of a track of dimension d, and out is a d by d matrix.
 fn is_track(v: &[f64], d: usize, out: &[f64]) -> bool
     requires { ⌜ d ≤ 16 ⌝ }
-    ensures { λ r. ⌜ r ≡ (leb (fieldCount d) (length (now (v .entry))) && long (now (out .entry)) (d * d)) ⌝ }
+    ensures { λ r. ⌜ r ≡ (leb (fields d) (length (now (v .entry))) && long (now (out .entry)) (d * d)) ⌝ }
 {
-    if v.len() < d + d * (d + 1) / 2 {
+    if v.len() < lower_field(d, d, 0) {
         return false;
     }
     is_matrix(out, d, d)

@@ -15,3 +15,5 @@ pub mod Same
 pub mod Differences
 pub mod SquareRoot
 pub mod Existence
+pub mod SquarePatterns
+pub mod RootOfSquare

@@ -7,6 +7,9 @@ mod search;
 mod table;
 pub mod timed;
 
+// Stands for no partner in a table of partners, and for no track in a row of the merge.
+pub const NOBODY: u8 = 255;
+
 // The pair that comes first of those looked at, if there is one, and its key.
 pub struct Foremost {
     pub found: bool,

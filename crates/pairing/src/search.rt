@@ -5,7 +5,7 @@ ghost use lib.ListN.{length};
 ghost use Rattle.pairing.specs.Keys.{Shape};
 ghost use Rattle.pairing.specs.Search.{lookAt, searchRow, search};
 use crate::Foremost;
-use crate::table::NOBODY;
+use crate::NOBODY;
 
 // The best so far, and then the pair of first track i with second track j, which comes after it by index.
 fn look_at(best: Foremost, key: f64, i: usize, j: usize) -> Foremost

@@ -2,9 +2,7 @@
 ghost use mathlib.Core.Path.{_≡_};
 ghost use lib.ListN.{length};
 ghost use Rattle.pairing.specs.Search.{nobodies};
-
-// Stands for no partner.
-pub(crate) const NOBODY: u8 = 255;
+use crate::NOBODY;
 
 // Each of n tracks is free.
 pub(crate) fn clear(table: &mut [u8], n: usize)

@@ -22,7 +22,7 @@ use Rattle.kernel.specs.Number.{add, mul, div}
 use Rattle.kernel.specs.Sqrt.{scaled, scaledBits}
 use Rattle.kernel.proofs.Doubles.{positive-pattern}
 use Rattle.kernel.proofs.Patterns.{scaled-bits-low, scaled-bits-at, split-pattern, scaled-bits-grows, scaled-bits-mono}
-use Rattle.power.proofs.Squares.{scaled-of, value-of}
+use Rattle.kernel.proofs.RootOfSquare.{scaled-of, value-of}
 
 -- ---- doubles of one size are one
 

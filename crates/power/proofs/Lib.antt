@@ -4,8 +4,6 @@ pub mod Stops
 pub mod Iteration
 pub mod Starts
 pub mod Ratios
-pub mod Roots
-pub mod Squares
 pub mod Exacts
 pub mod Ones
 pub mod Underflow

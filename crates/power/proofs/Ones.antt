@@ -27,7 +27,7 @@ use Rattle.power.specs.Condition.{maxRounds, iterate, isRefused, normali
 use Rattle.power.proofs.Iteration as power
 use Rattle.power.proofs.Ratios as inverse
 use Rattle.power.proofs.Exacts.{unsigned, zero-plus, times-one, over-itself}
-use Rattle.power.proofs.Squares.{root-of-square}
+use Rattle.kernel.proofs.RootOfSquare.{root-of-square}
 
 -- ---- ways to infinity
 

@@ -21,7 +21,7 @@ use Rattle.kernel.specs.Sqrt.{square, scaled, nextDown, sqrt}
 use Rattle.kernel.proofs.Doubles.{positive-no-nan}
 use Rattle.kernel.proofs.Order.{lt-trichotomy, eq-symmetric}
 use Rattle.kernel.proofs.SquareRoot.{sqrt-root}
-use Rattle.power.proofs.Squares.{value-of}
+use Rattle.kernel.proofs.RootOfSquare.{value-of}
 use Rattle.power.proofs.Exacts.{zero-double}
 use Rattle.power.proofs.Ones.{measured}
 

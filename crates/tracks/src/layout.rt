@@ -1,5 +1,6 @@
 // The layout of a list: a track's fields, its map, and the questions that reading and writing share.
 ghost use mathlib.Core.Path.{_≡_};
+ghost use mathlib.Core.Bool.{cond};
 ghost use Prim.Native.Nat.{_+_, _/_, _<_, _≤_};
 ghost use lib.ListN.{length};
 ghost use Rattle.tracks.specs.Layout.{fields, mapBytes, stands, finiteBits, spare, countMet, dimensionMet};
@@ -28,6 +29,16 @@ pub(crate) fn dimension_met(d: usize) -> bool
         return false;
     }
     d <= 9
+}
+
+// How many fields a track of dimension d has; 0 where d breaks question 11.
+pub fn field_count(d: usize) -> usize
+    ensures { λ r. ⌜ r ≡ cond (dimensionMet d) (fields d) 0 ⌝ }
+{
+    if !dimension_met(d) {
+        return 0;
+    }
+    fields(d)
 }
 
 // Bit k of the map at an offset.

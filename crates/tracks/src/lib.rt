@@ -1,5 +1,5 @@
 // The list record: reading and writing track lists, and handing out a track's own bytes.
-mod layout;
+pub mod layout;
 pub mod read;
 pub mod reader;
 pub mod record;

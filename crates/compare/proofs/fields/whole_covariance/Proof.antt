@@ -9,7 +9,8 @@ use lib.ListN.{length}
 use Rattle.dense.specs.Matrix.{side, long}
 use Rattle.dense.proofs.Answers.{done}
 use Rattle.dense.proofs.Tests.{met, unmet, and-left, and-right, long-length, side-high}
-use Rattle.compare.specs.Fields.{fieldCount, wholeCovariance}
+use Rattle.tracks.specs.Layout.{fields}
+use Rattle.compare.specs.Fields.{wholeCovariance}
 use Rattle.compare.proofs.fields.whole_covariance.Statement.{statement}
 use Rattle.compare.proofs.fields.whole_covariance.Tie as tie
 
@@ -20,7 +21,7 @@ sided c = met (c .before .is-side .ensures) (c .if1 .left)
 abbrev start-of : tie.Else2 → tie.Start
 start-of c = c .before .before .before .before .before .before .before
 
-shaped : (c : tie.Else2) → let x = start-of c .args in (leb (fieldCount (x .d)) (length (x .v .now)) && long (x .out .now) (x .d * x .d)) ≡ true
+shaped : (c : tie.Else2) → let x = start-of c .args in (leb (fields (x .d)) (length (x .v .now)) && long (x .out .now) (x .d * x .d)) ≡ true
 shaped c = met (c .before .is-track .ensures) (c .if2 .left)
 
 returns : tie.Need-returns
@@ -36,8 +37,8 @@ mirror-requires c κs =
     let two = c .before in
     let x = start-of two .args in (
       side-high (x .d) (sided (two .before .before .before)),
-      leb-true (fieldCount (x .d)) (length (x .v .now)) (and-left _ (long (x .out .now) (x .d * x .d)) (shaped two)),
-      long-length (x .out .now) (x .d * x .d) (and-right (leb (fieldCount (x .d)) (length (x .v .now))) _ (shaped two)),
+      leb-true (fields (x .d)) (length (x .v .now)) (and-left _ (long (x .out .now) (x .d * x .d)) (shaped two)),
+      long-length (x .out .now) (x .d * x .d) (and-right (leb (fields (x .d)) (length (x .v .now))) _ (shaped two)),
     )
 
 returns-3 : tie.Need-returns-3

@@ -15,14 +15,14 @@ use lib.Ieee.Exact.{HasValue}
 use lib.Ieee.Fits.{down-pos}
 use lib.Ieee.Positive.{positive, positive-of-value, mul-at}
 use lib.Ieee.Scale.{finite, round-val, round-under, normal-of-fraction}
 use Rattle.kernel.specs.Number.{mul}
 use Rattle.kernel.specs.Nearest.{Rounds}
 use Rattle.kernel.specs.Sqrt.{scaled, scaledBits, rootPattern, sqrt}
 use Rattle.kernel.proofs.Doubles.{positive-pattern, pattern-value}
 use Rattle.kernel.proofs.Patterns.{scaled-bits-low, scaled-bits-at, split-pattern}
 use Rattle.kernel.proofs.Root.{rootPattern-is}
 use Rattle.kernel.proofs.SquareRoot.{sqrt-positive}
-use Rattle.power.proofs.Roots.{rounded, square-rounds}
+use Rattle.kernel.proofs.SquarePatterns.{rounded, square-rounds}
 
 -- the size of a value over 2 ^ 1074
 pub scaled-of : (x : Float) (s : Bool) (a : ℕ) → HasValue x s a (2 ^ 1074) → scaled x ≡ a
