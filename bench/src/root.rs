@@ -27,13 +27,15 @@ pub fn run() {
     println!("sqrt, guess: {missed} of {calls} random normal numbers need the digits");
 }
 
-/// Whether the exact test of `kernel::number::root` admits its guess for the normal number with this bit pattern. Both are
+/// Whether the exact test of `kernel::number::root` admits the guess for the normal number with this bit pattern. Both are
 /// written here again, operation by operation: the library does not tell which way it took.
 fn guessed(bits: u64) -> bool {
-    let n = (bits + LEAD) % (2 * LEAD);
-    let g = guess(n).to_bits();
-    let w = (LEAD + n % LEAD) * (1 + n / LEAD);
-    (ONE..ONE + LEAD).contains(&g) && is_nearest(w, g - (ONE - LEAD))
+    let x = f64::from_bits(bits);
+    let y = reciprocal_root(x);
+    let p = guess(x, x * y, y).to_bits();
+    let e = bits / LEAD + 1021;
+    let w = (LEAD + bits % LEAD) * (1 + e % 2);
+    p.checked_sub(e / 2 * LEAD).is_some_and(|r| r < 2 * LEAD && is_nearest(w, r))
 }
 
 fn is_nearest(w: u64, r: u64) -> bool {
@@ -51,23 +53,19 @@ fn is_nearest(w: u64, r: u64) -> bool {
 }
 
 const LEAD: u64 = 1 << 52;
-const ONE: u64 = 0x3FF0_0000_0000_0000;
-const RECIPROCAL: u64 = 0x5FE6_EB50_C7B5_37A9;
-const HEAD: f64 = 201326592.0;
 
-fn guess(n: u64) -> f64 {
-    let z = f64::from_bits(ONE + n);
-    let rough = f64::from_bits(RECIPROCAL - (ONE + n) / 2);
-    let s = z * rough;
-    let t = s * rough;
+fn reciprocal_root(x: f64) -> f64 {
+    let rough = f64::from_bits(0x5FE6_EB50_C7B5_37A9 - x.to_bits() / 2);
+    let t = x * rough * rough;
     let tt = t * t;
-    let near = (2.462735353900164 - 3.2870044520154824 * t)
-        + tt * ((2.9595980131876254 - 1.4091257683923304 * t) + 0.2737968520139008 * tt);
-    let y = rough * near;
-    let root = s * near;
-    let h = 0.5 * y;
-    let k = h + 0.25 * y * (1.0 - root * y);
-    let head = (root + HEAD) - HEAD;
-    let rest = z - head * head;
-    head + (rest * k + rest * h * (rest * (h * h)))
+    rough * (2.462735353900164 - 3.2870044520154824 * t)
+        + rough * tt * (2.9595980131876254 - 1.4091257683923304 * t + 0.2737968520139008 * tt)
+}
+
+fn guess(x: f64, root: f64, reciprocal: f64) -> f64 {
+    let bits = root.to_bits();
+    let front = f64::from_bits(bits - bits % 0x800_0000);
+    let rest = x - front * front;
+    let h = 0.5 * reciprocal;
+    front + rest * h * (2.0 - front * reciprocal - rest * (h * h))
 }

@@ -4,6 +4,7 @@ pub mod Sweeps
 pub mod Means
 pub mod Orders
 pub mod Pairs
+pub mod Single
 pub mod Sorting
 pub mod Stability
 pub mod Answered

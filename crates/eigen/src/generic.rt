@@ -17,6 +17,7 @@ use dense::shape::is_matrix;
 use dense::shape::is_side;
 use dense::unit::identity;
 use dense::vector::are_finite;
+use dense::vector::is_finite;
 use kernel::question::FINITE_EIGENVALUES;
 use kernel::question::LENGTH;
 use kernel::question::SIDE;
@@ -94,6 +95,20 @@ fn eigenpairs_with(
     )
 }
 
+// The same of a matrix of one entry, which no sweep changes: the eigenvalue is the entry, and its vector 1.0.
+fn single_eigenpair(a: &[f64], values: &mut [f64], vectors: &mut [f64]) -> Written
+    requires { ⌜ (length (now a) ≡ 1) × (length (now values) ≡ 1) × (length (now vectors) ≡ 1) ⌝ }
+    ensures { λ r. ⌜ (r, now (values .exit), now (vectors .exit)) ≡ afterPairs (eigenpairs (now (a .entry)) 1) (now (values .entry)) (now (vectors .entry)) ⌝ }
+{
+    let x = a[0];
+    if !is_finite(x) {
+        return Written::Refused(FINITE_EIGENVALUES);
+    }
+    values[0] = x;
+    vectors[0] = 1.0;
+    Written::Done
+}
+
 // The same with room for orders to 4.
 fn small_eigenpairs(a: &[f64], n: usize, values: &mut [f64], vectors: &mut [f64]) -> Written
     requires { ⌜ (n ≤ 4) × (length (now a) ≡ n * n) × (length (now values) ≡ n) × (length (now vectors) ≡ n * n) ⌝ }
@@ -123,6 +138,9 @@ pub(crate) fn eigenpairs(a: &[f64], n: usize, values: &mut [f64], vectors: &mut 
     requires { ⌜ (n ≤ 16) × (length (now a) ≡ n * n) × (length (now values) ≡ n) × (length (now vectors) ≡ n * n) ⌝ }
     ensures { λ r. ⌜ (r, now (values .exit), now (vectors .exit)) ≡ afterPairs (eigenpairs (now (a .entry)) n) (now (values .entry)) (now (vectors .entry)) ⌝ }
 {
+    if n == 1 {
+        return single_eigenpair(a, values, vectors);
+    }
     if n <= 4 {
         return small_eigenpairs(a, n, values, vectors);
     }

@@ -1,5 +1,6 @@
 -- Laws of outcomes. `ask-met`: where a question's call answers, the test held and the rest answered. `and-then-met` and `through-met`: what
--- was answered before. `answered-inj`, `refused-inj` and `never-both`: the two cases are apart, and each carries one value.
+-- was answered before. `answered-inj`, `refused-inj` and `never-both`: the two cases are apart, and each carries one value. `never`: a test
+-- that says no does not say yes.
 use Prim.Native.Nat.{ℕ}
 use native.Mathlib.Omega.{arith}
 use mathlib.Core.Bool.{Bool, true, false}
@@ -26,3 +27,6 @@ and-then-met (answered x) rest e = (x, refl, e)
 pub through-met : {A B : Type 0} (f : A → B) (o : Outcome A) {y : B} → through f o ≡ answered y → (x : A) × (o ≡ answered x) × (f x ≡ y)
 through-met f (refused q) e = absurd (let z : _≡_ {A = ℕ} 0 1 = cc in omega arith)
 through-met f (answered x) e = (x, refl, answered-inj e)
+
+pub never : {A : Type 0} → false ≡ true → A
+never e = absurd (let z : _≡_ {A = ℕ} 0 1 = cc in omega arith)

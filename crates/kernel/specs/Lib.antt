@@ -1,6 +1,7 @@
 pub mod Answer
 pub mod Bytes
 pub mod Constants
+pub mod Estimate
 pub mod First
 pub mod Lists
 pub mod Number

@@ -2,19 +2,13 @@
 use Prim.Native.Nat.{ℕ, _+_, _-_, _*_, _/_, _%_, _^_, _<_, _≤_}
 use native.Mathlib.Nat.{mul-le-mul, div-add-mod'}
 use native.Mathlib.Omega.{arith}
-use mathlib.Core.Path.{_≡_, sym, subst}
-use mathlib.Core.Bool.{true, false}
-use lib.Dec.{T}
+use mathlib.Core.Path.{sym}
 use borrow.Author.Needs.{needs}
 use borrow.Author.Tests.{leb-true}
-use Rattle.kernel.specs.Nearest.{Nearest}
+use Rattle.kernel.proofs.Answers.{never}
 use Rattle.kernel.proofs.Whole.{nearest-test}
 use Rattle.kernel.proofs.number.root.is_nearest.Statement.{statement}
 use Rattle.kernel.proofs.number.root.is_nearest.Tie as tie
-
--- the answer no claims nothing
-no-claim : {w r : ℕ} → false ≡ true → Nearest w r
-no-claim p = absurd (subst T (sym p) tt)
 
 -- the products of the two parts of r
 module _ (r : ℕ) (small : r < 2 ^ 53) where
@@ -33,29 +27,14 @@ module _ (r : ℕ) (small : r < 2 ^ 53) where
 mul-high-2 : tie.Need-mul-high-2
 mul-high-2 c = omega (arith, high-high (c .args .r) (c .pre .1))
 
-returns : tie.Need-returns
-returns c = no-claim
-
-returns-2 : tie.Need-returns-2
-returns-2 c = no-claim
-
 mul-cross : tie.Need-mul-cross
 mul-cross c = omega (arith, high-low (c .before .before .args .r) (c .before .before .pre .1))
-
-returns-3 : tie.Need-returns-3
-returns-3 c = no-claim
-
-returns-4 : tie.Need-returns-4
-returns-4 c = no-claim
 
 mul-right : tie.Need-mul-right
 mul-right c = let s = c .before .before .before .before in omega (arith, low-low (s .args .r) (s .pre .1))
 
 add-right : tie.Need-add-right
 add-right c = let s = c .before .before .before .before in omega (arith, low-low (s .args .r) (s .pre .1))
-
-returns-5 : tie.Need-returns-5
-returns-5 c = no-claim
 
 returns-6 : tie.Need-returns-6
 returns-6 c answer =
@@ -69,5 +48,5 @@ returns-6 c answer =
 pub is-nearest-spec : {M : Type 1} → statement M
 is-nearest-spec =
     tie.close
-    (tie.spec (λ c. search needs) mul-high-2 (λ c. search needs) returns (λ c. search needs) (λ c. search needs) returns-2 mul-cross (λ c. search needs)
-    returns-3 returns-4 (λ c. search needs) mul-right add-right (λ c. search needs) returns-5 (λ c. search needs) returns-6)
+    (tie.spec (λ c. search needs) mul-high-2 (λ c. search needs) (λ c. never) (λ c. search needs) (λ c. search needs) (λ c. never) mul-cross (λ c. search needs)
+    (λ c. never) (λ c. never) (λ c. search needs) mul-right add-right (λ c. search needs) (λ c. never) (λ c. search needs) returns-6)

@@ -1,19 +1,21 @@
--- `sqrt` meets its contract: the special cases, and the root of a finite number above 0.
+-- `sqrt_near` meets its contract: the special cases, and the root of a finite number above 0.
 use mathlib.Core.Path.{_≡_, refl, sym, ap, _∙_, subst}
 use mathlib.Core.Logic.{_⊎_, inl, inr}
 use mathlib.Core.Bool.{true, false, not}
-use Prim.Native.Nat.{zero, suc}
+use Prim.Native.Nat.{ℕ, zero, suc, _<_}
 use native.Mathlib.Omega.{arith}
+use borrow.Author.Needs.{needs}
 use lib.Dec.{T, lt→ltb}
 use lib.Ieee.{Float, nan, inf, fin, binary64, fits, isNan, ofBits, toBits, div}
+use lib.Ieee.Bits.{ofBits-toBits}
 use lib.Ieee.Compare.{differs-from-itself}
 use lib.Ieee.Positive.{positive}
-use Rattle.kernel.specs.Sqrt.{rootPattern, sqrt}
+use Rattle.kernel.specs.Sqrt.{scaledBits, rootPattern, sqrt}
 use Rattle.kernel.proofs.Signs.{negative, isZero, below-zero, equals-zero}
-use Rattle.kernel.proofs.Doubles.{equals-itself, no-nan-pattern, positive-pattern}
+use Rattle.kernel.proofs.Doubles.{Positive, equals-itself, no-nan-pattern, positive-pattern}
 use Rattle.kernel.proofs.SquareRoot.{sqrt-nan, sqrt-zero, sqrt-negative, sqrt-infinity, sqrt-positive}
-use Rattle.kernel.proofs.number.sqrt.Statement.{statement}
-use Rattle.kernel.proofs.number.sqrt.Tie as tie
+use Rattle.kernel.proofs.number.sqrt_near.Statement.{statement}
+use Rattle.kernel.proofs.number.sqrt_near.Tie as tie
 
 -- what no test has caught
 left : (x : Float) → T (not (isNan x)) → isZero x ≡ false → negative x ≡ false → (x ≡ inf false) ⊎ T (positive x)
@@ -60,24 +62,33 @@ returns-3 : tie.Need-returns-3
 unfolding ofBits div
 returns-3 c = let x = c .before .before .before .args .x in sym (sqrt-negative x (subst T (sym (c .if3 .taken) ∙ below-zero x) tt))
 
-float-to-bits-bits : tie.Need-float-to-bits-bits
-float-to-bits-bits c = no-nan c
-
 returns-4 : tie.Need-returns-4
 returns-4 c = of-infinity _ (held (c .before .before .before .before)) (remains (c .before)) (c .if4 .taken)
 
-root-pattern-requires : tie.Need-root-pattern-requires
-root-pattern-requires c κs = let p = positive-pattern _ (held (c .before .before .before .before)) (root-is c) in (p .above-zero, p .below-infinity)
+-- what is known of the pattern of x
+pattern-of : (c : tie.Else4) → Positive (c .before .before .before .before .args .x)
+pattern-of c = positive-pattern _ (held (c .before .before .before .before)) (root-is c)
 
-float-from-bits-result : tie.Need-float-from-bits-result
-float-from-bits-result c = no-nan-pattern _ (omega (arith, c .root-pattern .ensures .1))
+-- the root is the double with the pattern of the root
+of-root : (c : tie.Else4) → let x = c .before .before .before .before .args .x in ofBits binary64 (rootPattern (scaledBits (toBits binary64 x))) ≡ sqrt x
+of-root c = ap (λ (n : ℕ). ofBits binary64 (rootPattern n)) (sym (pattern-of c .size)) ∙ sym (sqrt-positive _ (root-is c))
+
+-- that pattern is above 0 and below infinity's
+in-range : (c : tie.Else4) → let p = toBits binary64 (c .before .before .before .before .args .x) in (0 < p) × (p < 0x7FF0_0000_0000_0000)
+in-range c = let p = pattern-of c in (p .above-zero, p .below-infinity)
 
 returns-5 : tie.Need-returns-5
 returns-5 c =
-    let start = c .before .before .before .before .before in
-    let x = start .args .x in
-    let p = root-is (c .before) in
-    ap (ofBits binary64) (c .root-pattern .ensures .0 ∙ ap rootPattern (sym (positive-pattern x (held (start)) p .size))) ∙ sym (sqrt-positive x p)
+    let guessed = c .before .before in
+    let fitting : T (fits binary64 (guessed .guess .result)) = subst T (sym (guessed .guess .ok)) tt in
+    sym (ofBits-toBits binary64 _ fitting) ∙ ap (ofBits binary64) (c .before .is-root .ensures (c .if5 .taken)) ∙ of-root (guessed .before)
 
-pub sqrt-spec : {M : Type 1} → statement M
-sqrt-spec = tie.close (tie.spec returns returns-2 returns-3 float-to-bits-bits returns-4 root-pattern-requires float-from-bits-result returns-5)
+returns-6 : tie.Need-returns-6
+returns-6 c = ap (ofBits binary64) (c .root-pattern .ensures .0) ∙ of-root (c .before .before .before .before)
+
+pub sqrt-near-spec : {M : Type 1} → statement M
+sqrt-near-spec =
+    tie.close
+    (tie.spec returns returns-2 returns-3 (λ c. no-nan c) returns-4 (λ c κs. search needs) (λ c κs. in-range (c .before)) returns-5
+    (λ c κs. in-range (c .before .before .before))
+    (λ c. no-nan-pattern _ (omega (arith, c .root-pattern .ensures .1))) returns-6)
