@@ -1,8 +1,10 @@
 -- A matrix of one entry: its sweeps have no pair to rotate (`single-after`), so its eigenvalue is the entry and its vector 1.0 (`single-eigenpairs`).
-use Prim.Native.Nat.{ℕ, zero, suc}
+use Prim.Native.Nat.{ℕ, zero, suc, _*_}
 use mathlib.Core.List.{List, [], _∷_}
 use mathlib.Core.Path.{_≡_, refl, ap, _∙_}
+use native.Mathlib.Omega.{arith}
 use lib.Ieee.{Float}
+use lib.ListN.{length, set}
 use Rattle.kernel.specs.Answer.{answered, ask}
 use Rattle.kernel.specs.Constants.{one}
 use Rattle.kernel.specs.First.{firstBelow}
@@ -29,3 +31,18 @@ single-pairs a = refl
 
 pub single-eigenpairs : (a : List Float) → eigenpairs a 1 ≡ ask 4 (finite (nth a 0)) (answered (record { values = nth a 0 ∷ []; vectors = one ∷ [] }))
 single-eigenpairs a = eigenpairs-final a 1 ∙ ap (pairsOf 1) (single-settled (tolerance (begun a 1 .entries) 1) (begun a 1)) ∙ single-pairs a
+
+-- a list of one element, once it is stored
+pub single-stored : (l : List Float) (x : Float) → length l ≡ 1 → set l 0 x ≡ x ∷ []
+single-stored [] x e = absurd (omega arith)
+single-stored (y ∷ []) x e = refl
+single-stored (y ∷ z ∷ l) x e = absurd (omega arith)
+
+-- and the list of its only element
+pub single-list : (l : List Float) → length l ≡ 1 → l ≡ nth l 0 ∷ []
+single-list [] e = absurd (omega arith)
+single-list (y ∷ []) e = refl
+single-list (y ∷ z ∷ l) e = absurd (omega arith)
+
+pub single-square : {n : ℕ} → n ≡ 1 → n * n ≡ 1
+single-square e = ap (λ (k : ℕ). k * k) e

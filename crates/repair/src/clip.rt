@@ -81,7 +81,7 @@ pub(crate) fn report(e: &[f64], n: usize, floor: f64) -> RegularizationReport
 }
 
 // x, or the floor where x is below it.
-fn raised(x: f64, floor: f64) -> f64
+pub(crate) fn raised(x: f64, floor: f64) -> f64
     ensures { λ r. ⌜ r ≡ raised floor x ⌝ }
 {
     if x < floor {

@@ -3,11 +3,12 @@ ghost use mathlib.Core.Path.{_≡_};
 ghost use Prim.Native.Nat.{_*_, _≤_};
 ghost use lib.ListN.{length};
 ghost use mathlib.Core.Bool.{true};
-ghost use Rattle.dense.specs.Matrix.{side};
+ghost use Rattle.dense.specs.Matrix.{side, finiteEntries};
 ghost use Rattle.repair.specs.Repair.{repair, nearestPsd, afterRepair, refusal};
 use crate::RegularizationReport;
 use crate::Repaired;
 use crate::clip::raise;
+use crate::clip::raised;
 use crate::clip::report;
 use crate::rebuild::rebuild;
 use dense::Written;
@@ -59,6 +60,19 @@ fn repair_in(
     }
 }
 
+// The same of one finite entry, which is its own eigenvalue, with the vector 1.0.
+fn single_repair(cov: &[f64], floor: f64, out: &mut [f64]) -> Repaired
+    requires { ⌜ (length (now cov) ≡ 1) × (finiteEntries (now cov) 1 ≡ true) × (length (now out) ≡ 1) ⌝ }
+    ensures { λ r. ⌜ (r, now (out .exit)) ≡ afterRepair (repair (now (cov .entry)) floor 1) (now (out .entry)) ⌝ }
+{
+    let told = report(cov, 1, floor);
+    out[0] = 0.0 + 1.0 * raised(cov[0], floor) * 1.0;
+    Repaired {
+        answer: Written::Done,
+        report: told,
+    }
+}
+
 // The same with room for orders to 4.
 fn small_repair(cov: &[f64], floor: f64, n: usize, out: &mut [f64]) -> Repaired
     requires { ⌜ (side n ≡ true) × (n ≤ 4) × (length (now cov) ≡ n * n) × (length (now out) ≡ n * n) ⌝ }
@@ -81,6 +95,20 @@ fn large_repair(cov: &[f64], floor: f64, n: usize, out: &mut [f64]) -> Repaired
     repair_in(cov, floor, n, &mut e[..n], &mut v[..size], out)
 }
 
+// Questions 1, 2 and 3 are met: question 4, and then the repair, with the room that the order needs.
+fn repair(cov: &[f64], floor: f64, n: usize, out: &mut [f64]) -> Repaired
+    requires { ⌜ (side n ≡ true) × (length (now cov) ≡ n * n) × (finiteEntries (now cov) (n * n) ≡ true) × (length (now out) ≡ n * n) ⌝ }
+    ensures { λ r. ⌜ (r, now (out .exit)) ≡ afterRepair (repair (now (cov .entry)) floor n) (now (out .entry)) ⌝ }
+{
+    if n == 1 {
+        return single_repair(cov, floor, out);
+    }
+    if n <= 4 {
+        return small_repair(cov, floor, n, out);
+    }
+    large_repair(cov, floor, n, out)
+}
+
 // The matrix nearest to cov, n by n, whose eigenvalues are not below min_eig, into out.
 pub fn nearest_psd(cov: &[f64], min_eig: f64, n: usize, out: &mut [f64]) -> Repaired
     ensures { λ r. ⌜ (r, now (out .exit)) ≡ afterRepair (nearestPsd (now (cov .entry)) «min_eig» n (now (out .entry))) (now (out .entry)) ⌝ }
@@ -95,10 +123,7 @@ pub fn nearest_psd(cov: &[f64], min_eig: f64, n: usize, out: &mut [f64]) -> Repa
     if !are_finite(cov, size) {
         return refused(FINITE_ENTRIES);
     }
-    if n <= 4 {
-        return small_repair(cov, min_eig, n, out);
-    }
-    large_repair(cov, min_eig, n, out)
+    repair(cov, min_eig, n, out)
 }
 
 // The same, by the name that says what is wanted of the spectrum.

@@ -1,19 +1,15 @@
 -- `eigenpairs` meets its contract: one entry, room for orders to 4, or for orders to 16.
 use borrow.Author.Needs.{needs}
-use mathlib.Core.Path.{_≡_, refl, sym, ap, _∙_}
-use Prim.Native.Nat.{ℕ, _*_}
-use native.Mathlib.Omega.{arith}
+use mathlib.Core.Path.{_∙_}
+use Rattle.eigen.proofs.Single.{single-square}
 use Rattle.eigen.proofs.generic.eigenpairs.Statement.{statement}
 use Rattle.eigen.proofs.generic.eigenpairs.Tie as tie
-
-square : {n : ℕ} → n ≡ 1 → n * n ≡ 1
-square e = ap (λ (k : ℕ). k * k) e
 
 single-eigenpair-requires : tie.Need-single-eigenpair-requires
 single-eigenpair-requires c κs =
     let start = c .before .before .before .before .before .before in
     let one = c .before .before .if1 .taken in
-    (start .pre .1 ∙ square one, start .pre .2 ∙ one, start .pre .3 ∙ square one)
+    (start .pre .1 ∙ single-square one, start .pre .2 ∙ one, start .pre .3 ∙ single-square one)
 
 returns : tie.Need-returns
 returns c =

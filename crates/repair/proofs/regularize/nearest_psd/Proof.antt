@@ -57,39 +57,22 @@ returns-3 c =
     let else1 = after-are-finite .before .before .before .before in
     rw (sided (else1), shaped (after-are-finite .before), unmet (after-are-finite .are-finite .ensures) (c .before .if3 .taken), c .refused3 .ensures)
 
-small-repair-requires : tie.Need-small-repair-requires
-small-repair-requires c κs =
-    let else2 = c .before .before .before .before in
-    let else1 = else2 .before .before .before in
-    (sided (else1), omega arith, sizes (else2) .0, sizes (else2) .1)
+repair-requires : tie.Need-repair-requires
+repair-requires c κs =
+    let else3 = c .before in
+    let else2 = else3 .before .before in
+    (sided (else2 .before .before .before), sizes else2 .0, bounded else3, sizes else2 .1)
 
 returns-4 : tie.Need-returns-4
 unfolding nearestPsd
 returns-4 c =
-    let after-small-repair = c .before .before in
-    let else3 = after-small-repair .before .before .before in
+    let after-repair = c .before .before in
+    let else3 = after-repair .before .before in
     let else2 = else3 .before .before in
-    let else1 = else2 .before .before .before in
-    rw (sided (else1), shaped (else2), bounded (else3)) (after-small-repair .small-repair .ensures)
-
-large-repair-requires : tie.Need-large-repair-requires
-large-repair-requires c κs =
-    let else2 = c .before .before .before .before in
-    let else1 = else2 .before .before .before in
-    (sided (else1), sizes (else2) .0, sizes (else2) .1)
-
-returns-5 : tie.Need-returns-5
-unfolding nearestPsd
-returns-5 c =
-    let after-large-repair = c .before .before in
-    let else3 = after-large-repair .before .before .before in
-    let else2 = else3 .before .before in
-    let else1 = else2 .before .before .before in
-    rw (sided (else1), shaped (else2), bounded (else3)) (after-large-repair .large-repair .ensures)
+    rw (sided (else2 .before .before .before), shaped else2, bounded else3) (after-repair .repair .ensures)
 
 pub nearest-psd-spec : {M : Type 1} → statement M
 nearest-psd-spec =
     tie.close
     (tie.spec (λ c κs. search needs) (λ c κs. search needs) returns are-matrices-requires (λ c κs. search needs) (λ c. search needs) returns-2 mul-size
-    are-finite-requires (λ c κs. search needs) (λ c. search needs) returns-3 small-repair-requires (λ c. search needs) returns-4 large-repair-requires
-    (λ c. search needs) returns-5)
+    are-finite-requires (λ c κs. search needs) (λ c. search needs) returns-3 repair-requires (λ c. search needs) returns-4)
