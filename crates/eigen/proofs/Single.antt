@@ -44,5 +44,5 @@ single-list [] e = absurd (omega arith)
 single-list (y ∷ []) e = refl
 single-list (y ∷ z ∷ l) e = absurd (omega arith)
 
-pub single-square : {n : ℕ} → n ≡ 1 → n * n ≡ 1
-single-square e = ap (λ (k : ℕ). k * k) e
+pub same-square : {n k : ℕ} → n ≡ k → n * n ≡ k * k
+same-square e = ap (λ (i : ℕ). i * i) e

@@ -1,3 +1,4 @@
 pub mod Rotation
 pub mod Eigen
 pub mod Rows
+pub mod Pair

@@ -8,6 +8,7 @@ use crate::order::arrange_values;
 use crate::order::arrange_vectors;
 use crate::order::diagonal;
 use crate::order::sort;
+use crate::pair::plane_eigenpairs;
 use crate::start::symmetrize;
 use crate::sweep::settle;
 use crate::sweep::tolerance;
@@ -140,6 +141,9 @@ pub(crate) fn eigenpairs(a: &[f64], n: usize, values: &mut [f64], vectors: &mut 
 {
     if n == 1 {
         return single_eigenpair(a, values, vectors);
+    }
+    if n == 2 {
+        return plane_eigenpairs(a, values, vectors);
     }
     if n <= 4 {
         return small_eigenpairs(a, n, values, vectors);

@@ -2,6 +2,7 @@
 mod angle;
 pub mod generic;
 mod order;
+mod pair;
 mod rotate;
 mod start;
 mod sweep;
@@ -13,4 +14,15 @@ pub struct Rotation {
     pub tangent: f64,
     pub cosine: f64,
     pub sine: f64,
+}
+
+// A symmetric matrix of order 2, app and aqq on its diagonal, with the vectors in its columns.
+pub struct Plane {
+    pub app: f64,
+    pub apq: f64,
+    pub aqq: f64,
+    pub vpp: f64,
+    pub vpq: f64,
+    pub vqp: f64,
+    pub vqq: f64,
 }

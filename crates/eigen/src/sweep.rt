@@ -15,7 +15,7 @@ use kernel::constants::REL_TOL;
 use kernel::number::max;
 
 // The most sweeps that are made.
-const SWEEPS: usize = 64;
+pub(crate) const SWEEPS: usize = 64;
 
 // Adds the squares of row i of m, n by n, right of the diagonal.
 fn above_row(start: f64, m: &[f64], n: usize, i: usize) -> f64

@@ -1,14 +1,14 @@
 -- `repair` meets its contract: one entry, room for orders to 4, or for orders to 16.
 use borrow.Author.Needs.{needs}
 use mathlib.Core.Path.{_∙_}
-use Rattle.eigen.proofs.Single.{single-square}
+use Rattle.eigen.proofs.Single.{same-square}
 use Rattle.repair.proofs.regularize.repair.Statement.{statement}
 use Rattle.repair.proofs.regularize.repair.Tie as tie
 
 single-repair-requires : tie.Need-single-repair-requires
 single-repair-requires c κs =
     let start = c .before .before .before .before in
-    let one = single-square (c .before .if1 .taken) in
+    let one = same-square (c .before .if1 .taken) in
     (start .pre .1 ∙ one, rw one at (start .pre .2), start .pre .3 ∙ one)
 
 returns : tie.Need-returns

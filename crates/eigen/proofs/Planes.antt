@@ -1,0 +1,77 @@
+-- Order 2. `plane-begun` and `plane-tolerance`: where the sweeps start. `plane-rotated`: what a rotation makes of the seven numbers, and
+-- `plane-sweep`: a sweep is one. `plane-stops`: the test is on one square. `plane-pairs`: what is answered.
+use Prim.Native.Nat.{ℕ}
+use native.Mathlib.Omega.{arith}
+use mathlib.Core.Bool.{Bool, true, false, cond, _&&_}
+use mathlib.Core.List.{List, [], _∷_}
+use mathlib.Core.Path.{_≡_, refl, ap, _∙_}
+use lib.Ieee.{Float, lt}
+use lib.ListN.{length, set}
+use Rattle.kernel.specs.Answer.{Outcome, answered, ask}
+use Rattle.kernel.specs.Constants.{nought, half, one, relTol, minPositive}
+use Rattle.kernel.specs.First.{firstBelow}
+use Rattle.kernel.specs.Lists.{tabulate}
+use Rattle.kernel.specs.Number.{add, sub, mul, max, finite}
+use Rattle.dense.specs.Matrix.{sumFrom, nth, matrix, finiteEntries}
+use Rattle.eigen.specs.declared.Plane.{Plane}
+use Rattle.eigen.specs.declared.Rotation.{Rotation}
+use Rattle.eigen.specs.Pair.{planeState, turnedPlane, exchanged, descended, shownBy}
+use Rattle.eigen.specs.Rotation.{State, state, negligible, rotation, turned, cornerEntry, turnedEntry, turnedVector, turnedBy, rotated}
+use Rattle.eigen.specs.Eigen.{symmetrizedEntry, begun, aboveRows, tolerance, stops, sweptRow, sweptRows, sweep}
+use Rattle.eigen.specs.Eigen.{spot, insertedAt, order, arranged, pairsOf}
+
+pub plane-begun : (a : List Float)
+    → begun a 2 ≡ state (nth a 0 ∷ mul half (add (nth a 1) (nth a 2)) ∷ mul half (add (nth a 1) (nth a 2)) ∷ nth a 3 ∷ []) (one ∷ nought ∷ nought ∷ one ∷ [])
+unfolding begun symmetrizedEntry matrix tabulate
+plane-begun a = refl
+
+pub plane-tolerance : (s : Plane)
+    → tolerance (planeState s .entries) 2
+    ≡ mul (mul relTol relTol) (max (add (add (add (add nought (mul (s .app) (s .app))) (mul (s .apq) (s .apq))) (mul (s .apq) (s .apq))) (mul (s .aqq) (s .aqq))) minPositive)
+unfolding tolerance sumFrom
+plane-tolerance s = refl
+
+pub plane-stops : (tol : Float) (s : Plane) → stops 2 tol (planeState s) ≡ lt (add nought (mul (s .apq) (s .apq))) tol
+unfolding stops aboveRows sumFrom
+plane-stops tol s = refl
+
+pub plane-sweep : (s : State) → sweep 2 s ≡ rotated 2 0 1 s
+unfolding sweptRows sweptRow
+plane-sweep s = refl
+
+turned-plane : (g : Rotation) (s : Plane) → turnedBy g 2 0 1 (planeState s) ≡ planeState (turnedPlane g s)
+unfolding turnedBy turnedEntry cornerEntry turnedVector turned matrix tabulate
+turned-plane g s = refl
+
+pub plane-rotated : (s : Plane) → rotated 2 0 1 (planeState s)
+    ≡ cond (negligible (s .app) (s .apq) (s .aqq)) (planeState s) (planeState (turnedPlane (rotation (s .app) (s .apq) (s .aqq)) s))
+unfolding rotated
+plane-rotated s =
+    ap (cond (negligible (s .app) (s .apq) (s .aqq)) (planeState s)) (turned-plane (rotation (s .app) (s .apq) (s .aqq)) s)
+
+-- by which of the two is the greater
+in-order : (s : Plane) (b : Bool)
+    → arranged (s .app ∷ s .aqq ∷ []) (planeState s .vectors) 2 (insertedAt 1 (cond b 0 1) (0 ∷ [])) ≡ shownBy (cond b (exchanged s) s)
+unfolding arranged insertedAt matrix tabulate
+in-order s true = refl
+in-order s false = refl
+
+pub plane-pairs : (s : Plane) → pairsOf 2 (planeState s) ≡ ask 4 (finite (s .app) && finite (s .aqq)) (answered (shownBy (descended s)))
+unfolding pairsOf finiteEntries tabulate order spot insertedAt firstBelow descended
+plane-pairs s = ap (λ r. ask 4 (finite (s .app) && finite (s .aqq)) (answered r)) (in-order s (lt (s .app) (s .aqq)))
+
+-- ---- what is stored in a short slice
+
+pub two-stored : (l : List Float) (x y : Float) → length l ≡ 2 → set (set l 0 x) 1 y ≡ x ∷ y ∷ []
+two-stored [] x y e = absurd (omega arith)
+two-stored (a ∷ []) x y e = absurd (omega arith)
+two-stored (a ∷ b ∷ []) x y e = refl
+two-stored (a ∷ b ∷ c ∷ l) x y e = absurd (omega arith)
+
+pub four-stored : (l : List Float) (x y z w : Float) → length l ≡ 4 → set (set (set (set l 0 x) 1 y) 2 z) 3 w ≡ x ∷ y ∷ z ∷ w ∷ []
+four-stored [] x y z w e = absurd (omega arith)
+four-stored (a ∷ []) x y z w e = absurd (omega arith)
+four-stored (a ∷ b ∷ []) x y z w e = absurd (omega arith)
+four-stored (a ∷ b ∷ c ∷ []) x y z w e = absurd (omega arith)
+four-stored (a ∷ b ∷ c ∷ d ∷ []) x y z w e = refl
+four-stored (a ∷ b ∷ c ∷ d ∷ f ∷ l) x y z w e = absurd (omega arith)
