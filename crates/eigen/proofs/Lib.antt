@@ -1,5 +1,6 @@
 pub mod Cells
 pub mod Rotations
+pub mod Stores
 pub mod Sweeps
 pub mod Means
 pub mod Orders

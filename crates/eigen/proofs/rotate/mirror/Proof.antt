@@ -5,7 +5,7 @@ use mathlib.Core.Path.{sym, _∙_}
 use lib.ListN.{length}
 use Rattle.dense.proofs.Laws.{cell}
 use Rattle.eigen.proofs.Cells.{Cells}
-use Rattle.eigen.proofs.Rotations.{mirroredTo, mirror-none, mirror-next, mirror-more, mirror-all}
+use Rattle.eigen.proofs.Stores.{mirroredTo, mirror-none, mirror-next, mirror-more, mirror-all}
 use Rattle.eigen.proofs.rotate.mirror.Statement.{statement}
 use Rattle.eigen.proofs.rotate.mirror.Tie as tie
 
