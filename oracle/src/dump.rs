@@ -149,10 +149,11 @@ pub fn run(long: bool) -> u64 {
     }
     let usage = "usage: trackdump FILE [triangle]\n";
     let missing = "missing.trk: No such file or directory\n";
-    let told: [(&[&str], &str); 6] = [
+    let told: [(&[&str], &str); 7] = [
         (&[], usage),
         (&["missing.trk"], missing),
         (&["missing.trk", "triangle"], missing),
+        (&["."], ".: Is a directory\n"),
         (&[NAME, "triangles"], usage),
         (&[NAME, "a word that is longer than any form"], usage),
         (&[NAME, "triangle", "triangle"], usage),

@@ -109,17 +109,35 @@ fn show(list: &[u8], whole: bool) {
     }
 }
 
-// A list has at most 14,050 bytes, so what the buffer does not hold of a longer file changes no answer.
+// The list that begins with n bytes, once the rest is read after them. A list has at most 14,050 bytes, so what the buffer
+// does not hold of a longer file changes no answer.
+fn show_rest(fd: i32, list: &mut [u8], n: usize, whole: bool) {
+    if list.len() < n {
+        return;
+    }
+    let more = io::read_full(fd, &mut list[n..]);
+    show(&list[..n + more], whole);
+}
+
+fn show_open(fd: i32, path: &[u8], whole: bool) {
+    let mut list = io::large_buffer();
+    let got = libc::read(fd, &mut list);
+    if got < 0 {
+        os::fail(path);
+        return;
+    }
+    let n = io::count(got, &list);
+    show_rest(fd, &mut list, n, whole);
+}
+
 fn show_file(path: &[u8], whole: bool) {
     let fd = os::open_read(path);
     if fd < 0 {
         os::fail(path);
         return;
     }
-    let mut list = io::large_buffer();
-    let n = io::read_full(fd, &mut list);
+    show_open(fd, path, whole);
     libc::close(fd);
-    show(&list[..n], whole);
 }
 
 fn is_triangle(word: &[u8]) -> bool {
