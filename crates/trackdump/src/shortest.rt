@@ -1,6 +1,6 @@
 // The fewest decimal digits that read back as the same double, and of these the nearest to it: the algorithm of Steele and
-// White, in whole numbers. A double v = r / s; low and high, over s, are how far the numbers that read back as v reach below
-// and above it.
+// White, in whole numbers. A double v is r / s; low and high, over s, are how far the numbers that read back as v reach below
+// and above it. The two ends read back as v too where its last bit is even.
 use crate::whole;
 ghost use mathlib.Core.Path.{_≡_};
 ghost use Prim.Native.Nat.{_-_, _≤_, _<_};
@@ -9,9 +9,10 @@ ghost use lib.ListN.{length};
 // The bit that normal numbers have above their fraction.
 const HIDDEN: u64 = 0x10_0000_0000_0000;
 
-// Place of the point that stands for v = 0.d1d2d3..; each one more is a factor of 10.
+// The place of the point in 0.d1d2d3..; each place more is a factor of 10.
 pub(crate) const ORIGIN: usize = 400;
 
+// How many digits there are, and the place of the point.
 pub(crate) struct Place {
     pub(crate) count: usize,
     pub(crate) point: usize,
@@ -106,6 +107,7 @@ fn end_of(r: &[u32; 36], low: &[u32; 36], high: &[u32; 36], s: &[u32; 36], even:
     End::Down
 }
 
+// A digit as text, or the next one.
 fn figure(d: u8, end: End) -> u8
     requires { ⌜ d ≤ 9 ⌝ }
 {
@@ -161,6 +163,7 @@ fn spell(
     17
 }
 
+// By how much a is above b.
 fn excess(a: usize, b: usize) -> usize
     ensures { λ r. ⌜ r ≡ a - b ⌝ }
 {
@@ -170,7 +173,8 @@ fn excess(a: usize, b: usize) -> usize
     a - b
 }
 
-// The digits of m · 2^(e - 1075). The double below it is half as far as the one above where m is a power of two, but for the least.
+// The digits of m · 2^(e - 1075). Where m is the least of its exponent, the double below is half as far as the one above; the
+// least exponent has no nearer one.
 fn digits_of(m: u64, e: usize, digits: &mut [u8]) -> Place
     requires { ⌜ (m < 9007199254740992) × (e ≤ 2046) × (17 ≤ length (now digits)) ⌝ }
     ensures { λ _. ⌜ length (now (digits .exit)) ≡ length (now (digits .entry)) ⌝ }
@@ -189,7 +193,8 @@ fn digits_of(m: u64, e: usize, digits: &mut [u8]) -> Place
     }
 }
 
-// The digits of the finite double above 0 that has these bits.
+// The digits of the finite double above 0 that has these bits. Its exponent is below 2047, and 0 stands for that of 1 without
+// the hidden bit.
 pub(crate) fn shortest(bits: u64, digits: &mut [u8]) -> Place
     requires { ⌜ 17 ≤ length (now digits) ⌝ }
     ensures { λ _. ⌜ length (now (digits .exit)) ≡ length (now (digits .entry)) ⌝ }
