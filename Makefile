@@ -36,7 +36,7 @@ progress = awk '/^rt:/ && !/unchanged/ { print; fflush() }'
 demo: programs
 	@demo/run
 
-# The programs, proved and built. The line above it is for those who wait: only what has changed is proved.
+# The programs, proved and built; what has not changed is not proved again.
 programs:
 	@echo "rt check trackmerge trackdump: proves the two programs and what they use; the first time that takes some minutes"
 	@rt check trackmerge trackdump 2>&1 | $(progress) || { echo "not proved: rt check trackmerge trackdump says why"; exit 1; }
