@@ -1,7 +1,11 @@
 # The gate and its parts.
 #
-#   make test      the gate: the layout, `rt ci`, then the static library from what it proved and the quick differential run
-#                  where cargo and the Rust source are at hand. The last line is that of `rt ci`, only if all of it succeeded
+#   make demo      proves and builds the two programs, and shows a merge of three small lists
+#   make test      the gate: the layout, `rt ci`, then, from what it proved, the static library, the quick differential run where cargo
+#                  and the Rust source are at hand, the Rust and C checks where there is cargo and a C compiler, the demonstration,
+#                  and an installation into a temporary folder. The last line is that of `rt ci`, only if all of it succeeded
+#   make install   the programs, the library, the header and a pkg-config file, below PREFIX; DESTDIR stands before it
+#   make uninstall takes these files away again
 #   make oracle    the long differential run
 #   make vectors   writes the frozen answers that the programs `*_vectors` replay
 #   make bench     times beside the Rust's, in one run
@@ -10,32 +14,124 @@
 NOLAN_SRC ?= $(abspath ../shared/docs/src)
 export NOLAN_SRC
 
+PREFIX ?= /usr/local
+DESTDIR ?=
+VERSION = 0.1.0
+
+CC ?= cc
+CFLAGS ?= -O2
+strict = -std=c99 -Wall -Wextra -Werror
+
 SHELL = bash
 .SHELLFLAGS = -eu -o pipefail -c
 
 cargo = cargo run --release --offline --quiet --manifest-path
+bound = --offline --quiet --manifest-path bindings/rust/Cargo.toml
+again = $(MAKE) --no-print-directory
+# What `rt` says of crates that it proves now, without those that are proved already.
+progress = awk '/^rt:/ && !/unchanged/ { print; fflush() }'
 
-.PHONY: test beside differential oracle vectors bench capi trackmerge
+.PHONY: demo test beside differential rust c c-with shown installed install put uninstall oracle vectors bench capi programs
+
+demo: programs
+	@demo/run
+
+# The programs, proved and built; what has not changed is not proved again.
+programs:
+	@echo "rt check trackmerge trackdump: proves the two programs and what they use; the first time that takes some minutes"
+	@rt check trackmerge trackdump 2>&1 | $(progress) || { echo "not proved: rt check trackmerge trackdump says why"; exit 1; }
 
 test:
 	@log=$$(mktemp); trap 'rm -f "$$log"' EXIT; \
 	rt fmt --check; \
 	rt ci | tee "$$log"; \
-	$(MAKE) --no-print-directory beside; \
+	$(again) beside; \
 	tail -n 1 "$$log"
 
-# What is compared with the Rust, where it can be.
-beside:
+# What follows the proofs, each part where it can be run.
+beside: capi programs
 	@if command -v cargo >/dev/null && [ -d "$(NOLAN_SRC)/src/linalg" ]; then \
-	    $(MAKE) --no-print-directory differential; \
+	    $(again) differential; \
 	else \
 	    echo "no differential run: it needs cargo and the Rust source, and NOLAN_SRC is $(NOLAN_SRC)"; \
 	fi
+	@if command -v cargo >/dev/null; then $(again) rust; else echo "no Rust checks: there is no cargo"; fi
+	@if command -v $(CC) >/dev/null; then $(again) c; else echo "no C checks: there is no $(CC)"; fi
+	@$(again) shown installed
 
-differential: capi trackmerge
+# The five parts take the library and the programs as they stand.
+differential:
 	$(cargo) oracle/Cargo.toml -- quick
 
-oracle: capi trackmerge
+# The crate's tests and documents, and its example on the lists of the demonstration.
+rust:
+	cargo test $(bound)
+	RUSTDOCFLAGS="-D warnings" cargo doc --no-deps $(bound)
+	cd demo && cargo run --offline --quiet --manifest-path ../bindings/rust/Cargo.toml --example merge -- base.trk ours.trk theirs.trk \
+	    | diff ../bindings/rust/examples/merge.out -
+	@echo "Rust: tests, documents and the example are as they should be"
+
+c:
+	@$(again) c-with flags="-I include target/staticlib/libcapi.a"
+	@echo "C: the example and the empty slices are as they should be"
+
+# Compiles the C programs with these flags, runs them, and tells a call of the header that is not tried with empty slices.
+c-with:
+	@folder=$$(mktemp -d); trap 'rm -rf "$$folder"' EXIT; \
+	for name in example empty; do $(CC) $(strict) $(CFLAGS) bindings/c/$$name.c -o "$$folder/$$name" $(flags); done; \
+	"$$folder/example" | diff bindings/c/example.out -; \
+	"$$folder/empty"; \
+	sed -nE 's/^(uint32_t|void) (pel_[a-z0-9_]+)\(.*/\2/p' include/pelosumba.h | while read -r name; do \
+	    grep -q "$$name(" bindings/c/empty.c || { echo "$$name: not tried with empty slices"; exit 1; }; \
+	done
+
+# The demonstration's text.
+shown:
+	@demo/run | diff demo/stdout -
+	@echo "demo: as it should be"
+
+# An installation below a temporary folder, with and without DESTDIR; what was installed is used, and taken away again.
+installed:
+	@folder=$$(mktemp -d); trap 'rm -rf "$$folder"' EXIT; \
+	$(again) put PREFIX=/opt/pelosumba DESTDIR="$$folder/staged" >/dev/null; \
+	$(again) put PREFIX="$$folder/own" DESTDIR= >/dev/null; \
+	diff <(cd "$$folder/staged/opt/pelosumba" && find . -type f | sort) <(cd "$$folder/own" && find . -type f | sort); \
+	diff <("$$folder/own/bin/trackdump" demo/base.trk) <(target/bin/trackdump demo/base.trk); \
+	demo/run "$$folder/own/bin" | diff demo/stdout -; \
+	if ! command -v $(CC) >/dev/null; then \
+	    echo "install: tried without the C example, there is no $(CC)"; \
+	elif command -v pkg-config >/dev/null; then \
+	    export PKG_CONFIG_PATH="$$folder/own/lib/pkgconfig"; \
+	    [ "$$(pkg-config --modversion pelosumba)" = $(VERSION) ]; \
+	    $(again) c-with flags="$$(pkg-config --cflags --libs pelosumba)"; \
+	    export PKG_CONFIG_PATH="$$folder/staged/opt/pelosumba/lib/pkgconfig" PKG_CONFIG_SYSROOT_DIR="$$folder/staged"; \
+	    $(again) c-with flags="$$(pkg-config --cflags --libs pelosumba)"; \
+	else \
+	    echo "install: tried without pkg-config"; \
+	    $(again) c-with flags="-I$$folder/own/include -L$$folder/own/lib -lpelosumba"; \
+	fi; \
+	$(again) uninstall PREFIX=/opt/pelosumba DESTDIR="$$folder/staged" >/dev/null; \
+	$(again) uninstall PREFIX="$$folder/own" DESTDIR= >/dev/null; \
+	[ -z "$$(find "$$folder" -type f)" ]; \
+	echo "install: as it should be, and nothing is left after uninstall"
+
+install: capi programs
+	@$(again) put
+
+# The library and the programs as they stand, put below PREFIX.
+put:
+	install -d "$(DESTDIR)$(PREFIX)/bin" "$(DESTDIR)$(PREFIX)/lib/pkgconfig" "$(DESTDIR)$(PREFIX)/include"
+	install -m 755 target/bin/trackmerge target/bin/trackdump "$(DESTDIR)$(PREFIX)/bin"
+	install -m 644 target/staticlib/libcapi.a "$(DESTDIR)$(PREFIX)/lib/libpelosumba.a"
+	install -m 644 include/pelosumba.h "$(DESTDIR)$(PREFIX)/include"
+	sed 's|@PREFIX@|$(PREFIX)|; s|@VERSION@|$(VERSION)|' bindings/c/pelosumba.pc.in >"$(DESTDIR)$(PREFIX)/lib/pkgconfig/pelosumba.pc"
+
+uninstall:
+	rm -f "$(DESTDIR)$(PREFIX)/bin/trackmerge" "$(DESTDIR)$(PREFIX)/bin/trackdump" \
+	    "$(DESTDIR)$(PREFIX)/lib/libpelosumba.a" "$(DESTDIR)$(PREFIX)/lib/pkgconfig/pelosumba.pc" \
+	    "$(DESTDIR)$(PREFIX)/include/pelosumba.h"
+
+oracle: capi programs
 	$(cargo) oracle/Cargo.toml -- long
 
 vectors: capi
@@ -47,8 +143,4 @@ bench: capi
 
 # The static library that the runs above link. The bench links that of the pairing too.
 capi:
-	rt staticlib capi
-
-# The program that the differential run starts in its folders.
-trackmerge:
-	rt check trackmerge
+	@rt staticlib capi 2>&1 | $(progress) || { echo "not proved: rt staticlib capi says why"; exit 1; }

@@ -1,7 +1,18 @@
-/* The calls of the static library libcapi.a.
+/* The calls of the static library: libcapi.a where it is built, libpelosumba.a where it is installed.
 
    A call that can refuse answers a number: 0 for answered, or that of the first of document 01's questions that is not
-   met, and a refusal writes nothing. A slice is a pointer and a length; matrices are row by row. */
+   met (docs/FORMAT.md has them all in words), and a refusal writes nothing. A slice is a pointer and a length in elements;
+   matrices are row by row.
+
+   What a caller owes; no call can check it:
+   - A pointer leads to as many elements as its length says, aligned for their type. A slice of length 0 may have any
+     pointer, a null pointer too: it is an empty slice (bindings/c/empty.c tries this with every slice of every call).
+   - A pointer to a single number, as out or count, is not null, and the number may hold anything before.
+   - What is written overlaps nothing else that the call is lent: no slice that is written overlaps another slice, and each
+     number that is written has a place of its own, in no slice. What is only read may overlap: a matrix may be both
+     factors of a product, and one list may be base, ours and theirs.
+   - Nobody else writes lent memory during the call, nor reads what the call writes. The library keeps nothing between calls,
+     so calls on different memory may run at one time. */
 #ifndef PELOSUMBA_H
 #define PELOSUMBA_H
 
@@ -81,10 +92,10 @@ uint32_t pel_write_list(size_t count, size_t dimension, const double *values, si
 /* The record at an offset, by its start and length: 0 where there is none, or the list is refused. */
 void pel_record(const uint8_t *list, size_t list_len, size_t offset, size_t *start, size_t *length);
 
-/* Merges ours and theirs over their base. A caller lends a buffer of at least four bytes to each track of the three lists, and no
-   memory that is written overlaps other lent memory; the three lists may be one. The first full + half + single rows of the
-   buffer are written, four bytes each: base, ours and theirs index (255 for none) and the verdict, 0 keep, 1 take ours, 2 take
-   theirs, 3 deleted, 4 conflict. The bytes past them stay. full, half and single count the rows with three, two and one track. */
+/* Merges ours and theirs over their base. A caller lends a buffer of at least four bytes for each track of the three lists.
+   The first full + half + single rows of the buffer are written, four bytes each: base, ours and theirs index (255 for none)
+   and the verdict, 0 keep, 1 take ours, 2 take theirs, 3 deleted, 4 conflict. The bytes past them stay. full, half and single
+   count the rows with three, two and one track. */
 uint32_t pel_merge(const uint8_t *base, size_t base_len, const uint8_t *ours, size_t ours_len, const uint8_t *theirs,
                    size_t theirs_len, double floor, double gate, uint8_t *rows, size_t rows_len, size_t *full,
                    size_t *half, size_t *single);

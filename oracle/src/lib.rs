@@ -1,6 +1,7 @@
 //! Compares the calls of the static library with the Rust source, bit for bit.
 pub mod classes;
 pub mod comparisons;
+pub mod dump;
 pub mod ffi;
 pub mod lists;
 pub mod matrix;

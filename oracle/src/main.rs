@@ -1,6 +1,6 @@
-//! `oracle quick` or `oracle long`, with the topics `number`, `matrix`, `comparisons`, `lists`, `merge` or the matrix calls to run, or
-//! all; `oracle vectors` writes the frozen answers.
-use oracle::{comparisons, ffi, lists, matrix, number, vectors};
+//! `oracle quick` or `oracle long`, with the topics `number`, `matrix`, `comparisons`, `lists`, `merge`, `dump` or the matrix calls to
+//! run, or all; `oracle vectors` writes the frozen answers.
+use oracle::{comparisons, dump, ffi, lists, matrix, number, vectors};
 use std::process::ExitCode;
 
 fn main() -> ExitCode {
@@ -15,7 +15,7 @@ fn main() -> ExitCode {
             return ExitCode::SUCCESS;
         }
         _ => {
-            eprintln!("usage: oracle quick|long [number] [matrix] [comparisons] [lists] [merge] [CALL].., or oracle vectors");
+            eprintln!("usage: oracle quick|long [number] [matrix] [comparisons] [lists] [merge] [dump] [CALL].., or oracle vectors");
             return ExitCode::from(2);
         }
     };
@@ -32,6 +32,9 @@ fn main() -> ExitCode {
     }
     if wanted("merge") {
         differences += oracle::merge::run::run(long);
+    }
+    if wanted("dump") {
+        differences += dump::run(long);
     }
     for name in ffi::UNKNOWN {
         println!("{name}: declared in the header, and not compared");

@@ -1,13 +1,17 @@
 //! Merges three files: `cargo run --example merge -- base.trk ours.trk theirs.trk`.
 use pelosumba::{merge, winner, List};
 use std::error::Error;
+use std::process::ExitCode;
 
-fn main() -> Result<(), Box<dyn Error>> {
-    let files: Vec<String> = std::env::args().skip(1).collect();
-    let [base, ours, theirs] = &files[..] else {
+fn read(file: &str) -> Result<List, Box<dyn Error>> {
+    let bytes = std::fs::read(file).map_err(|error| format!("{file}: {error}"))?;
+    Ok(List::read(&bytes).map_err(|refusal| format!("{file}: {refusal}"))?)
+}
+
+fn run(files: &[String]) -> Result<(), Box<dyn Error>> {
+    let [base, ours, theirs] = files else {
         return Err("three files are wanted: base, ours and theirs".into());
     };
-    let read = |file: &String| -> Result<List, Box<dyn Error>> { Ok(List::read(&std::fs::read(file)?)?) };
     let (base, ours, theirs) = (read(base)?, read(ours)?, read(theirs)?);
     let merged = merge(&base, &ours, &theirs, 1.0, 16.0)?;
     let shown = |index: Option<usize>| index.map_or("-".to_string(), |i| i.to_string());
@@ -17,4 +21,15 @@ fn main() -> Result<(), Box<dyn Error>> {
     }
     println!("{} of three tracks, {} of two, {} of one", merged.full, merged.half, merged.single);
     Ok(())
+}
+
+fn main() -> ExitCode {
+    let files: Vec<String> = std::env::args().skip(1).collect();
+    match run(&files) {
+        Ok(()) => ExitCode::SUCCESS,
+        Err(error) => {
+            eprintln!("{error}");
+            ExitCode::FAILURE
+        }
+    }
 }

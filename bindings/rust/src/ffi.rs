@@ -70,22 +70,39 @@ macro_rules! repairs {
 }
 
 /// The dense kernel: matrices are slices, row by row, each side from 1 to 16. A call that is refused leaves what it was lent as it was.
+///
+/// ```
+/// use pelosumba::kernel;
+///
+/// let mut x = [0.0; 2];
+/// kernel::mat_solve(&[0.0, 1.0, 2.0, 0.0], &[3.0, 4.0], 2, &mut x)?;
+/// assert_eq!(x, [2.0, 3.0]);
+/// let refused = kernel::mat_solve(&[1.0, 2.0, 2.0, 4.0], &[3.0, 4.0], 2, &mut x).unwrap_err();
+/// assert_eq!((refused.number(), x), (6, [2.0, 3.0]));
+/// # Ok::<(), pelosumba::Refusal>(())
+/// ```
 pub mod kernel {
     use super::{told, Refusal};
 
-    /// What a repair did: how many eigenvalues were clipped, the largest clip, and which, in descending order of the eigenvalues.
+    /// What a repair did to the eigenvalues.
     #[derive(Clone, Copy, Debug, PartialEq)]
     pub struct Report {
+        /// How many eigenvalues were raised to the floor.
         pub n_clipped: usize,
+        /// The floor minus the last eigenvalue; 0.0 where none was clipped.
         pub max_clip_magnitude: f64,
+        /// Which, by their places in descending order; false past the matrix's order.
         pub clipped_indices: [bool; 16],
     }
 
     /// Two tracks compared.
     #[derive(Clone, Copy, Debug, PartialEq)]
     pub enum Comparison {
+        /// The squared distance is at most the gate.
         Near(f64),
+        /// The squared distance is above the gate.
         Far(f64),
+        /// The summed covariance can't be repaired or inverted, or the squared distance is not finite or below 0.
         NoDistance,
     }
 
@@ -96,6 +113,10 @@ pub mod kernel {
         max = pel_max(a, b);
         /// The rounded square root of IEEE 754.
         sqrt = pel_sqrt(x);
+        /// x itself: the source's `value()` of a double.
+        value = pel_value(x);
+        /// c itself: the source's `constant(c)` for doubles.
+        constant = pel_constant(c);
     }
 
     written! {

@@ -8,7 +8,9 @@ const VALUES: usize = 32 * 54;
 /// A track: its state, and the lower triangle of its covariance row by row.
 #[derive(Clone, Debug, PartialEq)]
 pub struct Track {
+    /// The d values of the state.
     pub state: Vec<f64>,
+    /// The d(d+1)/2 entries of the triangle: row i has columns 0 to i.
     pub triangle: Vec<f64>,
 }
 
@@ -22,6 +24,15 @@ pub struct List {
 
 impl List {
     /// Reads a list.
+    ///
+    /// ```
+    /// use pelosumba::List;
+    ///
+    /// let list = List::read(&[1, 1, 2, 0, 0, 0, 0, 0, 0, 0xF0, 0x3F])?;
+    /// assert_eq!((list.dimension(), &list.tracks()[0].triangle[..]), (1, &[1.0][..]));
+    /// assert_eq!(List::read(&[1, 1, 6]).unwrap_err().to_string(), "no 13: are the map's spare bits 0?");
+    /// # Ok::<(), pelosumba::Refusal>(())
+    /// ```
     pub fn read(bytes: &[u8]) -> Result<List, Refusal> {
         let mut values = [0.0; VALUES];
         let (count, dimension) = ffi::read_list(bytes, &mut values)?;
@@ -34,23 +45,32 @@ impl List {
         Ok(List { bytes: bytes.to_vec(), dimension, tracks })
     }
 
-    /// Writes tracks of a dimension as a list. A track of another dimension is refused with 2.
+    /// Writes tracks of a dimension as a list. Where a track has another dimension, it is refused with 2.
     pub fn write(dimension: usize, tracks: &[Track]) -> Result<List, Refusal> {
+        let fits = |track: &Track| {
+            let sides = track.state.len();
+            sides == dimension && track.triangle.len() == sides * (sides + 1) / 2
+        };
         let fields = |track: &Track| [&track.state[..], &track.triangle].concat();
-        let values: Vec<f64> = tracks.iter().flat_map(fields).collect();
+        // No values where some track does not fit: then their number is wrong, after the questions on count and dimension.
+        let values: Vec<f64> =
+            if tracks.iter().all(fits) { tracks.iter().flat_map(fields).collect() } else { Vec::new() };
         let mut bytes = vec![0; LARGEST];
         let length = ffi::write_list(tracks.len(), dimension, &values, &mut bytes)?;
         List::read(&bytes[..length])
     }
 
+    /// The list as it is stored.
     pub fn bytes(&self) -> &[u8] {
         &self.bytes
     }
 
+    /// The dimension of all its tracks, 1 to 9.
     pub fn dimension(&self) -> usize {
         self.dimension
     }
 
+    /// Its tracks, 0 to 32, in their order.
     pub fn tracks(&self) -> &[Track] {
         &self.tracks
     }

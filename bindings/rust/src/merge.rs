@@ -4,19 +4,28 @@ use crate::{ffi, List, Refusal};
 /// What a row says of its tracks.
 #[derive(Clone, Copy, Debug, PartialEq, Eq, Hash)]
 pub enum Verdict {
+    /// Base, ours and theirs are equal.
     Keep,
+    /// Ours wins: it alone has changed or is new, or theirs has the same.
     TakeOurs,
+    /// Theirs wins: it alone has changed or is new.
     TakeTheirs,
+    /// One side has deleted what the other left as it was, or both have.
     Deleted,
+    /// Both sides have changed or added it differently, or one has changed what the other deleted.
     Conflict,
 }
 
 /// The tracks that stand together, by their indices, and the verdict on them.
 #[derive(Clone, Copy, Debug, PartialEq, Eq, Hash)]
 pub struct Row {
+    /// The track of base, if there is one.
     pub base: Option<usize>,
+    /// The track of ours, if there is one.
     pub ours: Option<usize>,
+    /// The track of theirs, if there is one.
     pub theirs: Option<usize>,
+    /// What is to be done.
     pub verdict: Verdict,
     bytes: [u8; 4],
 }
@@ -34,7 +43,7 @@ impl Row {
         Row { base: index(bytes[0]), ours: index(bytes[1]), theirs: index(bytes[2]), verdict, bytes }
     }
 
-    /// The row as the library has it.
+    /// The row as the library has it: three indices, 255 for none, and the verdict's number.
     pub fn bytes(&self) -> [u8; 4] {
         self.bytes
     }
@@ -43,9 +52,13 @@ impl Row {
 /// The rows, and how many have three, two and one track.
 #[derive(Clone, Debug, PartialEq, Eq)]
 pub struct Merge {
+    /// Base tracks first, then tracks of ours without base, then the remaining ones of theirs, each by rising index.
     pub rows: Vec<Row>,
+    /// How many rows have three tracks.
     pub full: usize,
+    /// How many rows have two.
     pub half: usize,
+    /// How many rows have one.
     pub single: usize,
 }
 

@@ -22,7 +22,9 @@ fn eigenpairs_and_repair() {
     let mut out = [7.0; 4];
     let report = kernel::nearest_psd(&[1.0, 0.0, 0.0, -2.0], 0.0, 2, &mut out).unwrap();
     assert_eq!((out, report.n_clipped, report.max_clip_magnitude), ([1.0, 0.0, 0.0, 0.0], 1, 2.0));
-    let report = kernel::nearest_psd(&[-3.0, 0.0, 0.0, 5.0], 1.0, 2, &mut out).unwrap();
+    let report = kernel::nearest_psd(&[1.0, 0.0, 0.0, -2.0], -2.0, 2, &mut out).unwrap();
+    assert_eq!((report.n_clipped, report.max_clip_magnitude, report.clipped_indices), (0, 0.0, [false; 16]));
+    let report = kernel::eigenvalue_floor(&[-3.0, 0.0, 0.0, 5.0], 1.0, 2, &mut out).unwrap();
     assert_eq!((out, report.clipped_indices[0], report.clipped_indices[1]), ([1.0, 0.0, 0.0, 5.0], false, true));
     assert_eq!(report.max_clip_magnitude, 4.0);
 }
@@ -54,7 +56,8 @@ fn lists() {
     assert_eq!(one.tracks(), [Track { state: vec![0.0], triangle: vec![1.0] }]);
     assert_eq!(List::write(1, one.tracks()).unwrap().bytes(), bytes);
     assert_eq!(one.records().collect::<Vec<_>>(), [&bytes[2..]]);
-    assert_eq!(List::write(2, one.tracks()).unwrap_err().number(), 2);
+    let empty = List::read(&[0, 9]).unwrap();
+    assert_eq!((empty.dimension(), empty.tracks().len(), empty.records().count()), (9, 0, 0));
 }
 
 #[test]
@@ -71,38 +74,58 @@ fn case_k() {
 }
 
 #[test]
-fn refusals() {
-    let one = list(&[10.0]);
-    let flat = List::write(2, &[]).unwrap();
-    assert_eq!(merge(&one, &one, &flat, 1.0, 16.0).unwrap_err().number(), 17);
-    assert_eq!(merge(&one, &one, &one, 0.0, 16.0).unwrap_err().number(), 18);
-    assert_eq!(merge(&one, &one, &one, 1.0, f64::NAN).unwrap_err().number(), 18);
-    let near = kernel::compare([&[10.0], &[11.0]], [&[1.0], &[1.0]], 1, 1.0, 16.0).unwrap();
-    assert_eq!(near, Comparison::Near(0.5));
-}
-
-#[test]
-fn every_kind_of_call() {
+fn the_other_calls() {
     let a = [4.0, 2.0, 2.0, 3.0];
     let mut out = [7.0; 4];
     kernel::mat_mul(&a, &a, 2, 2, 2, &mut out).unwrap();
     assert_eq!(out, [20.0, 14.0, 14.0, 13.0]);
     kernel::mat_ata(&a, 2, 2, &mut out).unwrap();
     assert_eq!(out, [20.0, 14.0, 14.0, 13.0]);
+    kernel::mat_transpose(&[1.0, 2.0, 3.0, 4.0], 2, 2, &mut out).unwrap();
+    assert_eq!(out, [1.0, 3.0, 2.0, 4.0]);
+    kernel::mat_symmetrize(&[1.0, 2.0, 4.0, 5.0], 2, &mut out).unwrap();
+    assert_eq!(out, [1.0, 3.0, 3.0, 5.0]);
     kernel::mat_vec_mul(&a, &[1.0, 2.0], 2, &mut out[..2]).unwrap();
     assert_eq!(out[..2], [8.0, 8.0]);
+    kernel::row_inf_norms(&[1.0, -2.0, 4.0, 3.0], 2, &mut out[..2]).unwrap();
+    assert_eq!(out[..2], [2.0, 4.0]);
     kernel::tikhonov(&a, 0.5, 2, &mut out).unwrap();
     assert_eq!(out, [4.5, 2.0, 2.0, 3.5]);
-    assert_eq!(kernel::mat_trace(&a, 2).unwrap(), 7.0);
-    assert_eq!(kernel::mat_quadratic_form(&[1.0, 2.0], &a, 2).unwrap(), 24.0);
-    assert_eq!(kernel::mat_frobenius(&[3.0, 4.0], 1, 2).unwrap(), 5.0);
-    assert_eq!(kernel::condition_number(&[5.0], 1).unwrap(), f64::INFINITY);
-    assert_eq!(kernel::mat3_det(&[2.0, 0.0, 0.0, 0.0, 3.0, 0.0, 0.0, 0.0, 4.0]).unwrap(), 24.0);
+    let (before, after) = kernel::tikhonov_with_report(&a, 0.0, 2, &mut out).unwrap();
+    assert_eq!((before, out), (after, a));
     let lambda = kernel::mat_eigenvector_max(&[2.0, 0.0, 0.0, 2.0], 2, 0, 1e-9, &mut out[..2]).unwrap();
     assert!((lambda - 2.0).abs() < 1e-12);
-    let (before, after) = kernel::tikhonov_with_report(&a, 0.0, 2, &mut out).unwrap();
-    assert_eq!(before, after);
+    let three = [2.0, 0.0, 0.0, 0.0, 4.0, 0.0, 0.0, 0.0, 8.0];
+    let mut nine = [7.0; 9];
+    kernel::mat3_inv(&three, &mut nine).unwrap();
+    assert_eq!(nine, [0.5, 0.0, 0.0, 0.0, 0.25, 0.0, 0.0, 0.0, 0.125]);
+    kernel::mat3_solve(&three, &[2.0, 4.0, 8.0], &mut nine[..3]).unwrap();
+    assert_eq!(nine[..3], [1.0, 1.0, 1.0]);
+    assert_eq!(kernel::mat3_det(&three).unwrap(), 64.0);
+}
+
+#[test]
+fn numbers() {
+    let (a, x) = ([4.0, 2.0, 2.0, 3.0], [1.0, 2.0]);
+    let unit = [1.0, 0.0, 0.0, 1.0];
+    assert_eq!(kernel::mat_trace(&a, 2).unwrap(), 7.0);
+    assert_eq!(kernel::mat_trace_product(&a, &a, 2).unwrap(), 33.0);
+    assert_eq!(kernel::mat_trace_cube(&a, &unit, 2).unwrap(), 175.0);
+    assert_eq!(kernel::mat_quadratic_form(&x, &a, 2).unwrap(), 24.0);
+    assert_eq!(kernel::mahalanobis_distance_squared_with_inv(&x, &[0.0, 0.0], &unit, 2).unwrap(), 5.0);
+    assert_eq!(kernel::mahalanobis_distance_squared(&x, &[0.0, 0.0], &unit, 2).unwrap(), 5.0);
+    assert_eq!(kernel::mat_frobenius(&[3.0, 4.0], 1, 2).unwrap(), 5.0);
+    assert_eq!(kernel::vec_norm(&[3.0, 4.0], 2).unwrap(), 5.0);
+    assert_eq!(kernel::mat_largest_singular_value(&[3.0], 1, 10, 1e-9).unwrap(), 3.0);
+    assert_eq!(kernel::condition_number(&[5.0], 1).unwrap(), f64::INFINITY);
     assert_eq!(kernel::max(f64::NAN, 1.0), 1.0);
-    assert_eq!(kernel::mat_mul(&a, &a, 2, 2, 17, &mut out).unwrap_err().number(), 1);
-    assert_eq!(kernel::mat_mul(&a, &a[..3], 2, 2, 2, &mut out).unwrap_err().number(), 2);
+    assert_eq!((kernel::abs(-2.0), kernel::value(-2.0), kernel::constant(0.5)), (2.0, -2.0, 0.5));
+}
+
+#[test]
+fn comparisons() {
+    let compare = |x: f64, gate: f64| kernel::compare([&[10.0], &[x]], [&[1.0], &[1.0]], 1, 1.0, gate).unwrap();
+    assert_eq!(compare(11.0, 16.0), Comparison::Near(0.5));
+    assert_eq!(compare(11.0, 0.25), Comparison::Far(0.5));
+    assert_eq!(compare(f64::MAX, 16.0), Comparison::NoDistance);
 }
