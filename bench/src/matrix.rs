@@ -1,5 +1,6 @@
 //! The matrix calls beside the source's functions at one order after the other.
 use crate::timer::line;
+use nolan::flat;
 use nolan::linalg::{generic, mat3, regularize};
 use oracle::ffi;
 use oracle::rng::Rng;
@@ -178,6 +179,37 @@ fn rotating<const N: usize>() {
     );
 }
 
+/// The same beside the source's functions behind a table by the order, which is then a number for both: what an inlined constant order is worth.
+fn rotating_by_number<const N: usize>() {
+    assert!(N <= 2, "there is room for eight numbers");
+    let cases = covariances::<N>();
+    let mut memory = [[0.0; N]; N];
+    let matrix = black_box(memory.as_flattened_mut());
+    let mut vector = [0.0; N];
+    let vector = black_box(&mut vector);
+    let given = |c: &Case<N>, call: fn(&[usize]) -> flat::Theirs, length: usize| {
+        let mut out = [0.0; 8];
+        let slices = [c.a.as_flattened()];
+        let given = flat::Given { slices: &slices, number: 1.0, ..Default::default() };
+        call(&[black_box(N)])(&given, &mut out[..length]);
+        out[0]
+    };
+    compare(
+        "mat_symmetric_eigen, by a number,",
+        &cases,
+        |c| ffi::mat_symmetric_eigen(c.a.as_flattened(), N, vector, matrix),
+        |c| given(c, flat::at::mat_symmetric_eigen, N + N * N),
+    );
+    let mut report = ffi::Report { count: 0, clip: 0.0, mask: 0 };
+    let report = black_box(&mut report);
+    compare(
+        "nearest_psd, by a number,",
+        &cases,
+        |c| ffi::nearest_psd(c.a.as_flattened(), 1.0, N, matrix, report),
+        |c| given(c, flat::at::nearest_psd, N * N + 3),
+    );
+}
+
 /// The calls of order 3 alone.
 fn order_3() {
     let cases = &cases::<3>();
@@ -215,4 +247,6 @@ pub fn run_rotating() {
     rotating::<6>();
     rotating::<9>();
     rotating::<16>();
+    rotating_by_number::<1>();
+    rotating_by_number::<2>();
 }
