@@ -1,6 +1,6 @@
 -- Rows whose verdicts are decided after their indices stand: `rows-decided`, what is written then is the rows with these verdicts. `rows-front`: rows depend on the front of the
 -- tables of partners alone.
-use Prim.Native.Nat.{ℕ, zero, suc, _+_, _*_, _<_, _≤_}
+use Prim.Native.Nat.{ℕ, zero, suc, _+_, _<_}
 use native.Mathlib.Omega.{arith}
 use mathlib.Core.Path.{_≡_, refl, sym, ap, _∙_}
 use mathlib.Core.Bool.{Bool, _&&_, cond}
@@ -11,12 +11,12 @@ use Rattle.kernel.specs.Lists.{tabulate, over}
 use Rattle.kernel.proofs.Lists.{tabulate-ext, by-elements}
 use Rattle.pairing.specs.Keys.{nobody}
 use Rattle.merge.specs.Rows.{Row, rowAt, Pairings, selected, withoutBase, remaining, baseRow, oursRow, theirsRow, rowsOf}
-use Rattle.merge.specs.Demand3.{baseIn, oursIn, theirsIn, howMany}
+use Rattle.merge.specs.Demand3.{baseIn, oursIn, theirsIn}
 use Rattle.merge.specs.Steps.{rowsBytes, Appended, tablesIn, pairingsIn}
 use Rattle.merge.specs.declared.pairs.Pairings as TablesOf
 use Rattle.merge.proofs.Bytes.{rows-length}
 use Rattle.merge.proofs.Paired.{front-free}
-use Rattle.merge.proofs.Places.{noRow, Shows, oursRows, rowCount, rows-count, base-row, ours-row, theirs-row, Place, of-base, of-ours, of-theirs, Laid, laid}
+use Rattle.merge.proofs.Places.{noRow, Shows, rowCount, rows-count, base-row, ours-row, theirs-row, Place, of-base, of-ours, of-theirs, laid}
 
 -- ---- the front of tables
 

@@ -1,5 +1,5 @@
 -- What is known of three lists that are read: `lists-of`, `sizes-of`, `compares-of`, `pairs-of` (the pairings by values are the merge's) and `rows-by` (its rows, by the tables of partners).
-use Prim.Native.Nat.{ℕ, _*_, _<_, _≤_}
+use Prim.Native.Nat.{ℕ, _*_, _≤_}
 use native.Mathlib.Omega.{arith}
 use mathlib.Core.Path.{_≡_, refl, sym, ap, _∙_}
 use mathlib.Core.Bool.{Bool, true, false, _&&_}
@@ -14,7 +14,7 @@ use Rattle.compare.specs.Distance.{floorAndGate}
 use Rattle.merge.specs.Tracks.{trackCount}
 use Rattle.merge.specs.Rows.{Pairings, rowsOf}
 use Rattle.merge.specs.Merge.{pairingsOf}
-use Rattle.merge.specs.Steps.{held, Located, Lists, Read, AllRead, Compares, Sizes, pairingsIn, tablesIn, pairedValues}
+use Rattle.merge.specs.Steps.{held, Lists, Read, AllRead, Compares, Sizes, pairingsIn, tablesIn, pairedValues}
 use Rattle.merge.specs.declared.keys.Terms.{Terms}
 use Rattle.merge.specs.declared.pairs.Pairings as TablesOf
 use Rattle.merge.proofs.Deciding.{rows-front}

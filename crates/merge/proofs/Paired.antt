@@ -20,7 +20,7 @@ use Rattle.pairing.specs.Keys.{nobody, fromKeys, firstPartners, secondPartners}
 use Rattle.pairing.specs.Search.{isFree, nobodies}
 use Rattle.merge.specs.Tracks.{trackCount, trackAt}
 use Rattle.merge.specs.Candidates.{comparison, candidatesOf, among, keysAmong}
-use Rattle.merge.specs.Rows.{Partners, Pairings}
+use Rattle.merge.specs.Rows.{Partners}
 use Rattle.merge.specs.Merge.{partnersIn, pairingsOf}
 use Rattle.merge.specs.Steps.{keysBetween, partnersOf, partnersBetween, pairingsIn, pairedValues}
 use Rattle.merge.specs.declared.keys.Terms.{Terms}

@@ -9,7 +9,7 @@ use lib.Dec.{eqb}
 use lib.Ieee.{Float, binary64, ofBits}
 use lib.ListN.{length, getD, drop, length-map, List·getD-append}
 use borrow.Author.Tests.{leb-true, eqb-true, eq-eqb}
-use Rattle.kernel.specs.Answer.{Outcome, refused, answered, andThen}
+use Rattle.kernel.specs.Answer.{Outcome, refused, answered}
 use Rattle.kernel.specs.Bytes.{Bytes}
 use Rattle.kernel.specs.Lists.{tabulate, over}
 use Rattle.kernel.proofs.Lists.{length-tabulate, getD-tabulate, length-over}

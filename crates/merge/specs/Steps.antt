@@ -100,12 +100,12 @@ pub record Sizes (values : List Float) (n f : ℕ) : Type 0 where
 abbrev pub keyFrom : Terms → List Float → List Float → List Float → Float
 keyFrom terms mu p v = let d = terms .d in nearSquare (compared mu (trackState d v) p (trackCovariance d v) d (terms .floor) (terms .gate))
 
-abbrev pub keyOfTwo : Terms → List Float → List Float → Float
-keyOfTwo terms u v = keyFrom terms (trackState (terms .d) u) (trackCovariance (terms .d) u) v
+abbrev pub keyBetween : Terms → List Float → List Float → Float
+keyBetween terms u v = keyFrom terms (trackState (terms .d) u) (trackCovariance (terms .d) u) v
 
 -- The same where both are free of earlier pairings, and a NaN where one is not.
 abbrev pub keyAmong : Terms → Bool → Bool → List Float → List Float → Float
-keyAmong terms first second u v = cond (first && second) (keyOfTwo terms u v) nan
+keyAmong terms first second u v = cond (first && second) (keyBetween terms u v) nan
 
 -- The keys of one track, free or not, and n of a list.
 abbrev pub keysFrom : Terms → Bool → List Float → List Float → List Float → List ℕ → ℕ → List Float

@@ -12,7 +12,7 @@ use crate::parts::both_free;
 use crate::verdict::KEEP;
 use pairing::NOBODY;
 
-// Writes row r of three indices, where it is wanted, and gives the row after it.
+// Writes row r of three indices, its verdict not yet decided, where it is wanted, and gives the row after it.
 fn put_row(wanted: bool, i: u8, j: u8, k: u8, r: usize, rows: &mut [u8]) -> usize
     requires { ⌜ (r ≤ 96) × (4 * r + 4 ≤ length (now rows)) ⌝ }
     ensures { λ x. ⌜ Appended (onlyIf wanted (undecidedRow i j k)) r (now (rows .entry)) x (now (rows .exit)) ⌝ }

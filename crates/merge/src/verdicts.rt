@@ -1,9 +1,8 @@
 // The verdicts of rows whose indices stand, each by the records of its tracks.
 ghost use mathlib.Core.Path.{_≡_};
-ghost use Prim.Native.Nat.{_*_, _<_, _≤_};
+ghost use Prim.Native.Nat.{_*_, _≤_};
 ghost use lib.ListN.{length};
 ghost use Rattle.kernel.specs.Lists.{over, tabulate};
-ghost use Rattle.merge.specs.Demand3.{baseIn, oursIn, theirsIn};
 ghost use Rattle.merge.specs.Steps.{Lists, Index, Indices, verdictHeld, decidedRow, rowsBytes};
 use crate::parts::same_tracks;
 use crate::verdict::verdict;

@@ -1,5 +1,5 @@
 -- `merge` meets its contract: the three lists are read, and then merged.
-use mathlib.Core.Path.{_≡_, refl, sym, ap, subst, _∙_}
+use mathlib.Core.Path.{refl, sym, ap, subst}
 use native.Mathlib.Omega.{arith}
 use borrow.Author.Needs.{needs}
 use denote.Ref.{now}
@@ -10,7 +10,7 @@ use Rattle.tracks.specs.Read.{TrackList}
 use mathlib.Core.List.{List}
 use Rattle.merge.specs.Rows.{Row}
 use Rattle.merge.specs.Merge.{merging, afterMerge}
-use Rattle.merge.specs.Steps.{mergeThree, threeOf}
+use Rattle.merge.specs.Steps.{mergeThree}
 use Rattle.merge.specs.declared.lists.Three.{Three}
 use Rattle.merge.specs.declared.lists.Three.the-variants.{Accepted}
 use Rattle.merge.proofs.Readings.{Tells, list-told, three-told, read-on}

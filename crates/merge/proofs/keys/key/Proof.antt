@@ -1,7 +1,6 @@
 -- `key` meets its contract: the two tracks can be compared, so `compare` answers their comparison.
 use mathlib.Core.List.{List}
 use mathlib.Core.Path.{_≡_, sym, ap, _∙_}
-use native.Mathlib.Omega.{arith}
 use borrow.Author.Needs.{needs}
 use lib.Ieee.{Float}
 use lib.ListN.{length}

@@ -4,7 +4,6 @@ use native.Mathlib.Nat.{le-antisymm, mul-le-mul}
 use native.Mathlib.Omega.{arith}
 use mathlib.Core.List.{List}
 use mathlib.Core.Path.{_≡_, ap, subst, _∙_}
-use borrow.Author.Needs.{needs}
 use lib.Ieee.{Float}
 use lib.ListN.{length, take, length-replicate}
 use Rattle.kernel.specs.Constants.{nought}

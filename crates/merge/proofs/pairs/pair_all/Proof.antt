@@ -1,5 +1,4 @@
 -- `pair_all` meets its contract: three pairings, the third among those that the first two left free.
-use borrow.Author.Needs.{needs}
 use denote.Ref.{now}
 use Rattle.merge.proofs.Paired.{all-paired}
 use Rattle.merge.proofs.pairs.pair_all.Statement.{statement}

@@ -1,5 +1,5 @@
 -- `merge_three` meets its contract: questions 18 and 19, and then the rows, their verdicts and their numbers.
-use mathlib.Core.Path.{_≡_, refl, sym, ap, _∙_}
+use mathlib.Core.Path.{_≡_, sym, ap, _∙_}
 use Prim.Native.Nat.{ℕ, _+_, _*_, _≤_}
 use native.Mathlib.Omega.{arith}
 use mathlib.Core.Bool.{Bool, true, cond}
