@@ -1,5 +1,5 @@
--- What is known of three lists that are read: `lists-of`, `sizes-of`, `compares-of`, `pairs-of` (the pairings by values are the merge's) and `rows-by` (its rows, by the tables of partners).
-use Prim.Native.Nat.{ℕ, _*_, _≤_}
+-- What is known of three lists that are read: `lists-of`, `sizes-of`, `compares-of`, and `rows-placed`: the pairings by their values are the merge's, and so the rows by the tables of partners.
+use Prim.Native.Nat.{ℕ, _+_, _*_, _≤_}
 use native.Mathlib.Omega.{arith}
 use mathlib.Core.Path.{_≡_, refl, sym, ap, _∙_}
 use mathlib.Core.Bool.{Bool, true, false, _&&_}
@@ -14,10 +14,11 @@ use Rattle.compare.specs.Distance.{floorAndGate}
 use Rattle.merge.specs.Tracks.{trackCount}
 use Rattle.merge.specs.Rows.{Pairings, rowsOf}
 use Rattle.merge.specs.Merge.{pairingsOf}
-use Rattle.merge.specs.Steps.{held, Lists, Read, AllRead, Compares, Sizes, pairingsIn, tablesIn, pairedValues}
+use Rattle.merge.specs.Steps.{held, Lists, Read, AllRead, Compares, Sizes, pairingsIn, tablesIn, pairedValues, Appended}
 use Rattle.merge.specs.declared.keys.Terms.{Terms}
 use Rattle.merge.specs.declared.pairs.Pairings as TablesOf
 use Rattle.merge.proofs.Deciding.{rows-front}
+use Rattle.merge.proofs.Groups.{appended-same}
 use Rattle.merge.proofs.Located.{few-located}
 use Rattle.merge.proofs.Paired.{Holds, paired-values}
 use Rattle.merge.proofs.Readings.{values-few}
@@ -61,6 +62,13 @@ module _ {base base-offsets ours ours-offsets theirs theirs-offsets : List ℕ} 
     theirs-dimension = sym (a .theirs-dimension) ∙ a .base-dimension;
   }
 
+  -- the number of all tracks
+  pub number-of : m + n + l ≡ trackCount (held base) + trackCount (held ours) + trackCount (held theirs)
+  number-of = omega (arith, a .of-base .number, a .of-ours .number, a .of-theirs .number)
+
+  pub few-of : m + n + l ≤ 96
+  few-of = omega (arith, few-read (a .of-base), few-read (a .of-ours), few-read (a .of-theirs))
+
   -- an accepted list has a dimension from 1 to 9
   pub dimension-of : dimensionMet d ≡ true
   dimension-of = ap dimensionMet (a .base-dimension) ∙ contents-met base (a .of-base .located .accepted) .sized
@@ -71,15 +79,20 @@ module _ {base base-offsets ours ours-offsets theirs theirs-offsets : List ℕ} 
   abbrev whole : Float → Float → Pairings
   whole floor gate = pairingsOf (held base) (held ours) (held theirs) floor gate
 
-  pub pairs-of : {f : ℕ} (floor gate : Float) → f ≡ fields d
-      → pairedValues (record { d = d; f = f; floor = floor; gate = gate }) base-values m ours-values n theirs-values l ≡ whole floor gate
-  pairs-of {f} floor gate g =
-      let terms : Terms = record { d = d; f = f; floor = floor; gate = gate } in
-      (λ x. pairedValues terms base-values (a .of-base .number x) ours-values (a .of-ours .number x) theirs-values (a .of-theirs .number x))
-      ∙ paired-values (held base) (held ours) (held theirs) terms base-values ours-values theirs-values (a .base-dimension) (a .ours-dimension)
-      (holds (a .of-base) (a .base-dimension) g) (holds (a .of-ours) (a .ours-dimension) g) (holds (a .of-theirs) (a .theirs-dimension) g)
+  module _ {f : ℕ} (floor gate : Float) (g : f ≡ fields d) where
+    abbrev terms : Terms
+    terms = record { d = d; f = f; floor = floor; gate = gate }
 
-  -- the rows by the tables of partners
-  pub rows-by : (v : ℕ → ℕ → ℕ → ℕ) (p : TablesOf.Pairings) (floor gate : Float) → pairingsIn p m n l ≡ whole floor gate
-      → rowsOf v (tablesIn p) m n l ≡ rowsOf v (whole floor gate) (trackCount (held base)) (trackCount (held ours)) (trackCount (held theirs))
-  rows-by v p floor gate e = rows-front v p m n l ∙ (λ x. rowsOf v (e x) (a .of-base .number x) (a .of-ours .number x) (a .of-theirs .number x))
+    pairs-of : pairedValues terms base-values m ours-values n theirs-values l ≡ whole floor gate
+    pairs-of =
+        (λ x. pairedValues terms base-values (a .of-base .number x) ours-values (a .of-ours .number x) theirs-values (a .of-theirs .number x))
+        ∙ paired-values (held base) (held ours) (held theirs) terms base-values ours-values theirs-values (a .base-dimension) (a .ours-dimension)
+        (holds (a .of-base) (a .base-dimension) g) (holds (a .of-ours) (a .ours-dimension) g) (holds (a .of-theirs) (a .theirs-dimension) g)
+
+    -- rows by the tables of partners are the rows of the merge's pairings
+    pub rows-placed : (v : ℕ → ℕ → ℕ → ℕ) (p : TablesOf.Pairings) {r : ℕ} {old new : List ℕ} → pairingsIn p m n l ≡ pairedValues terms base-values m ours-values n theirs-values l
+        → Appended (rowsOf v (tablesIn p) m n l) 0 old r new
+        → Appended (rowsOf v (whole floor gate) (trackCount (held base)) (trackCount (held ours)) (trackCount (held theirs))) 0 old r new
+    rows-placed v p e h =
+        let paired = e ∙ pairs-of in
+        appended-same (rows-front v p m n l ∙ (λ x. rowsOf v (paired x) (a .of-base .number x) (a .of-ours .number x) (a .of-theirs .number x))) h

@@ -18,9 +18,8 @@ use Rattle.merge.specs.Steps.{held, undecided, Appended}
 use Rattle.merge.proofs.AcceptedLists.{indices-in}
 use Rattle.merge.proofs.Asking.{three-18, three-19, three-rows, rows-fit}
 use Rattle.merge.proofs.Deciding.{rows-decided}
-use Rattle.merge.proofs.Groups.{appended-same}
 use Rattle.merge.proofs.Located.{few-located}
-use Rattle.merge.proofs.Merging.{few-read, sizes-of, lists-of, dimension-of, compares-of, pairs-of, rows-by}
+use Rattle.merge.proofs.Merging.{few-read, sizes-of, lists-of, number-of, few-of, dimension-of, compares-of, rows-placed}
 use Rattle.merge.proofs.three.merge_three.Statement.{statement}
 use Rattle.merge.proofs.three.merge_three.Tie as tie
 
@@ -69,21 +68,14 @@ returns c =
 met-18 : (c : tie.Else1) → floorAndGate (begun c .args .floor) (begun c .args .gate) ≡ true
 met-18 c = sym (c .before .is-floor-and-gate .ensures) ∙ not-false _ (c .if1 .left)
 
--- the numbers of tracks
-number : (s : tie.Start) → s .args .m + s .args .n + s .args .l ≡ trackCount (b s) + trackCount (o s) + trackCount (t s)
-number s = let a = s .pre in omega (arith, a .of-base .number, a .of-ours .number, a .of-theirs .number)
-
-few : (s : tie.Start) → s .args .m + s .args .n + s .args .l ≤ 96
-few s = let a = s .pre in omega (arith, few-read (a .of-base), few-read (a .of-ours), few-read (a .of-theirs))
-
 returns-2 : tie.Need-returns-2
 returns-2 c =
     let s = begun (c .before) in
-    three-19 (b s) (o s) (t s) (s .args .floor) (s .args .gate) (old s) (met-18 (c .before)) (omega (arith, number s, c .if2 .taken))
+    three-19 (b s) (o s) (t s) (s .args .floor) (s .args .gate) (old s) (met-18 (c .before)) (omega (arith, number-of (s .pre), c .if2 .taken))
 
 -- question 19 is met
 room : (c : tie.After-field-count) → let s = entered c in 4 * (trackCount (b s) + trackCount (o s) + trackCount (t s)) ≤ length (old s)
-room c = omega (arith, number (entered c), asked c .if2 .left)
+room c = omega (arith, number-of (entered c .pre), asked c .if2 .left)
 
 -- the number of fields
 size-is : (c : tie.After-field-count) → c .field-count .result ≡ fields (entered c .args .d)
@@ -106,8 +98,7 @@ placed : (c : tie.After-write-rows) → let s = entered (sized c) in Appended (r
 placed c =
     let s = entered (sized c) in
     let p = c .before .before .pair-all in
-    let paired = p .ensures ∙ pairs-of (s .pre) (s .args .floor) (s .args .gate) (size-is (sized c)) in
-    appended-same (rows-by (s .pre) undecided (p .result) (s .args .floor) (s .args .gate) paired) (c .write-rows .ensures)
+    rows-placed (s .pre) (s .args .floor) (s .args .gate) (size-is (sized c)) undecided (p .result) (p .ensures) (c .write-rows .ensures)
 
 decided : (c : tie.After-write-verdicts)
     → let w = written c in
@@ -128,7 +119,7 @@ write-verdicts-requires c κs =
     let fit = rows-fit (b s) (o s) (t s) (s .args .floor) (s .args .gate) (old s) undecided (placed w) (room (sized w)) in
     let is = indices-in (b s) (o s) (t s) (s .args .floor) (s .args .gate) (few-located (a .of-base .located)) (few-located (a .of-ours .located)) (few-located (a .of-theirs .located))
     (old s) undecided (placed w) in
-    (lists-of a, (omega (arith, fit .0, number s, few s), fit .1, is))
+    (lists-of a, (omega (arith, fit .0, number-of (s .pre), few-of (s .pre)), fit .1, is))
 
 count-rows-requires : tie.Need-count-rows-requires
 unfolding mergedRows
@@ -137,7 +128,7 @@ count-rows-requires c κs =
     let f = sized (written v) in
     let s = entered f in
     let fit = rows-fit (b s) (o s) (t s) (s .args .floor) (s .args .gate) (old s) (verdictOn (b s) (o s) (t s)) (decided v) (room f) in
-    (omega (arith, fit .0, number s, few s), fit .1)
+    (omega (arith, fit .0, number-of (s .pre), few-of (s .pre)), fit .1)
 
 returns-3 : tie.Need-returns-3
 returns-3 c =
@@ -152,6 +143,6 @@ returns-3 c =
 pub merge-three-spec : {M : Type 1} → statement M
 merge-three-spec =
     tie.close
-    (tie.spec (λ c κs. search needs) returns (λ c. omega (arith, few (begun c))) (λ c. omega (arith, few (begun c))) (λ c. omega (arith, few (begun c))) returns-2
+    (tie.spec (λ c κs. search needs) returns (λ c. omega (arith, few-of (begun c .pre))) (λ c. omega (arith, few-of (begun c .pre))) (λ c. omega (arith, few-of (begun c .pre))) returns-2
     (λ c κs. search needs) pair-all-requires write-rows-requires write-verdicts-requires count-rows-requires (λ c κs. count-rows-requires (c .before .before) κs)
     (λ c κs. count-rows-requires (c .before .before .before .before) κs) (λ c. search needs) returns-3)
