@@ -1,4 +1,4 @@
-// A track's own bytes, as a part of its list, and whether two tracks are equal.
+// A track's own bytes, as a part of its list; whether two tracks are equal, and whether two are free.
 ghost use mathlib.Core.Path.{_≡_};
 ghost use mathlib.Core.Bool.{_&&_};
 ghost use Prim.Native.Nat.{_<_};
