@@ -1,6 +1,6 @@
--- Demand 3 of three accepted lists: `demand`. On the way, `given` brings together what the laws on rows ask for, `rows-met` says how many rows there are, and `shown-base-ours`,
+-- Demand 3 of three accepted lists: `demand`. On the way, `given-with` brings together what the laws on rows ask for, `rows-met` says how many rows there are, and `shown-base-ours`,
 -- `shown-base-theirs` and `shown-ours-theirs` say that the rows show the three pairings.
-use Prim.Native.Nat.{ℕ, _+_, _*_, _≤_}
+use Prim.Native.Nat.{ℕ, _+_, _*_, _<_, _≤_}
 use native.Mathlib.Omega.{arith}
 use mathlib.Core.Path.{_≡_, refl, sym, ap, subst, subst₂, _∙_}
 use mathlib.Core.Bool.{true, _&&_}
@@ -22,7 +22,8 @@ use Rattle.merge.specs.Tracks.{trackCount}
 use Rattle.merge.specs.Candidates.{candidatesOf, among}
 use Rattle.merge.specs.Rows.{Row, rowBytes, rowsWith, verdictOn, Pairings, rowsOf}
 use Rattle.merge.specs.Merge.{partnersIn, pairingsOf, mergedRows, roomFor}
-use Rattle.merge.specs.Demand3.{Demand3, OnlyUnblocked, tracksIn, howMany, baseWithOurs, baseWithTheirs, oursWithTheirs}
+use Rattle.merge.specs.Steps.{Appended}
+use Rattle.merge.specs.Demand3.{Demand3, OnlyUnblocked, TrackOrNone, baseIn, oursIn, theirsIn, tracksIn, howMany, baseWithOurs, baseWithTheirs, oursWithTheirs}
 use Rattle.merge.proofs.Candidates.{candidates-ordered, among-ordered}
 use Rattle.merge.proofs.Partners.{tabled, free-alike, among-alike}
 use Rattle.merge.proofs.Bytes.{rows-length, rest-byte}
@@ -55,7 +56,7 @@ module _ (b o t : TrackList) (floor gate : Float) where
   third-ordered : Ordered ours-theirs
   third-ordered = among-ordered o t floor gate (isFree (partnersIn base-ours .seconds)) (isFree (partnersIn base-theirs .seconds))
 
-  abbrev pairings : Pairings
+  abbrev pub pairings : Pairings
   pairings = record { baseOurs = partnersIn base-ours; baseTheirs = partnersIn base-theirs; oursTheirs = partnersIn ours-theirs }
 
   abbrev v : ℕ → ℕ → ℕ → ℕ
@@ -72,8 +73,8 @@ module _ (b o t : TrackList) (floor gate : Float) where
     abbrev pub new : List ℕ
     new = over old 0 (flatMap rowBytes rows)
 
-    given : Given v pairings m n l new
-    given = record {
+    pub given-with : (u : ℕ → ℕ → ℕ → ℕ) → Given u pairings m n l (over old 0 (flatMap rowBytes (rowsOf u pairings m n l)))
+    given-with u = record {
       few-base = few-base;
       few-ours = few-ours;
       few-theirs = few-theirs;
@@ -88,8 +89,22 @@ module _ (b o t : TrackList) (floor gate : Float) where
           let y = isFree (partnersIn base-theirs .seconds) k in
           let c = right (candidatesOf o t floor gate .candidate j k) (x && y) (paired-stable ours-theirs third-ordered .pairing .candidates (pair j k) u) in
           (left x y c, right x y c);
-      laid = laid v pairings m n l old;
+      laid = laid u pairings m n l old;
     }
+
+    abbrev given : Given v pairings m n l new
+    given = given-with v
+
+    -- rows with any verdicts have indices of tracks
+    pub indices-in : (u : ℕ → ℕ → ℕ → ℕ) {total : ℕ} {buffer : List ℕ} → Appended (rowsOf u (pairingsOf b o t floor gate) m n l) 0 old total buffer
+        → (r : ℕ) → r < total → TrackOrNone m (baseIn buffer r) × TrackOrNone n (oursIn buffer r) × TrackOrNone l (theirsIn buffer r)
+    unfolding pairingsOf
+    indices-in u {total} a r h =
+        let g = given-with u in
+        let full = over old 0 (flatMap rowBytes (rowsOf u pairings m n l)) in
+        let k : r < rowCount pairings m n l = omega (arith, a .next, rows-count u pairings m n l) in
+        subst (λ (l' : List ℕ). TrackOrNone m (baseIn l' r) × TrackOrNone n (oursIn l' r) × TrackOrNone l (theirsIn l' r)) (sym (a .bytes))
+        (base-index u pairings m n l full g r k, ours-index u pairings m n l full g r k, theirs-index u pairings m n l full g r k)
 
     -- ---- how many rows
 
@@ -105,15 +120,15 @@ module _ (b o t : TrackList) (floor gate : Float) where
     -- ---- the pairs that they show
 
     shown-base-ours : baseWithOurs new all ≡ paired base-ours
-    unfolding given
+    unfolding given-with
     shown-base-ours = shows-base-ours v pairings m n l new given
 
     shown-base-theirs : baseWithTheirs new all ≡ paired base-theirs
-    unfolding given
+    unfolding given-with
     shown-base-theirs = shows-base-theirs v pairings m n l new given
 
     shown-ours-theirs : oursWithTheirs new all ≡ paired ours-theirs
-    unfolding given
+    unfolding given-with
     shown-ours-theirs = shows-ours-theirs v pairings m n l new given
 
     free-of-base : among (candidatesOf o t floor gate) (freeSecond base-ours (baseWithOurs new all)) (freeSecond base-theirs (baseWithTheirs new all)) ≡ ours-theirs

@@ -22,38 +22,41 @@ use Rattle.compare.specs.declared.Comparison.{Comparison}
 use Rattle.compare.specs.declared.Compared.the-variants.{Answered, Refused}
 use Rattle.compare.proofs.Comparisons.{comparing-met}
 use Rattle.merge.specs.Steps.{Compares}
+use Rattle.merge.specs.declared.keys.Terms.{Terms}
 
 -- the entries of a covariance
-pub covariance-entries : {d : ℕ} {floor gate : Float} → Compares d floor gate → d * d ≤ 81
+pub covariance-entries : {t : Terms} → Compares t → t .d * t .d ≤ 81
 covariance-entries h = let k = h .few in omega (arith, mul-le-mul k k)
 
 pub length-covariance : (d : ℕ) (v : List Float) → length (trackCovariance d v) ≡ d * d
 unfolding trackCovariance
 length-covariance d v = length-matrix d d _
 
--- the state of a track lies among its fields
-pub length-state : (d : ℕ) (v : List Float) → length v ≡ fields d → length (trackState d v) ≡ d
-unfolding fields
-length-state d v e = length-take-le d v (omega arith)
-
-side-met : {d : ℕ} {floor gate : Float} → Compares d floor gate → side d ≡ true
+side-met : {t : Terms} → Compares t → side (t .d) ≡ true
 unfolding side
-side-met {d} h = rw (le-leb 1 d (h .some), le-leb d 16 (omega arith))
+side-met {t} h = rw (le-leb 1 (t .d) (h .some), le-leb (t .d) 16 (omega (arith, h .few)))
 
--- what `whole_covariance` leaves where the lengths are known
-pub covariance-left : (v out : List Float) {d : ℕ} {floor gate : Float} {r : Written} {new : List Float} → Compares d floor gate → length v ≡ fields d → length out ≡ d * d
-    → Leaves (wholeCovariance v d out) out r new → new ≡ trackCovariance d v
-unfolding fields
-covariance-left v out {d} h e f l = whole-met v out d (side-met h) (omega arith) f l .1
+module _ (t : Terms) (h : Compares t) where
+  -- the state of a track lies among its fields
+  pub length-state : (v : List Float) → length v ≡ t .f → length (trackState (t .d) v) ≡ t .d
+  unfolding fields
+  length-state v e = length-take-le (t .d) v (omega (arith, h .number))
 
-module _ (mu x p q : List Float) {d : ℕ} where
-  lengths-met : length mu ≡ d → length x ≡ d → length p ≡ d * d → length q ≡ d * d → (long mu d && (long x d && (long p (d * d) && long q (d * d)))) ≡ true
-  unfolding long
-  lengths-met a b e f = rw (eq-eqb _ _ a, eq-eqb _ _ b, eq-eqb _ _ e, eq-eqb _ _ f)
+  -- what `whole_covariance` leaves where the lengths are known
+  pub covariance-left : (v out : List Float) {r : Written} {new : List Float} → length v ≡ t .f → length out ≡ t .d * t .d
+      → Leaves (wholeCovariance v (t .d) out) out r new → new ≡ trackCovariance (t .d) v
+  unfolding fields
+  covariance-left v out e f l = whole-met v out (t .d) (side-met h) (omega (arith, h .number)) f l .1
 
-  pub compares : {floor gate : Float} → Compares d floor gate → length mu ≡ d → length x ≡ d → length p ≡ d * d → length q ≡ d * d
-      → compareAnswer (comparing mu x p q d floor gate) ≡ Answered (compared mu x p q d floor gate)
-  compares {floor} {gate} h a b e f = ap compareAnswer (comparing-met mu x p q d floor gate (side-met h) (lengths-met a b e f) (h .floor-and-gate))
+  module _ (mu x p q : List Float) where
+    lengths-met : length mu ≡ t .d → length x ≡ t .d → length p ≡ t .d * t .d → length q ≡ t .d * t .d
+        → (long mu (t .d) && (long x (t .d) && (long p (t .d * t .d) && long q (t .d * t .d)))) ≡ true
+    unfolding long
+    lengths-met a b e f = rw (eq-eqb _ _ a, eq-eqb _ _ b, eq-eqb _ _ e, eq-eqb _ _ f)
+
+    pub compares : length mu ≡ t .d → length x ≡ t .d → length p ≡ t .d * t .d → length q ≡ t .d * t .d
+        → compareAnswer (comparing mu x p q (t .d) (t .floor) (t .gate)) ≡ Answered (compared mu x p q (t .d) (t .floor) (t .gate))
+    compares a b e f = ap compareAnswer (comparing-met mu x p q (t .d) (t .floor) (t .gate) (side-met h) (lengths-met a b e f) (h .floor-and-gate))
 
 pub same-comparison : {a b : Comparison} → Answered a ≡ Answered b → a ≡ b
 same-comparison e = cc

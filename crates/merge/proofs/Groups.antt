@@ -1,18 +1,19 @@
--- Rows that are written one after the other: `appended-more` joins two runs of rows, `appended-length` says that the buffer keeps its length. `verdict-there`: a verdict looks
--- only at records that are there.
-use Prim.Native.Nat.{ℕ, _+_, _*_, _≤_}
+-- Rows that are written one after the other: `appended-more` joins two runs of rows, `appended-length` says that the buffer keeps its length, `tabulated-turn` and `selected-turn` are the
+-- turns of loops. `verdict-put`: a verdict beside its row's indices. `verdict-there`: a verdict looks only at records that are there.
+use Prim.Native.Nat.{ℕ, suc, _+_, _*_, _<_, _≤_}
 use native.Mathlib.Nat.{add-zero}
 use native.Mathlib.Numerals.{add-one}
 use native.Mathlib.Omega.{arith}
 use mathlib.Core.Path.{_≡_, refl, sym, ap, subst, _∙_}
 use mathlib.Core.Bool.{Bool, true, false, _&&_, cond}
 use mathlib.Core.List.{List, [], _∷_, _++_, flatMap}
-use lib.ListN.{length, length-append}
+use lib.ListN.{length, getD, set, take, drop, length-append, take-append-drop}
+use lib.Seq.{drop-cons}
 use Rattle.kernel.specs.Lists.{over, tabulate}
-use Rattle.kernel.proofs.Lists.{length-over, over-none, over-over}
+use Rattle.kernel.proofs.Lists.{length-over, over-none, over-over, over-more}
 use Rattle.tracks.proofs.Lists.{flatMap-append}
 use Rattle.kernel.proofs.Lists.{length-tabulate, tabulate-more}
-use Rattle.merge.proofs.Bytes.{rows-length}
+use Rattle.merge.proofs.Bytes.{rows-length, rest-byte}
 use Rattle.merge.proofs.Writing.{selected-few}
 use Rattle.merge.specs.Rows.{Row, rowBytes, verdict, Equal, selected}
 use Rattle.merge.specs.Demand3.{howMany}
@@ -55,34 +56,62 @@ appended-one wanted w {at} {r} {old} {new} e p q = subst (λ (x : Bool). Appende
 pub appended-if : (a b : Bool) (w : Row) {at r : ℕ} {old new : List ℕ} → a ≡ b → Appended (onlyIf a w) at old r new → Appended (onlyIf b w) at old r new
 appended-if a b w {at} {r} {old} {new} e p = subst (λ (x : Bool). Appended (onlyIf x w) at old r new) e p
 
+-- a verdict that is put beside its row's indices
+next-element : (l : List ℕ) (a b : ℕ) → b ≡ suc a → a < length l → drop a l ≡ getD l a 0 ∷ drop b l
+next-element l a b e h = drop-cons l a 0 h ∙ ap (λ (n : ℕ). getD l a 0 ∷ drop n l) (sym e)
+
+pub verdict-put : (l : List ℕ) (a : ℕ) {i j k u v : ℕ} → getD l a 0 ≡ i → getD l (a + 1) 0 ≡ j → getD l (a + 2) 0 ≡ k → u ≡ v → a + 4 ≤ length l
+    → set l (a + 3) u ≡ over l a (i ∷ j ∷ k ∷ v ∷ [])
+unfolding over
+verdict-put l a {u = u} p q r e h =
+    let x = next-element l a (a + 1) (omega arith) (omega arith) in
+    let y = next-element l (a + 1) (a + 2) (omega arith) (omega arith) in
+    let z = next-element l (a + 2) (a + 3) (omega arith) (omega arith) in
+    let rest = x ∙ ap (λ (t : List ℕ). getD l a 0 ∷ t) (y ∙ ap (λ (t : List ℕ). getD l (a + 1) 0 ∷ t) z) in
+    let own : l ≡ over l a (getD l a 0 ∷ getD l (a + 1) 0 ∷ getD l (a + 2) 0 ∷ []) = sym (take-append-drop a l) ∙ ap (λ (t : List ℕ). take a l ++ t) rest in
+    ap (λ (t : List ℕ). set t (a + 3) u) own
+    ∙ over-more l a (a + 3) (getD l a 0 ∷ getD l (a + 1) 0 ∷ getD l (a + 2) 0 ∷ []) u refl (omega arith)
+    ∙ (λ t. over l a (p t ∷ q t ∷ r t ∷ e t ∷ []))
+
 -- ---- the rows of a group, one more in each turn
 
 module _ (f : ℕ → Row) where
-  pub tabulated-step : (n : ℕ) {x : ℕ} {old new newer : List ℕ} → Appended (tabulate n f) 0 old n new → 4 * n ≤ length old → Appended (f n ∷ []) n new x newer
-      → Appended (tabulate (n + 1) f) 0 old (n + 1) newer
-  tabulated-step n {x} {old} a h b =
-      let all = appended-more (tabulate n f) (f n ∷ []) a (omega (arith, a .next)) b in
-      record { next = omega (arith, length-tabulate (n + 1) f); bytes = all .bytes ∙ ap (λ (g : List Row). over old 0 (rowsBytes g)) (sym (tabulate-more n f)) }
-
   pub tabulated : (n : ℕ) {old new : List ℕ} → new ≡ over old 0 (rowsBytes (tabulate n f)) → Appended (tabulate n f) 0 old n new
   tabulated n e = record { next = omega (arith, length-tabulate n f); bytes = e }
 
   pub tabulated-length : (n : ℕ) {old new : List ℕ} → Appended (tabulate n f) 0 old n new → 4 * n ≤ length old → length new ≡ length old
   tabulated-length n a h = appended-length a (omega (arith, a .next))
 
+  -- what stands after them is as it was
+  pub tabulated-rest : (n : ℕ) {old new : List ℕ} → Appended (tabulate n f) 0 old n new → (k : ℕ) → 4 * n ≤ k → getD new k 0 ≡ getD old k 0
+  tabulated-rest n {old} a k h =
+      ap (λ (l : List ℕ). getD l k 0) (a .bytes) ∙ rest-byte old (rowsBytes (tabulate n f)) k (omega (arith, rows-length (tabulate n f), length-tabulate n f))
+
+  pub tabulated-turn : (n : ℕ) {x : ℕ} {old new newer : List ℕ} → Appended (tabulate n f) 0 old n new → 4 * (n + 1) ≤ length old → Appended (f n ∷ []) n new x newer
+      → (length newer ≡ length old) × Appended (tabulate (n + 1) f) 0 old (n + 1) newer
+  tabulated-turn n {x} {old} a h b =
+      let all = appended-more (tabulate n f) (f n ∷ []) a (omega (arith, a .next)) b in
+      let next = tabulated (n + 1) (all .bytes ∙ ap (λ (g : List Row). over old 0 (rowsBytes g)) (sym (tabulate-more n f))) in
+      (tabulated-length (n + 1) next h, next)
+
 module _ (test : ℕ → Bool) (f : ℕ → Row) where
-  selected-more : (n : ℕ) → selected (n + 1) test f ≡ selected n test f ++ onlyIf (test n) (f n)
+  selected-more : (n : ℕ) → selected n test f ++ onlyIf (test n) (f n) ≡ selected (n + 1) test f
   unfolding selected
   selected-more n = rw add-one refl
 
-  pub selected-step : (n : ℕ) {at r x : ℕ} {old new newer : List ℕ} → Appended (selected n test f) at old r new → 4 * (at + n) ≤ length old → Appended (onlyIf (test n) (f n)) r new x newer
-      → Appended (selected (n + 1) test f) at old x newer
-  selected-step n {at} {r} {x} {old} {new} {newer} a h b =
-      subst (λ (g : List Row). Appended g at old x newer) (sym (selected-more n))
-      (appended-more (selected n test f) (onlyIf (test n) (f n)) a (omega (arith, selected-few n test f)) b)
-
   pub selected-length : (n : ℕ) {at r : ℕ} {old new : List ℕ} → Appended (selected n test f) at old r new → 4 * (at + n) ≤ length old → length new ≡ length old
   selected-length n a h = appended-length a (omega (arith, selected-few n test f))
+
+  -- there is room for one more
+  pub selected-room : {n m at r : ℕ} {old new : List ℕ} → n < m → Appended (selected n test f) at old r new → m ≤ 32 → at ≤ 64 → 4 * (at + m) ≤ length old → length new ≡ length old
+      → (r ≤ 96) × (4 * r + 4 ≤ length new)
+  selected-room {n} h a few start room e = let k = selected-few n test f in (omega (arith, a .next), omega (arith, a .next))
+
+  pub selected-turn : (n : ℕ) {at r x : ℕ} {old new newer : List ℕ} → Appended (selected n test f) at old r new → 4 * (at + (n + 1)) ≤ length old → Appended (onlyIf (test n) (f n)) r new x newer
+      → (length newer ≡ length old) × Appended (selected (n + 1) test f) at old x newer
+  selected-turn n a h b =
+      let next = appended-same (selected-more n) (appended-more (selected n test f) (onlyIf (test n) (f n)) a (omega (arith, selected-few n test f)) b) in
+      (selected-length (n + 1) next h, next)
 
   pub selected-all : {n m at r : ℕ} {old new : List ℕ} → n ≡ m → Appended (selected n test f) at old r new → Appended (selected m test f) at old r new
   selected-all {n} {m} {at} {r} {old} {new} e a = subst (λ (k : ℕ). Appended (selected k test f) at old r new) e a

@@ -23,5 +23,6 @@ pub mod Listed
 pub mod Decided
 pub mod Winning
 pub mod Readings
+pub mod Deciding
 pub mod Merging
 pub mod Asking

@@ -1,15 +1,16 @@
 -- The pairings by values: `all-paired` puts them together from three pairings of two lists each, and `paired-values` says that they are those of the lists, where the values hold
--- the fields of the lists' tracks (`Holds`).
-use Prim.Native.Nat.{ℕ, _<_, _≤_}
+-- the fields of the lists' tracks (`Holds`). `tables-front`: partners that stand in front of two tables.
+use Prim.Native.Nat.{ℕ, _*_, _<_, _≤_}
 use native.Mathlib.Omega.{arith}
 use mathlib.Core.Path.{_≡_, refl, sym, ap, _∙_}
 use mathlib.Core.Bool.{Bool, true}
-use mathlib.Core.List.{List}
+use mathlib.Core.List.{List, _++_}
 use borrow.Author.Tests.{eq-eqb}
 use lib.Ieee.{Float}
+use lib.Dec.{eqb}
 use lib.ListN.{length, take, replicate, length-replicate, getD-replicate}
-use lib.Seq.{length-take-le, getD-take}
-use Rattle.kernel.proofs.Lists.{length-tabulate, getD-tabulate, by-elements}
+use lib.Seq.{length-take-le, getD-take, take-at}
+use Rattle.kernel.proofs.Lists.{length-tabulate, getD-tabulate}
 use Rattle.dense.specs.Matrix.{rowOf}
 use Rattle.dense.proofs.Laws.{matrix-ext}
 use Rattle.tracks.specs.Read.{TrackList}
@@ -19,9 +20,11 @@ use Rattle.pairing.specs.Keys.{nobody, fromKeys, firstPartners, secondPartners}
 use Rattle.pairing.specs.Search.{isFree, nobodies}
 use Rattle.merge.specs.Tracks.{trackCount, trackAt}
 use Rattle.merge.specs.Candidates.{comparison, candidatesOf, among, keysAmong}
-use Rattle.merge.specs.Rows.{Partners, Pairings}
+use Rattle.merge.specs.Rows.{Partners}
 use Rattle.merge.specs.Merge.{partnersIn, pairingsOf}
-use Rattle.merge.specs.Steps.{keysBetween, candidatesBetween, partnersBetween, pairedValues, pairingsIn, AllFree}
+use Rattle.merge.specs.Steps.{keysBetween, partnersOf, partnersBetween, pairingsIn, pairedValues}
+use Rattle.merge.specs.declared.keys.Terms.{Terms}
+use Rattle.merge.specs.declared.pairs.Partners as TableOf
 use Rattle.merge.proofs.Candidates.{keyed-partners, all-keyed-partners}
 
 -- the values of n tracks of f fields are those of a list
@@ -32,96 +35,94 @@ nobody-free : (n i : ℕ) → i < n → isFree (nobodies n) i ≡ true
 unfolding nobodies
 nobody-free n i h = eq-eqb _ nobody (getD-tabulate n (λ k. nobody) 0 i h)
 
-module _ (a b : TrackList) (d f : ℕ) (floor gate : Float) (us vs : List Float) (e : d ≡ a .dimension) (hu : Holds a us f) (hv : Holds b vs f) where
+module _ (a b : TrackList) (terms : Terms) (us vs : List Float) (e : terms .d ≡ a .dimension) (hu : Holds a us (terms .f)) (hv : Holds b vs (terms .f)) where
   -- the keys by values are those of the lists
   keys-between : (p q : List ℕ) (first second : ℕ → Bool) → ((i : ℕ) → i < trackCount a → isFree p i ≡ first i) → ((j : ℕ) → j < trackCount b → isFree q j ≡ second j)
-      → keysBetween d f floor gate us p (trackCount a) vs q (trackCount b) ≡ keysAmong a b floor gate first second
+      → keysBetween terms us p (trackCount a) vs q (trackCount b) ≡ keysAmong a b (terms .floor) (terms .gate) first second
   unfolding keysAmong comparison
   keys-between p q first second x y = matrix-ext (trackCount a) (trackCount b) _ _ (λ i j h k. rw (x i h, y j k, hu i h, hv j k, e) refl)
 
   partners-among : (p q : List ℕ)
-      → partnersBetween d f floor gate us p (trackCount a) vs q (trackCount b) ≡ partnersIn (among (candidatesOf a b floor gate) (isFree p) (isFree q))
+      → partnersBetween terms us p (trackCount a) vs q (trackCount b) ≡ partnersIn (among (candidatesOf a b (terms .floor) (terms .gate)) (isFree p) (isFree q))
   unfolding partnersBetween partnersIn
   partners-among p q =
       ap (λ (keys : List Float). partnersIn (fromKeys keys (trackCount a) (trackCount b))) (keys-between p q (isFree p) (isFree q) (λ i h. refl) (λ j h. refl))
-      ∙ sym (keyed-partners a b floor gate (isFree p) (isFree q))
+      ∙ sym (keyed-partners a b (terms .floor) (terms .gate) (isFree p) (isFree q))
 
-  partners-all : partnersBetween d f floor gate us (nobodies (trackCount a)) (trackCount a) vs (nobodies (trackCount b)) (trackCount b) ≡ partnersIn (candidatesOf a b floor gate)
+  partners-all : partnersBetween terms us (nobodies (trackCount a)) (trackCount a) vs (nobodies (trackCount b)) (trackCount b) ≡ partnersIn (candidatesOf a b (terms .floor) (terms .gate))
   unfolding partnersBetween partnersIn
   partners-all =
       ap (λ (keys : List Float). partnersIn (fromKeys keys (trackCount a) (trackCount b)))
       (keys-between (nobodies (trackCount a)) (nobodies (trackCount b)) (λ i. true) (λ j. true) (nobody-free (trackCount a)) (nobody-free (trackCount b)))
-      ∙ sym (all-keyed-partners a b floor gate)
+      ∙ sym (all-keyed-partners a b (terms .floor) (terms .gate))
 
-module _ (b o t : TrackList) (d f : ℕ) (floor gate : Float) (us vs ws : List Float) (e : d ≡ b .dimension) (g : d ≡ o .dimension)
-    (hu : Holds b us f) (hv : Holds o vs f) (hw : Holds t ws f) where
-  -- the third pairing after the first two
-  third : Partners → Partners → Partners
-  third bo bt = partnersBetween d f floor gate vs (bo .seconds) (trackCount o) ws (bt .seconds) (trackCount t)
-
-  three : Partners → Partners → Pairings
-  three bo bt = record { baseOurs = bo; baseTheirs = bt; oursTheirs = third bo bt }
-
-  pub paired-values : pairedValues d f floor gate us (trackCount b) vs (trackCount o) ws (trackCount t) ≡ pairingsOf b o t floor gate
-  unfolding pairingsOf three third
+module _ (b o t : TrackList) (terms : Terms) (us vs ws : List Float) (e : terms .d ≡ b .dimension) (g : terms .d ≡ o .dimension)
+    (hu : Holds b us (terms .f)) (hv : Holds o vs (terms .f)) (hw : Holds t ws (terms .f)) where
+  pub paired-values : pairedValues terms us (trackCount b) vs (trackCount o) ws (trackCount t) ≡ pairingsOf b o t (terms .floor) (terms .gate)
+  unfolding pairingsOf
   paired-values =
-      let bo = partnersIn (candidatesOf b o floor gate) in
-      let bt = partnersIn (candidatesOf b t floor gate) in
-      let second = partnersBetween d f floor gate us (nobodies (trackCount b)) (trackCount b) ws (nobodies (trackCount t)) (trackCount t) in
-      ap (λ (x : Partners). three x second) (partners-all b o d f floor gate us vs e hu hv)
-      ∙ ap (three bo) (partners-all b t d f floor gate us ws e hu hw)
-      ∙ ap (λ (x : Partners). record { baseOurs = bo; baseTheirs = bt; oursTheirs = x }) (partners-among o t d f floor gate vs ws g hv hw (bo .seconds) (bt .seconds))
+      let third : Partners → Partners → Partners = λ x y. partnersBetween terms vs (x .seconds) (trackCount o) ws (y .seconds) (trackCount t) in
+      let p = partners-all b o terms us vs e hu hv in
+      let q = partners-all b t terms us ws e hu hw in
+      let bo = partnersIn (candidatesOf b o (terms .floor) (terms .gate)) in
+      let bt = partnersIn (candidatesOf b t (terms .floor) (terms .gate)) in
+      let r = (λ x. third (p x) (q x)) ∙ partners-among o t terms vs ws g hv hw (bo .seconds) (bt .seconds) in
+      λ x. record { baseOurs = p x; baseTheirs = q x; oursTheirs = r x }
 
--- ---- three pairings of two lists each
+-- ---- tables
 
--- what `pair_lists` leaves
-abbrev pub Between : ℕ → ℕ → Float → Float → List Float → List ℕ → ℕ → List Float → List ℕ → ℕ → List ℕ → List ℕ → Type 0
-Between d f floor gate us p m vs q n firsts seconds =
-    (firsts ≡ firstPartners (candidatesBetween d f floor gate us p m vs q n)) × (seconds ≡ secondPartners (candidatesBetween d f floor gate us p m vs q n))
-
--- the front of a table in which everybody is free
-pub free-front : (table : List ℕ) (n : ℕ) → AllFree table → n ≤ 32 → take n table ≡ nobodies n
-unfolding nobodies
-free-front table n a h =
-    by-elements 0 n (λ i. nobody) (take n table) (length-take-le n table (omega (arith, a .long))) (λ i k. getD-take n table i 0 k ∙ a .free i (omega arith))
-
--- a new table, and its front
-pub all-free : AllFree (replicate 32 nobody)
-all-free = record { long = length-replicate 32 nobody; free = λ i h. getD-replicate 32 i nobody 0 h }
-
+-- a new table's front
 pub new-long : {n : ℕ} → n ≤ 32 → length (take n (replicate 32 nobody)) ≡ n
 new-long {n} h = length-take-le n (replicate 32 nobody) (omega (arith, length-replicate 32 nobody))
 
 -- a table has a number for each track
-pub firsts-long : (g : Candidates) → length (firstPartners g) ≡ g .firsts
+firsts-long : (g : Candidates) → length (firstPartners g) ≡ g .firsts
 unfolding firstPartners
 firsts-long g = length-tabulate (g .firsts) _
 
-pub seconds-long : (g : Candidates) → length (secondPartners g) ≡ g .seconds
+seconds-long : (g : Candidates) → length (secondPartners g) ≡ g .seconds
 unfolding secondPartners
 seconds-long g = length-tabulate (g .seconds) _
 
-module _ (d f : ℕ) (floor gate : Float) (us vs ws : List Float) (m n l : ℕ) where
-  between : (us vs : List Float) (p q p' q' : List ℕ) (m n : ℕ) (firsts seconds : List ℕ) → p ≡ p' → q ≡ q' → Between d f floor gate us p m vs q n firsts seconds
-      → record { firsts = firsts; seconds = seconds } ≡ partnersBetween d f floor gate us p' m vs q' n
-  unfolding partnersBetween partnersIn
-  between us vs p q p' q' m n firsts seconds e g h =
-      ap (λ (x : List ℕ). record { firsts = x; seconds = seconds }) (h .0)
-      ∙ ap (λ (x : List ℕ). record { firsts = firstPartners (candidatesBetween d f floor gate us p m vs q n); seconds = x }) (h .1)
-      ∙ ap (λ (x : List ℕ). partnersBetween d f floor gate us x m vs q n) e
-      ∙ ap (λ (x : List ℕ). partnersBetween d f floor gate us p' m vs x n) g
+-- partners in front of two tables
+pub tables-front : (g : Candidates) {a b : List ℕ} (x y : List ℕ) → a ≡ firstPartners g → b ≡ secondPartners g
+    → record { firsts = take (g .firsts) (a ++ x); seconds = take (g .seconds) (b ++ y) } ≡ partnersIn g
+unfolding partnersIn
+tables-front g x y e f =
+    let p = ap (λ (l : List ℕ). take (g .firsts) (l ++ x)) e ∙ take-at (firstPartners g) x (g .firsts) (firsts-long g) in
+    let q = ap (λ (l : List ℕ). take (g .seconds) (l ++ y)) f ∙ take-at (secondPartners g) y (g .seconds) (seconds-long g) in
+    λ z. record { firsts = p z; seconds = q z }
 
-  pub all-paired : (base-ours ours-base base-theirs theirs-base ours-theirs theirs-ours p q p' q' : List ℕ) → p ≡ nobodies m → q ≡ nobodies n → p' ≡ nobodies m → q' ≡ nobodies l
-      → Between d f floor gate us p m vs q n base-ours ours-base → Between d f floor gate us p' m ws q' l base-theirs theirs-base
-      → Between d f floor gate vs ours-base n ws theirs-base l ours-theirs theirs-ours
-      → pairingsIn base-ours ours-base base-theirs theirs-base ours-theirs theirs-ours ≡ pairedValues d f floor gate us m vs n ws l
-  all-paired base-ours ours-base base-theirs theirs-base ours-theirs theirs-ours p q p' q' e g e' g' x y z =
-      let first = between us vs p q (nobodies m) (nobodies n) m n base-ours ours-base e g x in
-      let second = between us ws p' q' (nobodies m) (nobodies l) m l base-theirs theirs-base e' g' y in
-      let last = between vs ws ours-base theirs-base ours-base theirs-base n l ours-theirs theirs-ours refl refl z in
-      ap (λ (w : Partners). record { baseOurs = record { firsts = base-ours; seconds = ours-base }; baseTheirs = record { firsts = base-theirs; seconds = theirs-base }; oursTheirs = w }) last
-      ∙ ap (λ (w : Partners). whole w (record { firsts = base-theirs; seconds = theirs-base })) first
-      ∙ ap (whole (partnersBetween d f floor gate us (nobodies m) m vs (nobodies n) n)) second
-    where
-      whole : Partners → Partners → Pairings
-      whole bo bt = record { baseOurs = bo; baseTheirs = bt; oursTheirs = partnersBetween d f floor gate vs (bo .seconds) n ws (bt .seconds) l }
+-- ---- three pairings of two lists each
+
+abbrev new : List ℕ
+new = replicate 32 nobody
+
+-- in a new table everybody is free
+new-free : (n i : ℕ) → n ≤ 32 → i < n → isFree (replicate 32 nobody) i ≡ isFree (nobodies n) i
+new-free n i h k = eq-eqb _ nobody (getD-replicate 32 i nobody 0 (omega arith)) ∙ sym (nobody-free n i k)
+
+-- a table says the same as its front
+pub front-free : (table : List ℕ) (n i : ℕ) → i < n → isFree table i ≡ isFree (take n table) i
+front-free table n i k = ap (λ (x : ℕ). eqb x nobody) (sym (getD-take n table i 0 k))
+
+module _ (terms : Terms) where
+  -- partners by keys, where the tables p and p', q and q' say the same of those who are free
+  between : (us vs : List Float) (p q p' q' : List ℕ) (m n : ℕ) (keys : List Float) (t : TableOf.Partners) → ((i : ℕ) → i < m → isFree p i ≡ isFree p' i) → ((j : ℕ) → j < n → isFree q j ≡ isFree q' j)
+      → keys ≡ keysBetween terms us p m vs q n → partnersOf t m n ≡ partnersIn (fromKeys keys m n) → partnersOf t m n ≡ partnersBetween terms us p' m vs q' n
+  unfolding partnersBetween partnersIn
+  between us vs p q p' q' m n keys t x y e h =
+      h ∙ ap (λ (k : List Float). partnersIn (fromKeys k m n)) (e ∙ matrix-ext m n _ _ (λ i j hi hj. rw (x i hi, y j hj) refl))
+
+  module _ (us vs ws : List Float) (m n l : ℕ) (hm : m ≤ 32) (hn : n ≤ 32) (hl : l ≤ 32) (bo bt ot : TableOf.Partners) (k1 k2 k3 : List Float) where
+    pub all-paired : take (m * n) k1 ≡ keysBetween terms us new m vs new n → partnersOf bo m n ≡ partnersIn (fromKeys (take (m * n) k1) m n)
+        → take (m * l) k2 ≡ keysBetween terms us new m ws new l → partnersOf bt m l ≡ partnersIn (fromKeys (take (m * l) k2) m l)
+        → take (n * l) k3 ≡ keysBetween terms vs (bo .seconds) n ws (bt .seconds) l → partnersOf ot n l ≡ partnersIn (fromKeys (take (n * l) k3) n l)
+        → pairingsIn (record { «base_ours» = bo; «base_theirs» = bt; «ours_theirs» = ot }) m n l ≡ pairedValues terms us m vs n ws l
+    all-paired e1 h1 e2 h2 e3 h3 =
+        let third : Partners → Partners → Partners = λ x y. partnersBetween terms vs (x .seconds) n ws (y .seconds) l in
+        let p = between us vs new new (nobodies m) (nobodies n) m n (take (m * n) k1) bo (λ i k. new-free m i hm k) (λ j k. new-free n j hn k) e1 h1 in
+        let q = between us ws new new (nobodies m) (nobodies l) m l (take (m * l) k2) bt (λ i k. new-free m i hm k) (λ j k. new-free l j hl k) e2 h2 in
+        let last = between vs ws (bo .seconds) (bt .seconds) (take n (bo .seconds)) (take l (bt .seconds)) n l (take (n * l) k3) ot (front-free (bo .seconds) n) (front-free (bt .seconds) l) e3 h3 in
+        let r = last ∙ (λ x. third (p x) (q x)) in
+        λ x. record { baseOurs = p x; baseTheirs = q x; oursTheirs = r x }

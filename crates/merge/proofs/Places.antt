@@ -73,7 +73,7 @@ module _ (verdictOf : ℕ → ℕ → ℕ → ℕ) (p : Pairings) (m n l : ℕ) 
         length-selected (remaining p) l (theirsRow verdictOf p),
       )
 
-  base-row : (i : ℕ) → i < m → getD (rowsOf verdictOf p m n l) i noRow ≡ baseRow verdictOf p i
+  pub base-row : (i : ℕ) → i < m → getD (rowsOf verdictOf p m n l) i noRow ≡ baseRow verdictOf p i
   unfolding rowsOf
   base-row i h =
       List·getD-append bases (ours ++ theirs) noRow i (omega (arith, length-tabulate m (baseRow verdictOf p))) ∙ getD-tabulate m (baseRow verdictOf p) noRow i h
@@ -84,13 +84,13 @@ module _ (verdictOf : ℕ → ℕ → ℕ → ℕ) (p : Pairings) (m n l : ℕ) 
   past x =
       ap (λ (k : ℕ). getD (bases ++ (ours ++ theirs)) (k + x) noRow) (sym (length-tabulate m (baseRow verdictOf p))) ∙ getD-append-add bases (ours ++ theirs) x noRow
 
-  ours-row : (j : ℕ) → j < n → T (withoutBase p j) → getD (rowsOf verdictOf p m n l) (m + howMany j (withoutBase p)) noRow ≡ oursRow verdictOf p j
+  pub ours-row : (j : ℕ) → j < n → T (withoutBase p j) → getD (rowsOf verdictOf p m n l) (m + howMany j (withoutBase p)) noRow ≡ oursRow verdictOf p j
   ours-row j h t =
       past (howMany j (withoutBase p))
       ∙ List·getD-append ours theirs noRow (howMany j (withoutBase p)) (omega (arith, length-selected (withoutBase p) n (oursRow verdictOf p), rank-below (withoutBase p) j n h t))
       ∙ getD-selected (withoutBase p) n (oursRow verdictOf p) noRow j h t
 
-  theirs-row : (k : ℕ) → k < l → T (remaining p k) → getD (rowsOf verdictOf p m n l) (m + oursRows p n + howMany k (remaining p)) noRow ≡ theirsRow verdictOf p k
+  pub theirs-row : (k : ℕ) → k < l → T (remaining p k) → getD (rowsOf verdictOf p m n l) (m + oursRows p n + howMany k (remaining p)) noRow ≡ theirsRow verdictOf p k
   theirs-row k h t =
       ap (λ (x : ℕ). getD (rowsOf verdictOf p m n l) x noRow) (add-assoc m (oursRows p n) (howMany k (remaining p)))
       ∙ past (oursRows p n + howMany k (remaining p))

@@ -1,14 +1,15 @@
--- What `read_with_offsets` leaves in room for the largest list: `list-read`, all that is known of an accepted list and its dimension; `list-refused`.
--- `read-on` and `refused-on`: what follows such a list.
+-- What `read_with_offsets` leaves in room for the largest list (`list-told`), what three such answers tell (`three-told`), and what follows lists that are read (`read-on`).
 use Prim.Native.Nat.{ℕ, _+_, _*_, _≤_}
 use native.Mathlib.Omega.{arith}
 use native.Mathlib.Nat.{mul-le-mul-right}
 use mathlib.Core.Path.{_≡_, refl, sym, ap, _∙_}
+use mathlib.Core.Bool.{Bool, true, false, _&&_, cond}
 use mathlib.Core.List.{List}
+use lib.Dec.{eqb}
 use lib.Ieee.{Float, binary64, ofBits}
 use lib.ListN.{length, getD, drop, length-map, List·getD-append}
-use borrow.Author.Tests.{leb-true}
-use Rattle.kernel.specs.Answer.{Outcome, refused, answered, andThen}
+use borrow.Author.Tests.{leb-true, eqb-true, eq-eqb}
+use Rattle.kernel.specs.Answer.{Outcome, refused, answered}
 use Rattle.kernel.specs.Bytes.{Bytes}
 use Rattle.kernel.specs.Lists.{tabulate, over}
 use Rattle.kernel.proofs.Lists.{length-tabulate, getD-tabulate, length-over}
@@ -25,10 +26,11 @@ use Rattle.tracks.proofs.Offsets.{placed-fits, placed-refused}
 use Rattle.tracks.proofs.RoundTrip.{accepted-fit, joined-fit}
 use Rattle.merge.specs.Tracks.{trackCount}
 use Rattle.merge.specs.Rows.{Row}
-use Rattle.merge.specs.Merge.{afterMerge}
-use Rattle.merge.specs.Steps.{heldIn, held, Located, Read}
+use Rattle.merge.specs.Merge.{afterMerge, oneDimension}
+use Rattle.merge.specs.Steps.{heldIn, held, Located, Read, AllRead, threeOf, afterThree}
+use Rattle.merge.specs.declared.lists.Three.{Three}
+use Rattle.merge.specs.declared.lists.Three.the-variants.{Accepted, Refused}
 use Rattle.merge.specs.declared.Merged.{Merged}
-use Rattle.merge.specs.declared.Merged.the-variants as Merged
 use Rattle.merge.proofs.Tracks.{values-read}
 
 -- ---- the largest list has room
@@ -48,6 +50,11 @@ room-enough l {c} e = placed-fits l 1728 33 e (values-few l e) (omega (arith, le
 
 -- ---- what is left there
 
+-- what the answer to a list tells
+pub data Told (l offsets : List ℕ) (values : List Float) : ReadList → Type 0 where
+  was-read : {n d : ℕ} → Read l offsets values n → d ≡ held l .dimension → Told l offsets values (ReadList.Read n d)
+  was-refused : {q : ℕ} → contents l ≡ refused q → Told l offsets values (ReadList.Refused q)
+
 abbrev pub Left : Type 0
 Left = ReadList × (List Float × List ℕ)
 
@@ -64,11 +71,11 @@ module _ (l : List ℕ) (values : List Float) (offsets : List ℕ) (hv : length 
   told : {r : ReadList} {v : List Float} {w : List ℕ} → _≡_ {A = Left} (r, (v, w)) (readWithOffsets l values offsets) → readAnswer (contents l) ≡ r
   told e = sym (ap (λ (x : Left). x .0) (e ∙ placed) ∙ same-answer (contents l) refl)
 
-  pub list-refused : {q : ℕ} {v : List Float} {w : List ℕ} → _≡_ {A = Left} (ReadList.Refused q, (v, w)) (readWithOffsets l values offsets) → contents l ≡ refused q
+  list-refused : {q : ℕ} {v : List Float} {w : List ℕ} → _≡_ {A = Left} (ReadList.Refused q, (v, w)) (readWithOffsets l values offsets) → contents l ≡ refused q
   list-refused e = read-refused (contents l) (told e)
 
   module _ (h : Bytes l) where
-    pub list-read : {n d : ℕ} {v : List Float} {w : List ℕ} → _≡_ {A = Left} (ReadList.Read n d, (v, w)) (readWithOffsets l values offsets)
+    list-read : {n d : ℕ} {v : List Float} {w : List ℕ} → _≡_ {A = Left} (ReadList.Read n d, (v, w)) (readWithOffsets l values offsets)
         → Read l w v n × (d ≡ held l .dimension)
     unfolding rowOf over
     list-read {n} {d} {v} {w} e =
@@ -100,11 +107,57 @@ module _ (l : List ℕ) (values : List Float) (offsets : List ℕ) (hv : length 
           a .3 ∙ ap (λ (x : TrackList). x .dimension) (sym is),
         )
 
--- ---- what follows a list that is read
+    pub list-told : (r : ReadList) {v : List Float} {w : List ℕ} → _≡_ {A = Left} (r, (v, w)) (readWithOffsets l values offsets) → Told l w v r
+    list-told (ReadList.Read n d) e = let a = list-read e in was-read (a .0) (a .1)
+    list-told (ReadList.Refused q) e = was-refused (list-refused e)
 
-module _ (l old : List ℕ) (k : TrackList → Outcome (List Row)) where
-  pub read-on : {x : Merged × List ℕ} → contents l ≡ answered (held l) → x ≡ afterMerge (k (held l)) old → x ≡ afterMerge (andThen (contents l) k) old
-  read-on e p = p ∙ ap (λ (o : Outcome TrackList). afterMerge (andThen o k) old) (sym e)
+-- ---- three lists
 
-  pub refused-on : {q : ℕ} → contents l ≡ refused q → _≡_ {A = Merged × List ℕ} (Merged.Refused q, old) (afterMerge (andThen (contents l) k) old)
-  refused-on e = ap (λ (o : Outcome TrackList). afterMerge (andThen o k) old) (sym e)
+-- two lists that are read have one dimension exactly if the numbers told are equal
+same-test : {x y : ℕ} (c d : TrackList) {b : Bool} → x ≡ c .dimension → y ≡ d .dimension → eqb x y ≡ b → eqb (c .dimension) (d .dimension) ≡ b
+same-test c d e f h = (λ z. eqb (sym e z) (sym f z)) ∙ h
+
+module _ (base ours theirs bo oo to : List ℕ) (bv ov tv : List Float) where
+  -- what an answer to all three tells
+  abbrev pub Tells : Three → Type 0
+  Tells (Accepted m n l d) = AllRead base bo bv ours oo ov theirs to tv m n l d
+  Tells (Refused q) = (rest : TrackList → TrackList → TrackList → Outcome (List Row)) → afterThree base ours theirs rest ≡ refused q
+
+  pub three-told : {b o t : ReadList} → Told base bo bv b → Told ours oo ov o → Told theirs to tv t → Tells (threeOf b o t)
+  three-told (was-refused e) y z = λ rest. rw e refl
+  three-told (was-read r e) (was-refused f) z = λ rest. rw (r .located .accepted, f) refl
+  three-told (was-read r e) (was-read s f) (was-refused g) = λ rest. rw (r .located .accepted, s .located .accepted, g) refl
+  three-told (was-read {n = m} {d = d} r e) (was-read {n = n} {d = ours-d} s f) (was-read {n = l} {d = theirs-d} t g) = go (eqb d ours-d) (eqb d theirs-d) refl refl
+    where
+      refused-17 : oneDimension (held base) (held ours) (held theirs) ≡ false → (rest : TrackList → TrackList → TrackList → Outcome (List Row)) → afterThree base ours theirs rest ≡ refused 17
+      refused-17 h rest = rw (r .located .accepted, s .located .accepted, t .located .accepted, h) refl
+
+      go : (x y : Bool) → eqb d ours-d ≡ x → eqb d theirs-d ≡ y → Tells (cond (x && y) (Accepted m n l d) (Refused 17))
+      go true true p q = record {
+        of-base = r;
+        of-ours = s;
+        of-theirs = t;
+        base-dimension = e;
+        ours-dimension = eqb-true d ours-d p ∙ f;
+        theirs-dimension = eqb-true d theirs-d q ∙ g;
+      }
+      go false y p q = refused-17 (ap (λ (b : Bool). b && eqb (held base .dimension) (held theirs .dimension)) (same-test (held base) (held ours) e f p))
+      go true false p q =
+          refused-17 (ap (λ (b : Bool). b && eqb (held base .dimension) (held theirs .dimension)) (same-test (held base) (held ours) e f p) ∙ same-test (held base) (held theirs) e g q)
+
+-- ---- what follows them
+
+module _ (base ours theirs old : List ℕ) (k : TrackList → TrackList → TrackList → Outcome (List Row)) where
+  pub read-on : {bo oo to : List ℕ} {bv ov tv : List Float} {m n l d : ℕ} {x : Merged × List ℕ} → AllRead base bo bv ours oo ov theirs to tv m n l d
+      → x ≡ afterMerge (k (held base) (held ours) (held theirs)) old → x ≡ afterMerge (afterThree base ours theirs k) old
+  read-on a p = p ∙ ap (λ (o : Outcome (List Row)). afterMerge o old) (sym met)
+    where
+      met : afterThree base ours theirs k ≡ k (held base) (held ours) (held theirs)
+      met =
+          rw (
+            a .of-base .located .accepted,
+            a .of-ours .located .accepted,
+            a .of-theirs .located .accepted,
+            eq-eqb (held base .dimension) (held ours .dimension) (sym (a .base-dimension) ∙ a .ours-dimension),
+            eq-eqb (held base .dimension) (held theirs .dimension) (sym (a .base-dimension) ∙ a .theirs-dimension),
+          ) refl

@@ -1,10 +1,10 @@
 -- The words of the private functions' contracts: no caller needs them.
 use Prim.Native.Nat.{ℕ, _+_, _*_, _<_, _≤_}
 use mathlib.Core.Path.{_≡_}
-use mathlib.Core.Logic.{_⊎_}
 use mathlib.Core.Bool.{Bool, true, cond, _&&_}
 use mathlib.Core.List.{List, [], _∷_, flatMap}
-use lib.ListN.{length, getD}
+use lib.Dec.{eqb}
+use lib.ListN.{length, getD, take}
 use lib.Ieee.{Float, nan}
 use Rattle.kernel.specs.Answer.{Outcome, refused, answered, ask, andThen}
 use Rattle.kernel.specs.Lists.{over, tabulate}
@@ -12,16 +12,25 @@ use Rattle.dense.specs.Matrix.{rowOf, matrix}
 use Rattle.tracks.specs.Layout.{fields}
 use Rattle.tracks.specs.Read.{TrackList, contents}
 use Rattle.tracks.specs.Record.{offset}
+use Rattle.tracks.specs.Calls.{doubles}
+use Rattle.tracks.specs.declared.read.ReadList.{ReadList}
+use Rattle.tracks.specs.declared.read.ReadList.the-variants as Told
 use Rattle.compare.specs.Distance.{compared, floorAndGate}
 use Rattle.compare.specs.Fields.{trackState, trackCovariance}
-use Rattle.pairing.specs.Pairing.{Candidates}
 use Rattle.pairing.specs.Keys.{nobody, fromKeys}
+use Rattle.pairing.specs.Search.{isFree, nobodies}
 use Rattle.merge.specs.Tracks.{trackCount, trackAt}
 use Rattle.merge.specs.Candidates.{nearSquare}
-use Rattle.merge.specs.Rows.{Row, rowBytes, verdictOn, selected, Partners, Pairings}
+use Rattle.merge.specs.Rows.{Row, rowBytes, rowAt, keep, verdictOn, selected, Partners, Pairings}
 use Rattle.merge.specs.Merge.{partnersIn, mergedRows, oneDimension, roomFor}
-use Rattle.pairing.specs.Search.{isFree, nobodies}
-use Rattle.tracks.specs.Calls.{doubles}
+use Rattle.merge.specs.Demand3.{TrackOrNone, baseIn, oursIn, theirsIn}
+use Rattle.merge.specs.declared.keys.Terms.{Terms}
+use Rattle.merge.specs.declared.lists.Three.{Three}
+use Rattle.merge.specs.declared.lists.Three.the-variants.{Accepted, Refused}
+use Rattle.merge.specs.declared.pairs.Partners as TableOf
+use Rattle.merge.specs.declared.pairs.Pairings as TablesOf
+
+-- ---- lists that are read
 
 -- The tracks of a list. A list that is refused has none here.
 abbrev pub heldIn : Outcome TrackList → TrackList
@@ -37,13 +46,142 @@ pub record Located (l offsets : List ℕ) : Type 0 where
   pub places : (j : ℕ) → j ≤ trackCount (held l) → getD offsets j 0 ≡ offset l j
   pub room : length offsets ≡ 33
 
--- That an index is a track's, or 255.
-abbrev pub Index : List ℕ → ℕ → Type 0
-Index l i = (i ≡ nobody) ⊎ (i < trackCount (held l))
+-- That a list is read: where its n tracks stand, and that the values hold their fields in front.
+pub record Read (l offsets : List ℕ) (values : List Float) (n : ℕ) : Type 0 where
+  pub located : Located l offsets
+  pub number : n ≡ trackCount (held l)
+  pub long : length values ≡ 1728
+  pub fields-of : (i : ℕ) → i < n → rowOf values (fields (held l .dimension)) i ≡ doubles (trackAt (held l) i)
 
--- That each of the first n numbers of a table is such an index.
-abbrev pub Indices : List ℕ → List ℕ → ℕ → Type 0
-Indices l table n = (x : ℕ) → x < n → Index l (getD table x 0)
+-- That three lists of the dimension d, of m, n and l tracks, are read.
+pub record AllRead (base base-offsets : List ℕ) (base-values : List Float) (ours ours-offsets : List ℕ) (ours-values : List Float)
+    (theirs theirs-offsets : List ℕ) (theirs-values : List Float) (m n l d : ℕ) : Type 0 where
+  pub of-base : Read base base-offsets base-values m
+  pub of-ours : Read ours ours-offsets ours-values n
+  pub of-theirs : Read theirs theirs-offsets theirs-values l
+  pub base-dimension : d ≡ held base .dimension
+  pub ours-dimension : d ≡ held ours .dimension
+  pub theirs-dimension : d ≡ held theirs .dimension
+
+-- Questions 9 to 17, and what follows them.
+abbrev pub afterThree : List ℕ → List ℕ → List ℕ → (TrackList → TrackList → TrackList → Outcome (List Row)) → Outcome (List Row)
+afterThree base ours theirs rest =
+    andThen (contents base) (λ b. andThen (contents ours) (λ o. andThen (contents theirs) (λ t. ask 17 (oneDimension b o t) (rest b o t))))
+
+-- The same of the three answers: the first refusal, or the numbers of tracks and the dimension.
+abbrev pub sameDimension : ℕ → ℕ → ℕ → ℕ → ℕ → ℕ → Three
+sameDimension m d n ours-d l theirs-d = cond (eqb d ours-d && eqb d theirs-d) (Accepted m n l d) (Refused 17)
+
+abbrev pub threeOf : ReadList → ReadList → ReadList → Three
+threeOf (Told.Refused q) ours theirs = Refused q
+threeOf (Told.Read m d) (Told.Refused q) theirs = Refused q
+threeOf (Told.Read m d) (Told.Read n ours-d) (Told.Refused q) = Refused q
+threeOf (Told.Read m d) (Told.Read n ours-d) (Told.Read l theirs-d) = sameDimension m d n ours-d l theirs-d
+
+-- The questions of a merge when its three lists are read, and then its rows.
+abbrev pub mergeThree : TrackList → TrackList → TrackList → Float → Float → ℕ → Outcome (List Row)
+mergeThree b o t floor gate room = ask 18 (floorAndGate floor gate) (ask 19 (roomFor b o t room) (answered (mergedRows b o t floor gate)))
+
+-- ---- keys
+
+-- That tracks can be compared by these terms.
+pub record Compares (terms : Terms) : Type 0 where
+  pub some : 1 ≤ terms .d
+  pub few : terms .d ≤ 9
+  pub number : terms .f ≡ fields (terms .d)
+  pub floor-and-gate : floorAndGate (terms .floor) (terms .gate) ≡ true
+
+-- That there are values for a list of n tracks of f fields.
+pub record Sizes (values : List Float) (n f : ℕ) : Type 0 where
+  pub few : n ≤ 32
+  pub values-long : n * f ≤ length values
+
+-- The key of the track with the state mu and the covariance p, and the track with the fields v; and that of two tracks by their fields.
+abbrev pub keyFrom : Terms → List Float → List Float → List Float → Float
+keyFrom terms mu p v = let d = terms .d in nearSquare (compared mu (trackState d v) p (trackCovariance d v) d (terms .floor) (terms .gate))
+
+abbrev pub keyBetween : Terms → List Float → List Float → Float
+keyBetween terms u v = keyFrom terms (trackState (terms .d) u) (trackCovariance (terms .d) u) v
+
+-- The same where both are free of earlier pairings, and a NaN where one is not.
+abbrev pub keyAmong : Terms → Bool → Bool → List Float → List Float → Float
+keyAmong terms first second u v = cond (first && second) (keyBetween terms u v) nan
+
+-- The keys of one track, free or not, and n of a list.
+abbrev pub keysFrom : Terms → Bool → List Float → List Float → List Float → List ℕ → ℕ → List Float
+keysFrom terms first mu p vs partners n = tabulate n (λ j. cond (first && isFree partners j) (keyFrom terms mu p (rowOf vs (terms .f) j)) nan)
+
+-- The keys of m tracks of one list and n of another, among those that are free by their partners in earlier pairings.
+abbrev pub keysBetween : Terms → List Float → List ℕ → ℕ → List Float → List ℕ → ℕ → List Float
+keysBetween terms us us-partners m vs vs-partners n =
+    matrix m n (λ i j. keyAmong terms (isFree us-partners i) (isFree vs-partners j) (rowOf us (terms .f) i) (rowOf vs (terms .f) j))
+
+-- ---- pairings
+
+-- The partners in front of two tables, of m first and n second tracks, and the pairings of m, n and l tracks.
+abbrev pub partnersOf : TableOf.Partners → ℕ → ℕ → Partners
+partnersOf p m n = record { firsts = take m (p .firsts); seconds = take n (p .seconds) }
+
+abbrev pub pairingsIn : TablesOf.Pairings → ℕ → ℕ → ℕ → Pairings
+pairingsIn p m n l = record {
+  baseOurs = partnersOf (p .«base_ours») m n;
+  baseTheirs = partnersOf (p .«base_theirs») m l;
+  oursTheirs = partnersOf (p .«ours_theirs») n l;
+}
+
+-- The partners of m tracks of one list and n of another by their keys, among those that are free by their partners in earlier pairings.
+unfoldable pub partnersBetween : Terms → List Float → List ℕ → ℕ → List Float → List ℕ → ℕ → Partners
+unfolding partnersIn
+partnersBetween terms us us-partners m vs vs-partners n = partnersIn (fromKeys (keysBetween terms us us-partners m vs vs-partners n) m n)
+
+-- The three pairings of lists with these values and numbers of tracks.
+abbrev pub pairedValues : Terms → List Float → ℕ → List Float → ℕ → List Float → ℕ → Pairings
+pairedValues terms base m ours n theirs l =
+    let bo = partnersBetween terms base (nobodies m) m ours (nobodies n) n in
+    let bt = partnersBetween terms base (nobodies m) m theirs (nobodies l) l in
+    let ot = partnersBetween terms ours (bo .seconds) n theirs (bt .seconds) l in
+    record { baseOurs = bo; baseTheirs = bt; oursTheirs = ot }
+
+-- ---- rows
+
+-- The tables of partners, whole.
+abbrev pub tableOf : TableOf.Partners → Partners
+tableOf p = record { firsts = p .firsts; seconds = p .seconds }
+
+abbrev pub tablesIn : TablesOf.Pairings → Pairings
+tablesIn p = record { baseOurs = tableOf (p .«base_ours»); baseTheirs = tableOf (p .«base_theirs»); oursTheirs = tableOf (p .«ours_theirs») }
+
+-- What stands in the place of a verdict that is not decided yet, and such a row.
+abbrev pub undecided : ℕ → ℕ → ℕ → ℕ
+undecided i j k = keep
+
+abbrev pub undecidedRow : ℕ → ℕ → ℕ → Row
+undecidedRow = rowAt undecided
+
+-- The rows of the three groups, by the partners of their tracks.
+abbrev pub baseGroup : List ℕ → List ℕ → ℕ → List Row
+baseGroup ours-of theirs-of m = tabulate m (λ i. undecidedRow i (getD ours-of i 0) (getD theirs-of i 0))
+
+abbrev pub oursGroup : List ℕ → List ℕ → ℕ → List Row
+oursGroup base-of theirs-of n = selected n (isFree base-of) (λ j. undecidedRow nobody j (getD theirs-of j 0))
+
+abbrev pub theirsGroup : List ℕ → List ℕ → ℕ → List Row
+theirsGroup base-of ours-of l = selected l (λ k. isFree base-of k && isFree ours-of k) (undecidedRow nobody nobody)
+
+-- One row, where it is wanted.
+abbrev pub onlyIf : Bool → Row → List Row
+onlyIf wanted row = cond wanted (row ∷ []) []
+
+-- The bytes of rows.
+abbrev pub rowsBytes : List Row → List ℕ
+rowsBytes rows = flatMap rowBytes rows
+
+-- That rows are written from row `at` on, and the row after them is given.
+pub record Appended (group : List Row) (at : ℕ) (old : List ℕ) (r : ℕ) (new : List ℕ) : Type 0 where
+  pub next : r ≡ at + length group
+  pub bytes : new ≡ over old (4 * at) (rowsBytes group)
+
+-- ---- verdicts
 
 -- Three accepted lists of one dimension, and where their tracks stand.
 pub record Lists (base base-offsets ours ours-offsets theirs theirs-offsets : List ℕ) : Type 0 where
@@ -53,136 +191,16 @@ pub record Lists (base base-offsets ours ours-offsets theirs theirs-offsets : Li
   pub ours-dimension : held ours .dimension ≡ held base .dimension
   pub theirs-dimension : held theirs .dimension ≡ held base .dimension
 
--- The verdict on three tracks of three lists.
+-- That an index is that of a list's track, or 255; and that those of the first rows are.
+abbrev pub Index : List ℕ → ℕ → Type 0
+Index l i = TrackOrNone (trackCount (held l)) i
+
+abbrev pub Indices : List ℕ → List ℕ → List ℕ → List ℕ → ℕ → Type 0
+Indices base ours theirs rows total = (r : ℕ) → r < total → Index base (baseIn rows r) × Index ours (oursIn rows r) × Index theirs (theirsIn rows r)
+
+-- The verdict on three tracks of three lists, and row r of a buffer with its verdict.
 abbrev pub verdictHeld : List ℕ → List ℕ → List ℕ → ℕ → ℕ → ℕ → ℕ
 verdictHeld base ours theirs = verdictOn (held base) (held ours) (held theirs)
 
--- The row of three tracks.
-abbrev pub rowOn : List ℕ → List ℕ → List ℕ → ℕ → ℕ → ℕ → Row
-rowOn base ours theirs i j k = record { base = i; ours = j; theirs = k; verdict = verdictHeld base ours theirs i j k }
-
--- The bytes of rows.
-abbrev pub rowsBytes : List Row → List ℕ
-rowsBytes rows = flatMap rowBytes rows
-
--- That two tracks of dimension d can be compared under a floor and a gate.
-pub record Compares (d : ℕ) (floor gate : Float) : Type 0 where
-  pub some : 1 ≤ d
-  pub few : d ≤ 9
-  pub floor-and-gate : floorAndGate floor gate ≡ true
-
--- The key of the track with the state mu and the covariance p, and the track with the fields v; and that of two tracks by their fields.
-abbrev pub keyFrom : ℕ → Float → Float → List Float → List Float → List Float → Float
-keyFrom d floor gate mu p v = nearSquare (compared mu (trackState d v) p (trackCovariance d v) d floor gate)
-
-abbrev pub keyBetween : ℕ → Float → Float → List Float → List Float → Float
-keyBetween d floor gate u v = keyFrom d floor gate (trackState d u) (trackCovariance d u) v
-
--- The same where both are free of earlier pairings, and a NaN where one is not.
-abbrev pub keyAmong : Bool → Bool → ℕ → Float → Float → List Float → List Float → Float
-keyAmong first second d floor gate u v = cond (first && second) (keyBetween d floor gate u v) nan
-
--- The rows of the three groups, by the partners of their tracks; `row` makes a row of three indices.
-abbrev pub baseGroup : (ℕ → ℕ → ℕ → Row) → List ℕ → List ℕ → ℕ → List Row
-baseGroup row ours-of theirs-of m = tabulate m (λ i. row i (getD ours-of i 0) (getD theirs-of i 0))
-
-abbrev pub oursGroup : (ℕ → ℕ → ℕ → Row) → List ℕ → List ℕ → ℕ → List Row
-oursGroup row base-of theirs-of n = selected n (isFree base-of) (λ j. row nobody j (getD theirs-of j 0))
-
-abbrev pub theirsGroup : (ℕ → ℕ → ℕ → Row) → List ℕ → List ℕ → ℕ → List Row
-theirsGroup row base-of ours-of l = selected l (λ k. isFree base-of k && isFree ours-of k) (row nobody nobody)
-
--- One row, where it is wanted.
-abbrev pub onlyIf : Bool → Row → List Row
-onlyIf wanted row = cond wanted (row ∷ []) []
-
--- That rows are written from row `at` on, and the row after them is given.
-pub record Appended (group : List Row) (at : ℕ) (old : List ℕ) (r : ℕ) (new : List ℕ) : Type 0 where
-  pub next : r ≡ at + length group
-  pub bytes : new ≡ over old (4 * at) (rowsBytes group)
-
--- The questions of a merge when its three lists are read, and then its rows; before theirs, and before ours.
-abbrev pub mergeThree : TrackList → TrackList → TrackList → Float → Float → ℕ → Outcome (List Row)
-mergeThree b o t floor gate room =
-    ask 17 (oneDimension b o t) (ask 18 (floorAndGate floor gate) (ask 19 (roomFor b o t room) (answered (mergedRows b o t floor gate))))
-
-abbrev pub mergeTheirs : TrackList → TrackList → List ℕ → Float → Float → ℕ → Outcome (List Row)
-mergeTheirs b o theirs floor gate room = andThen (contents theirs) (λ t. mergeThree b o t floor gate room)
-
-abbrev pub mergeOurs : TrackList → List ℕ → List ℕ → Float → Float → ℕ → Outcome (List Row)
-mergeOurs b ours theirs floor gate room = andThen (contents ours) (λ o. mergeTheirs b o theirs floor gate room)
-
--- That a list is read: where its n tracks stand, and that the values hold their fields in front.
-pub record Read (l offsets : List ℕ) (values : List Float) (n : ℕ) : Type 0 where
-  pub located : Located l offsets
-  pub number : n ≡ trackCount (held l)
-  pub long : length values ≡ 1728
-  pub fields-of : (i : ℕ) → i < n → rowOf values (fields (held l .dimension)) i ≡ doubles (trackAt (held l) i)
-
--- The keys of one track, free or not, and n of a list.
-abbrev pub keysFrom : Bool → ℕ → ℕ → Float → Float → List Float → List Float → List Float → List ℕ → ℕ → List Float
-keysFrom first d f floor gate mu p vs partners n = tabulate n (λ j. cond (first && isFree partners j) (keyFrom d floor gate mu p (rowOf vs f j)) nan)
-
--- The keys of m tracks of one list and n of another, among those that are free by their partners in earlier pairings.
-abbrev pub keysBetween : ℕ → ℕ → Float → Float → List Float → List ℕ → ℕ → List Float → List ℕ → ℕ → List Float
-keysBetween d f floor gate us us-partners m vs vs-partners n =
-    matrix m n (λ i j. keyAmong (isFree us-partners i) (isFree vs-partners j) d floor gate (rowOf us f i) (rowOf vs f j))
-
--- The candidates by these keys.
-abbrev pub candidatesBetween : ℕ → ℕ → Float → Float → List Float → List ℕ → ℕ → List Float → List ℕ → ℕ → Candidates
-candidatesBetween d f floor gate us us-partners m vs vs-partners n = fromKeys (keysBetween d f floor gate us us-partners m vs vs-partners n) m n
-
--- That three lists have the dimension d.
-pub record OneDimension (d : ℕ) (base ours theirs : List ℕ) : Type 0 where
-  pub of-base : d ≡ held base .dimension
-  pub of-ours : d ≡ held ours .dimension
-  pub of-theirs : d ≡ held theirs .dimension
-
--- The three tables of partners, each way round.
-abbrev pub pairingsIn : List ℕ → List ℕ → List ℕ → List ℕ → List ℕ → List ℕ → Pairings
-pairingsIn base-ours ours-base base-theirs theirs-base ours-theirs theirs-ours = record {
-  baseOurs = record { firsts = base-ours; seconds = ours-base };
-  baseTheirs = record { firsts = base-theirs; seconds = theirs-base };
-  oursTheirs = record { firsts = ours-theirs; seconds = theirs-ours };
-}
-
--- The partners of m tracks of one list and n of another by their keys, among those that are free by their partners in earlier pairings.
-unfoldable pub partnersBetween : ℕ → ℕ → Float → Float → List Float → List ℕ → ℕ → List Float → List ℕ → ℕ → Partners
-unfolding partnersIn
-partnersBetween d f floor gate us us-partners m vs vs-partners n = partnersIn (candidatesBetween d f floor gate us us-partners m vs vs-partners n)
-
--- The three pairings of lists with these values and numbers of tracks.
-abbrev pub pairedValues : ℕ → ℕ → Float → Float → List Float → ℕ → List Float → ℕ → List Float → ℕ → Pairings
-pairedValues d f floor gate base m ours n theirs l =
-    let bo = partnersBetween d f floor gate base (nobodies m) m ours (nobodies n) n in
-    let bt = partnersBetween d f floor gate base (nobodies m) m theirs (nobodies l) l in
-    let ot = partnersBetween d f floor gate ours (bo .seconds) n theirs (bt .seconds) l in
-    record { baseOurs = bo; baseTheirs = bt; oursTheirs = ot }
-
--- That a table of 32 tracks has nobody.
-pub record AllFree (table : List ℕ) : Type 0 where
-  pub long : length table ≡ 32
-  pub free : (i : ℕ) → i < 32 → getD table i 0 ≡ nobody
-
--- That there are values for a list of n tracks of f fields.
-pub record Sizes (values : List Float) (n f : ℕ) : Type 0 where
-  pub few : n ≤ 32
-  pub values-long : n * f ≤ length values
-
--- The tables of partners of three lists of m, n and l tracks: their lengths, and that their numbers are indices of tracks.
-pub record Tables (base ours theirs base-ours ours-base base-theirs theirs-base ours-theirs theirs-ours : List ℕ) (m n l : ℕ) : Type 0 where
-  pub base-number : m ≡ trackCount (held base)
-  pub ours-number : n ≡ trackCount (held ours)
-  pub theirs-number : l ≡ trackCount (held theirs)
-  pub few-base : m ≤ 32
-  pub few-ours : n ≤ 32
-  pub few-theirs : l ≤ 32
-  pub base-ours-long : length base-ours ≡ m
-  pub ours-base-long : length ours-base ≡ n
-  pub base-theirs-long : length base-theirs ≡ m
-  pub theirs-base-long : length theirs-base ≡ l
-  pub ours-theirs-long : length ours-theirs ≡ n
-  pub theirs-ours-long : length theirs-ours ≡ l
-  pub of-base-ours : Indices ours base-ours m
-  pub of-base-theirs : Indices theirs base-theirs m
-  pub of-ours-theirs : Indices theirs ours-theirs n
+abbrev pub decidedRow : List ℕ → List ℕ → List ℕ → List ℕ → ℕ → Row
+decidedRow base ours theirs rows r = rowAt (verdictHeld base ours theirs) (baseIn rows r) (oursIn rows r) (theirsIn rows r)

@@ -1,4 +1,4 @@
-// A track's own bytes, as a part of its list, and whether two tracks are equal.
+// A track's own bytes, as a part of its list; whether two tracks are equal, and whether two are free.
 ghost use mathlib.Core.Path.{_≡_};
 ghost use mathlib.Core.Bool.{_&&_};
 ghost use Prim.Native.Nat.{_<_};
@@ -8,10 +8,8 @@ ghost use Rattle.tracks.specs.Record.{offset, recordAt, OwnBytes};
 ghost use Rattle.merge.specs.Tracks.{trackCount, equalTracks};
 ghost use Rattle.merge.specs.Rows.{isTrack};
 ghost use Rattle.merge.specs.Steps.{held, Located, Index};
+use pairing::NOBODY;
 use tracks::record::same_record;
-
-// No track: 255 in the place of an index.
-pub(crate) const NOBODY: u8 = 255;
 
 // The record of track i, where the offsets of its list are known.
 pub(crate) fn track_part<'a>(list: &'a [u8], offsets: &[usize], i: usize) -> &'a [u8]

@@ -3,7 +3,7 @@ ghost use mathlib.Core.Path.{_≡_};
 ghost use Rattle.merge.specs.Rows.{verdict, Equal};
 
 // The verdicts, by their numbers in document 01.
-const KEEP: u8 = 0;
+pub(crate) const KEEP: u8 = 0;
 
 pub(crate) const TAKE_OURS: u8 = 1;
 

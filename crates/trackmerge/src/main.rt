@@ -3,6 +3,7 @@
 // refused, it prints `no` and the question's number.
 ghost use Rattle.io.specs.Counts.{Counts};
 use merge::Merged;
+use pairing::NOBODY;
 
 // Reads a file from its start into the buffer, and gives how many bytes there are. A file that can't be opened counts as
 // empty. A list has at most 14,050 bytes, so what a buffer of 65,536 does not hold of a longer file changes no answer.
@@ -24,7 +25,7 @@ fn print_number(n: u8) {
 
 // An index, or `-` for no track.
 fn print_index(i: u8) {
-    if i == 255 {
+    if i == NOBODY {
         io::write_all(1, b"-");
         return;
     }

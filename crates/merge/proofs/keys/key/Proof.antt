@@ -1,7 +1,6 @@
 -- `key` meets its contract: the two tracks can be compared, so `compare` answers their comparison.
 use mathlib.Core.List.{List}
 use mathlib.Core.Path.{_≡_, sym, ap, _∙_}
-use native.Mathlib.Omega.{arith}
 use borrow.Author.Needs.{needs}
 use lib.Ieee.{Float}
 use lib.ListN.{length}
@@ -21,21 +20,23 @@ abbrev entered : tie.After-whole-covariance → tie.Start
 entered c = c .before .before .before .before .before .before
 
 -- the state of the second track
-state : (c : tie.Start) → length (trackState (c .args .d) (c .args .v .now)) ≡ c .args .d
-state c = length-state (c .args .d) (c .args .v .now) (c .pre .3)
+state : (c : tie.Start) → length (trackState (c .args .terms .d) (c .args .v .now)) ≡ c .args .terms .d
+state c = length-state (c .args .terms) (c .pre .0) (c .args .v .now) (c .pre .3)
 
 answers : (c : tie.After-compare)
     → let x = entered (filled c) .args in
-    c .compare .result ≡ Answered (compared (x .mu .now) (trackState (x .d) (x .v .now)) (x .p .now) (trackCovariance (x .d) (x .v .now)) (x .d) (x .floor) (x .gate))
+    let t = x .terms in
+    c .compare .result ≡ Answered (compared (x .mu .now) (trackState (t .d) (x .v .now)) (x .p .now) (trackCovariance (t .d) (x .v .now)) (t .d) (t .floor) (t .gate))
 answers c =
     let whole = filled c .whole-covariance in
     let start = entered (filled c) in
     let x = start .args in
+    let t = x .terms in
     let h = start .pre in
     c .compare .ensures
-    ∙ compares (x .mu .now) _ (x .p .now) _ (h .0) (h .1) (state start) (h .2) (whole .kept .1 .1 .0 ∙ h .4)
-    ∙ ap (λ (q : List Float). Answered (compared (x .mu .now) (trackState (x .d) (x .v .now)) (x .p .now) q (x .d) (x .floor) (x .gate)))
-    (covariance-left (x .v .now) (x .q .now) (h .0) (h .3) (h .4) (whole .ensures))
+    ∙ compares t (h .0) (x .mu .now) _ (x .p .now) _ (h .1) (state start) (h .2) (whole .kept .1 .1 .0 ∙ h .4)
+    ∙ ap (λ (q : List Float). Answered (compared (x .mu .now) (trackState (t .d) (x .v .now)) (x .p .now) q (t .d) (t .floor) (t .gate)))
+    (covariance-left t (h .0) (x .v .now) (x .q .now) (h .3) (h .4) (whole .ensures))
 
 returns : tie.Need-returns
 returns c =

@@ -18,7 +18,7 @@ use Rattle.merge.proofs.keys.key_row.Tie as tie
 
 -- the places on the way
 abbrev entered : tie.After-slice-known → tie.Start
-entered c = c .before .before .before .before
+entered c = c .before .before .before
 
 abbrev written : tie.After-put-keys-arg → tie.After-whole-covariance
 written c = c .before .before
@@ -27,39 +27,43 @@ abbrev start-of : tie.After-whole-covariance → tie.Start
 start-of c = entered (c .before .before)
 
 -- the square of the dimension
-size : (c : tie.Start) → c .args .d * c .args .d ≤ 81
-size c = covariance-entries (c .pre .0 .0)
+size : (c : tie.Start) → c .args .terms .d * c .args .terms .d ≤ 81
+size c = covariance-entries (c .pre .0)
 
-state : (c : tie.Start) → length (trackState (c .args .d) (c .args .u .now)) ≡ c .args .d
-state c = length-state (c .args .d) (c .args .u .now) (c .pre .0 .2 ∙ c .pre .0 .1)
+state : (c : tie.Start) → length (trackState (c .args .terms .d) (c .args .u .now)) ≡ c .args .terms .d
+state c = length-state (c .args .terms) (c .pre .0) (c .args .u .now) (c .pre .1)
+
+-- the covariance, which the call left in front of the array
+abbrev covariance : tie.Start → List Float
+covariance c = trackCovariance (c .args .terms .d) (c .args .u .now)
+
+left : (c : tie.After-whole-covariance) → c .whole-covariance .last .1 .1 .0 ≡ covariance (start-of c)
+left c =
+    let start = start-of c in
+    covariance-left (start .args .terms) (start .pre .0) (start .args .u .now) _ (start .pre .1) (length-take-le _ _ (size start)) (c .whole-covariance .ensures)
 
 array-share-prefix-p : tie.Need-array-share-prefix-p
 array-share-prefix-p c =
-    let d = start-of (written c) .args .d in
+    let d = start-of (written c) .args .terms .d in
     let whole = written c .whole-covariance in
     omega (arith, size (start-of (written c)), length-front _ (whole .last .1 .1 .0) (d * d) (whole .kept .1 .1 .0))
 
-left : (c : tie.After-whole-covariance) → c .whole-covariance .last .1 .1 .0 ≡ trackCovariance (start-of c .args .d) (start-of c .args .u .now)
-left c =
-    let start = start-of c in
-    let h = start .pre .0 in
-    covariance-left (start .args .u .now) _ (h .0) (h .2 ∙ h .1) (length-take-le _ _ (size start)) (c .whole-covariance .ensures)
-
--- the covariance, which the call left in front of the array
 in-front : (c : tie.After-whole-covariance) (rest : List Float)
-    → let x = start-of c .args in
-    take (x .d * x .d) (c .whole-covariance .last .1 .1 .0 ++ rest) ≡ trackCovariance (x .d) (x .u .now)
-in-front c rest = let x = start-of c .args in front rest (length-covariance (x .d) (x .u .now)) (left c)
+    → let d = start-of c .args .terms .d in
+    take (d * d) (c .whole-covariance .last .1 .1 .0 ++ rest) ≡ covariance (start-of c)
+in-front c rest = let x = start-of c .args in front rest (length-covariance (x .terms .d) (x .u .now)) (left c)
 
-length-in-front : (c : tie.After-whole-covariance) (rest : List Float) → let d = start-of c .args .d in length (take (d * d) (c .whole-covariance .last .1 .1 .0 ++ rest)) ≡ d * d
-length-in-front c rest = let x = start-of c .args in ap length (in-front c rest) ∙ length-covariance (x .d) (x .u .now)
+length-in-front : (c : tie.After-whole-covariance) (rest : List Float)
+    → let d = start-of c .args .terms .d in
+    length (take (d * d) (c .whole-covariance .last .1 .1 .0 ++ rest)) ≡ d * d
+length-in-front c rest = let x = start-of c .args in ap length (in-front c rest) ∙ length-covariance (x .terms .d) (x .u .now)
 
 put-keys-requires : tie.Need-put-keys-requires
 put-keys-requires c κs =
     let w = written (c .before .before .before) in
     let start = start-of w in
-    let h = start .pre .0 in
-    ((h .0, h .1, state start, length-in-front w _, length-take-le _ _ (size start)), start .pre .1)
+    let h = start .pre in
+    ((h .0, state start, length-in-front w _, length-take-le _ _ (size start)), (h .2, h .3))
 
 returns : tie.Need-returns
 returns c =
@@ -67,7 +71,7 @@ returns c =
     let w = written (made .before .before .before .before) in
     let x = start-of w .args in
     made .put-keys .ensures
-    ∙ ap (λ (p : List Float). keysFrom (eqb (x .first) nobody) (x .d) (x .f) (x .floor) (x .gate) (trackState (x .d) (x .u .now)) p (x .vs .now) (x .partners .now) (x .n)) (in-front w _)
+    ∙ ap (λ (p : List Float). keysFrom (x .terms) (eqb (x .first) nobody) (trackState (x .terms .d) (x .u .now)) p (x .vs .now) (x .partners) (x .n)) (in-front w _)
 
 pub key-row-spec : {M : Type 1} → statement M
 key-row-spec =

@@ -19,33 +19,33 @@ use Rattle.merge.proofs.keys.put_keys.Statement.{statement}
 use Rattle.merge.proofs.keys.put_keys.Tie as tie
 
 abbrev Inv-loop : tie.InvT-loop
-Inv-loop mu p d floor gate first vs partners n f q₀ keys₀ j₀ q keys j =
-    (j ≤ n) × (length q ≡ d * d) × Filled (λ k. cond (eqb first nobody && isFree partners k) (keyFrom d floor gate mu p (rowOf vs f k)) nan) keys₀ j keys
+Inv-loop mu p first vs n terms q₀ keys₀ partners f j₀ q keys j =
+    (j ≤ n) × (length q ≡ terms .d * terms .d) × Filled (λ k. cond (eqb first nobody && isFree partners k) (keyFrom terms mu p (rowOf vs (terms .f) k)) nan) keys₀ j keys
 
 abbrev μ-loop : tie.MeasureT-loop
-μ-loop mu p d floor gate first vs partners n f q₀ keys₀ j₀ q keys j = n - j
+μ-loop mu p first vs n terms q₀ keys₀ partners f j₀ q keys j = n - j
 
 abbrev entered : tie.At-loop Inv-loop μ-loop → tie.Start Inv-loop μ-loop
-entered c = c .before .before .before .before .before .before .before
+entered c = c .before .before .before .before .before .before
 
 loop-holds : tie.Need-loop-holds Inv-loop μ-loop
-loop-holds c = (omega arith, c .before .before .before .before .before .before .pre .0 .4, filled-none _ _)
+loop-holds c = (omega arith, c .before .before .before .before .before .pre .0 .3, filled-none _ _)
 
 row-requires : tie.Need-row-requires Inv-loop μ-loop
 row-requires c κs =
-    let turn = c .before .before .before .before in
-    let x = entered turn .args in
-    omega (arith, row-within (x .n) (x .f) {i = turn .loop .j} (omega arith))
+    let turn = c .before .before .before in
+    let s = entered turn in
+    omega (arith, row-within (s .args .n) (s .args .terms .f) {i = turn .loop .j} (omega arith), s .pre .1 .0 .values-long)
 
 key-requires : tie.Need-key-requires Inv-loop μ-loop
 key-requires c κs =
-    let turn = c .before .before .before .before .before .before in
+    let turn = c .before .before .before .before .before in
     let h = entered turn .pre .0 in
-    (h .0, h .2, h .3, c .before .row .ensures .0 ∙ h .1, turn .loop .inv .1)
+    (h .0, h .1, h .2, c .before .row .ensures .0, turn .loop .inv .1)
 
 -- the key's own place
 inside : (c : tie.In-loop Inv-loop μ-loop) → c .before .loop .j < length (c .before .loop .keys)
-inside c = omega (arith, c .loop-test .taken, c .before .loop .inv .2 .size, entered (c .before) .pre .1 .3)
+inside c = omega (arith, c .loop-test .taken, c .before .loop .inv .2 .size, entered (c .before) .pre .1 .1)
 
 -- a key that is stored, of two free tracks or of others
 stored : (f : ℕ → Float) {old l new : List Float} (j : ℕ) {v : Float} → new ≡ set l j v → j < length l → v ≡ f j → Filled f old j l → Filled f old (j + 1) new
@@ -60,25 +60,25 @@ of-others k e t h = rw (sym e ∙ t) h
 loop-again : tie.Need-loop-again Inv-loop μ-loop
 loop-again c =
     let free = c .before in
-    let in-loop = free .before .before in
+    let in-loop = free .before in
     let x = entered (in-loop .before) .args in
     let v = in-loop .before .loop in
     let e = free .both-free .ensures in
     ⊎-elim
     (λ w. (
       omega arith,
-      ap length (w .6) ∙ w .3 .kept .1 .1 .1 .1 .1 .1 .0 ∙ v .inv .1,
-      stored _ (v .j) (w .7) (inside in-loop) (of-free e (w .0 .taken) (w .3 .ensures ∙ ap (keyFrom (x .d) (x .floor) (x .gate) (x .mu .now) (x .p .now)) (w .1 .ensures .1))) (v .inv .2),
+      ap length (w .6) ∙ w .3 .kept .1 .1 .1 .1 .0 ∙ v .inv .1,
+      stored _ (v .j) (w .7) (inside in-loop) (of-free e (w .0 .taken) (w .3 .ensures ∙ ap (keyFrom (x .terms) (x .mu .now) (x .p .now)) (w .1 .ensures .1))) (v .inv .2),
     ))
     (λ w. (omega arith, ap length (w .2) ∙ v .inv .1, stored _ (v .j) (w .3) (inside in-loop) (of-others _ e (w .0 .left) (w .1 .ensures)) (v .inv .2)))
     (c .if1 .came)
 
 returns : tie.Need-returns Inv-loop μ-loop
-returns c = let turn = c .before in filled-all _ (entered turn .pre .1 .3) (c .loop-test .left) (turn .loop .inv .2)
+returns c = let turn = c .before in filled-all _ (entered turn .pre .1 .1) (c .loop-test .left) (turn .loop .inv .2)
 
 pub put-keys-spec : {M : Type 1} → statement M
 put-keys-spec =
     tie.close
-    (tie.spec Inv-loop μ-loop loop-holds (λ c. omega arith) (λ c κs. search needs) row-requires key-requires (λ c. omega arith) (λ c. omega arith)
+    (tie.spec Inv-loop μ-loop loop-holds (λ c. omega (arith, entered (c .before) .pre .1 .0 .few)) (λ c κs. search needs) row-requires key-requires (λ c. omega arith) (λ c. omega arith)
     (λ c κs. search needs) (λ c. omega arith) (λ c. omega arith) (λ c. omega arith) (λ c. omega arith) loop-again
-    (λ c. c .before .loop .inv .1 ∙ sym (entered (c .before) .pre .0 .4)) (λ c. c .before .loop .inv .2 .size) returns)
+    (λ c. c .before .loop .inv .1 ∙ sym (entered (c .before) .pre .0 .3)) (λ c. c .before .loop .inv .2 .size) returns)

@@ -25,8 +25,8 @@ start-of c = c .before .before .before .before .before .before
 
 -- an index other than 255 is a track's
 there : (l : _) {i : ℕ} → Index l i → (i ≡ 255 → ⊥) → i < trackCount (held l)
-there l (inl e) n = absurd (n e)
-there l (inr h) n = h
+there l (inl h) n = h
+there l (inr e) n = absurd (n e)
 
 first : (c : tie.Else2) → start-of c .args .i < trackCount (held (now (start-of c .args .a)))
 first c = there _ (start-of c .pre .1) (c .before .if1 .left)

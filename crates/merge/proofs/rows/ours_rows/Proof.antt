@@ -1,78 +1,62 @@
 -- `ours_rows` meets its contract: before turn j the rows of those of the first j tracks of ours are written that have no base track.
 use mathlib.Core.Path.{_≡_, refl}
-use mathlib.Core.Logic.{inl, inr}
-use Prim.Native.Nat.{ℕ, _+_, _-_, _≤_}
+use Prim.Native.Nat.{ℕ, _-_, _≤_}
 use native.Mathlib.Nat.{le-antisymm}
 use native.Mathlib.Omega.{arith}
-use mathlib.Core.List.{List}
-use borrow.Author.Needs.{needs}
+use mathlib.Core.Bool.{Bool}
 use denote.Ref.{now}
 use lib.ListN.{length, getD}
-use mathlib.Core.Bool.{Bool}
 use Rattle.pairing.specs.Keys.{nobody}
 use Rattle.pairing.specs.Search.{isFree}
 use Rattle.merge.specs.Rows.{Row, selected}
-use Rattle.merge.specs.Steps.{rowOn, oursGroup, Appended}
-use Rattle.merge.proofs.Groups.{appended-none, selected-step, selected-length, selected-all}
-use Rattle.merge.proofs.Writing.{selected-few}
+use Rattle.merge.specs.Steps.{undecidedRow, oursGroup, Appended}
+use Rattle.merge.proofs.Groups.{appended-none, selected-room, selected-turn, selected-all}
 use Rattle.merge.proofs.rows.ours_rows.Statement.{statement}
 use Rattle.merge.proofs.rows.ours_rows.Tie as tie
 
 abbrev Inv-loop : tie.InvT-loop
-Inv-loop base base-offsets base-of ours ours-offsets n theirs theirs-offsets theirs-of at rows₀ r₀ j₀ rows r j =
-    (j ≤ n) × (length rows ≡ length rows₀) × Appended (oursGroup (rowOn base ours theirs) base-of theirs-of j) at rows₀ r rows
+Inv-loop n at rows₀ base-of theirs-of r₀ j₀ rows r j = (j ≤ n) × (length rows ≡ length rows₀) × Appended (oursGroup base-of theirs-of j) at rows₀ r rows
 
 abbrev μ-loop : tie.MeasureT-loop
-μ-loop base base-offsets base-of ours ours-offsets n theirs theirs-offsets theirs-of at rows₀ r₀ j₀ rows r j = n - j
+μ-loop n at rows₀ base-of theirs-of r₀ j₀ rows r j = n - j
 
 -- the places, each from a later one
-abbrev start-of : tie.After-slice-known Inv-loop μ-loop → tie.Start Inv-loop μ-loop
-start-of c = c .before .before .before .before .before .before .before .before .before
+abbrev begun : tie.At-loop Inv-loop μ-loop → tie.Start Inv-loop μ-loop
+begun c = c .before .before .before .before
 
 abbrev turn : tie.After-put-row-arg Inv-loop μ-loop → tie.At-loop Inv-loop μ-loop
-turn c = c .before .before .before .before
+turn c = c .before .before
 
-abbrev begun : tie.After-put-row-arg Inv-loop μ-loop → tie.Start Inv-loop μ-loop
-begun c = start-of (turn c .before)
-
--- the tracks that have a row here, the row of one, and those of the first ones
+-- the tracks that have a row here, and the row of one
 abbrev wanted : tie.Start Inv-loop μ-loop → ℕ → Bool
-wanted c j = let x = c .args in isFree (now (x .base-of)) j
+wanted c j = isFree (c .args .base-ours .seconds) j
 
 abbrev at-row : tie.Start Inv-loop μ-loop → ℕ → Row
-at-row c j = let x = c .args in rowOn (now (x .base)) (now (x .ours)) (now (x .theirs)) nobody j (getD (now (x .theirs-of)) j 0)
-
-abbrev group : tie.Start Inv-loop μ-loop → ℕ → List Row
-group c j = selected j (wanted c) (at-row c)
+at-row c j = undecidedRow nobody j (getD (c .args .ours-theirs .firsts) j 0)
 
 loop-holds : tie.Need-loop-holds Inv-loop μ-loop
 unfolding selected
-loop-holds c = let x = start-of c .args in (omega arith, refl, appended-none (x .at) (now (x .rows)))
+loop-holds c = let x = c .before .before .before .args in (omega arith, refl, appended-none (x .at) (now (x .rows)))
 
 put-row-requires : tie.Need-put-row-requires Inv-loop μ-loop
 put-row-requires c κs =
-    let s = begun c in
-    let p = s .pre in
-    let tables = p .1 .0 in
-    let room = p .1 .1 in
     let i = turn c .loop in
-    let few = selected-few (i .j) (wanted s) (at-row s) in
-    (p .0, (inl refl, inr (omega (arith, tables .0)), tables .1 (i .j) (omega arith), omega (arith, few, i .inv .2 .next, room .0, room .1), omega (arith, few, i .inv .2 .next, i .inv .1, room .4)))
+    let s = begun (turn c) in
+    selected-room (wanted s) (at-row s) {n = i .j} (omega arith) (i .inv .2) (s .pre .0) (s .pre .1) (s .pre .2) (i .inv .1)
 
 -- the turn's row is one more, or none is
 loop-again : tie.Need-loop-again Inv-loop μ-loop
 loop-again c =
     let t = c .before .before .before in
-    let s = begun t in
     let i = turn t .loop in
-    let room = s .pre .1 .1 .4 in
-    let next = selected-step (wanted s) (at-row s) (i .j) (i .inv .2) (omega (arith, room)) (c .before .before .put-row .ensures) in
-    (omega arith, selected-length (wanted s) (at-row s) (i .j + 1) next (omega (arith, room)), next)
+    let s = begun (turn t) in
+    let next = selected-turn (wanted s) (at-row s) (i .j) (i .inv .2) (omega (arith, s .pre .2)) (c .before .before .put-row .ensures) in
+    (omega arith, next .0, next .1)
 
 returns : tie.Need-returns Inv-loop μ-loop
 returns c =
     let i = c .before .loop in
-    let s = start-of (c .before .before) in
+    let s = begun (c .before) in
     selected-all (wanted s) (at-row s) (le-antisymm (i .inv .0) (c .loop-test .left)) (i .inv .2)
 
 pub ours-rows-spec : {M : Type 1} → statement M

@@ -1,9 +1,8 @@
--- `merge_three` meets its contract: questions 17, 18 and 19, and then the rows and their numbers.
-use mathlib.Core.Path.{_≡_, refl, sym, _∙_}
+-- `merge_three` meets its contract: questions 18 and 19, and then the rows, their verdicts and their numbers.
+use mathlib.Core.Path.{_≡_, sym, ap, _∙_}
 use Prim.Native.Nat.{ℕ, _+_, _*_, _≤_}
-use native.Mathlib.Nat.{mul-le-mul-right}
 use native.Mathlib.Omega.{arith}
-use mathlib.Core.Bool.{true}
+use mathlib.Core.Bool.{Bool, true, cond}
 use mathlib.Core.List.{List}
 use borrow.Author.Needs.{needs}
 use borrow.Author.Tests.{not-true, not-false}
@@ -13,11 +12,14 @@ use Rattle.tracks.specs.Layout.{fields}
 use Rattle.tracks.specs.Read.{TrackList}
 use Rattle.compare.specs.Distance.{floorAndGate}
 use Rattle.merge.specs.Tracks.{trackCount}
-use Rattle.merge.specs.Merge.{oneDimension}
-use Rattle.merge.specs.Steps.{held, OneDimension}
-use Rattle.merge.proofs.Groups.{appended-length}
-use Rattle.merge.proofs.Merging.{few-read}
-use Rattle.merge.proofs.Asking.{other-ours, other-theirs, one-dimension, compares-read, three-17, three-18, three-19, three-rows, rows-few}
+use Rattle.merge.specs.Rows.{Row, rowsOf, verdictOn}
+use Rattle.merge.specs.Merge.{pairingsOf, mergedRows}
+use Rattle.merge.specs.Steps.{held, undecided, Appended}
+use Rattle.merge.proofs.AcceptedLists.{indices-in}
+use Rattle.merge.proofs.Asking.{three-18, three-19, three-rows, rows-fit}
+use Rattle.merge.proofs.Deciding.{rows-decided}
+use Rattle.merge.proofs.Located.{few-located}
+use Rattle.merge.proofs.Merging.{few-read, sizes-of, lists-of, number-of, few-of, dimension-of, compares-of, rows-placed}
 use Rattle.merge.proofs.three.merge_three.Statement.{statement}
 use Rattle.merge.proofs.three.merge_three.Tie as tie
 
@@ -25,19 +27,22 @@ use Rattle.merge.proofs.three.merge_three.Tie as tie
 abbrev start-of : tie.After-slice-known → tie.Start
 start-of c = c .before .before .before .before .before .before .before .before .before .before
 
-abbrev begun : tie.Else2 → tie.Start
+abbrev begun : tie.Else1 → tie.Start
 begun c = start-of (c .before .before)
 
-abbrev asked : tie.Else3 → tie.Else2
-asked c = c .before .before
+abbrev asked : tie.After-field-count → tie.Else2
+asked c = c .before
 
-abbrev written : tie.After-slice-known2 → tie.After-write-rows
-written c = c .before .before
+abbrev entered : tie.After-field-count → tie.Start
+entered c = begun (asked c .before)
 
-abbrev met : tie.After-write-rows → tie.Else4
-met c = c .before .before
+abbrev sized : tie.After-write-rows → tie.After-field-count
+sized c = c .before .before .before
 
--- the three lists
+abbrev written : tie.After-write-verdicts → tie.After-write-rows
+written c = c .before .before .before .before
+
+-- the three lists, and the buffer as it was
 abbrev b : tie.Start → TrackList
 b c = held (now (c .args .base))
 
@@ -50,94 +55,94 @@ t c = held (now (c .args .theirs))
 abbrev old : tie.Start → List ℕ
 old c = now (c .args .rows)
 
+-- the rows by the merge's pairings, with any verdicts
+abbrev rows-with : tie.Start → (ℕ → ℕ → ℕ → ℕ) → List Row
+rows-with c v = rowsOf v (pairingsOf (b c) (o c) (t c) (c .args .floor) (c .args .gate)) (trackCount (b c)) (trackCount (o c)) (trackCount (t c))
+
 returns : tie.Need-returns
 returns c =
-    let s = start-of (c .before) in
-    three-17 (b s) (o s) (t s) (s .args .floor) (s .args .gate) (old s) (other-ours (b s) (o s) (t s) (s .pre .1 .0) (s .pre .1 .1) (c .if1 .taken))
+    let s = start-of (c .before .before) in
+    three-18 (b s) (o s) (t s) (s .args .floor) (s .args .gate) (old s) (sym (c .before .is-floor-and-gate .ensures) ∙ not-true _ (c .if1 .taken))
+
+-- question 18 is met
+met-18 : (c : tie.Else1) → floorAndGate (begun c .args .floor) (begun c .args .gate) ≡ true
+met-18 c = sym (c .before .is-floor-and-gate .ensures) ∙ not-false _ (c .if1 .left)
 
 returns-2 : tie.Need-returns-2
 returns-2 c =
-    let s = start-of (c .before .before) in
-    three-17 (b s) (o s) (t s) (s .args .floor) (s .args .gate) (old s) (other-theirs (b s) (o s) (t s) (s .pre .1 .0) (s .pre .1 .1) (s .pre .1 .2) (c .before .if1 .left) (c .if2 .taken))
+    let s = begun (c .before) in
+    three-19 (b s) (o s) (t s) (s .args .floor) (s .args .gate) (old s) (met-18 (c .before)) (omega (arith, number-of (s .pre), c .if2 .taken))
 
--- question 17 is met, and 18
-met-17 : (c : tie.Else2) → oneDimension (b (begun c)) (o (begun c)) (t (begun c)) ≡ true
-met-17 c = let s = begun c in one-dimension (b s) (o s) (t s) (s .pre .1 .0) (s .pre .1 .1) (s .pre .1 .2) (c .before .if1 .left) (c .if2 .left)
+-- question 19 is met
+room : (c : tie.After-field-count) → let s = entered c in 4 * (trackCount (b s) + trackCount (o s) + trackCount (t s)) ≤ length (old s)
+room c = omega (arith, number-of (entered c .pre), asked c .if2 .left)
 
-met-18 : (c : tie.Else3) → floorAndGate (begun (asked c) .args .floor) (begun (asked c) .args .gate) ≡ true
-met-18 c = sym (c .before .is-floor-and-gate .ensures) ∙ not-false _ (c .if3 .left)
+-- the number of fields
+size-is : (c : tie.After-field-count) → c .field-count .result ≡ fields (entered c .args .d)
+size-is c = let s = entered c in c .field-count .ensures ∙ ap (λ (x : Bool). cond x (fields (s .args .d)) 0) (dimension-of (s .pre))
+
+pair-all-requires : tie.Need-pair-all-requires
+pair-all-requires c κs =
+    let a = entered c .pre in
+    let g = size-is c in
+    (compares-of a g (met-18 (asked c .before)), sizes-of (a .of-base) (a .base-dimension) g, sizes-of (a .of-ours) (a .ours-dimension) g, sizes-of (a .of-theirs) (a .theirs-dimension) g)
+
+write-rows-requires : tie.Need-write-rows-requires
+write-rows-requires c κs =
+    let f = c .before .before in
+    let a = entered f .pre in
+    (few-read (a .of-base), few-read (a .of-ours), few-read (a .of-theirs), omega (arith, asked f .if2 .left))
+
+-- the rows stand in the buffer, and then their verdicts
+placed : (c : tie.After-write-rows) → let s = entered (sized c) in Appended (rows-with s undecided) 0 (old s) (c .write-rows .result) (c .write-rows .last .1 .1 .1 .1 .0)
+placed c =
+    let s = entered (sized c) in
+    let p = c .before .before .pair-all in
+    rows-placed (s .pre) (s .args .floor) (s .args .gate) (size-is (sized c)) undecided (p .result) (p .ensures) (c .write-rows .ensures)
+
+decided : (c : tie.After-write-verdicts)
+    → let w = written c in
+    let s = entered (sized w) in
+    Appended (mergedRows (b s) (o s) (t s) (s .args .floor) (s .args .gate)) 0 (old s) (w .write-rows .result) (c .write-verdicts .last .1 .1 .1 .1 .1 .1 .1 .0)
+unfolding mergedRows
+decided c =
+    let w = written c in
+    let s = entered (sized w) in
+    rows-decided undecided (verdictOn (b s) (o s) (t s)) (pairingsOf (b s) (o s) (t s) (s .args .floor) (s .args .gate)) (trackCount (b s)) (trackCount (o s)) (trackCount (t s))
+    (placed w) (c .write-verdicts .ensures)
+
+write-verdicts-requires : tie.Need-write-verdicts-requires
+write-verdicts-requires c κs =
+    let w = c .before .before .before in
+    let s = entered (sized w) in
+    let a = s .pre in
+    let fit = rows-fit (b s) (o s) (t s) (s .args .floor) (s .args .gate) (old s) undecided (placed w) (room (sized w)) in
+    let is = indices-in (b s) (o s) (t s) (s .args .floor) (s .args .gate) (few-located (a .of-base .located)) (few-located (a .of-ours .located)) (few-located (a .of-theirs .located))
+    (old s) undecided (placed w) in
+    (lists-of a, (omega (arith, fit .0, number-of (s .pre), few-of (s .pre)), fit .1, is))
+
+count-rows-requires : tie.Need-count-rows-requires
+unfolding mergedRows
+count-rows-requires c κs =
+    let v = c .before .before .before in
+    let f = sized (written v) in
+    let s = entered f in
+    let fit = rows-fit (b s) (o s) (t s) (s .args .floor) (s .args .gate) (old s) (verdictOn (b s) (o s) (t s)) (decided v) (room f) in
+    (omega (arith, fit .0, number-of (s .pre), few-of (s .pre)), fit .1)
 
 returns-3 : tie.Need-returns-3
 returns-3 c =
-    let a = c .before .before in
-    let s = begun a in
-    three-18 (b s) (o s) (t s) (s .args .floor) (s .args .gate) (old s) (met-17 a) (sym (c .before .is-floor-and-gate .ensures) ∙ not-true _ (c .if3 .taken))
-
--- the numbers of tracks
-number : (s : tie.Start) → s .args .m + s .args .n + s .args .l ≡ trackCount (b s) + trackCount (o s) + trackCount (t s)
-number s = omega (arith, s .pre .0 .0 .number, s .pre .0 .1 .number, s .pre .0 .2 .number)
-
-few : (s : tie.Start) → s .args .m + s .args .n + s .args .l ≤ 96
-few s = omega (arith, few-read (s .pre .0 .0), few-read (s .pre .0 .1), few-read (s .pre .0 .2))
-
-returns-4 : tie.Need-returns-4
-returns-4 c =
-    let e = c .before in
-    let s = begun (asked e) in
-    three-19 (b s) (o s) (t s) (s .args .floor) (s .args .gate) (old s) (met-17 (asked e)) (met-18 e) (omega (arith, number s, c .if4 .taken))
-
--- the dimension is at most 9
-small : (c : tie.Else4) → begun (asked (c .before)) .args .base-d ≤ 9
-small c = let e = c .before in let s = begun (asked e) in compares-read (s .pre .0 .0 .located) (s .pre .1 .0) (met-18 e) .few
-
-product : (c : tie.Else4) → let d = begun (asked (c .before)) .args .base-d in d * (d + 1) ≤ 90
-product c = let d = begun (asked (c .before)) .args .base-d in omega (arith, small c, mul-le-mul-right (d + 1) (small c))
-
-write-requires : tie.Need-write-rows-requires
-unfolding fields
-write-requires c κs =
-    let f = c .before in
-    let e = f .before in
-    let a = asked e in
-    let s = begun a in
-    let one : OneDimension (s .args .base-d) (now (s .args .base)) (now (s .args .ours)) (now (s .args .theirs)) = record {
-      of-base = s .pre .1 .0;
-      of-ours = a .before .if1 .left ∙ s .pre .1 .1;
-      of-theirs = a .if2 .left ∙ s .pre .1 .2;
-    } in
-    (s .pre .0, (one, compares-read (s .pre .0 .0 .located) (s .pre .1 .0) (met-18 e), refl, omega (arith, f .if4 .left)))
-
--- the rows are in the buffer
-room : (c : tie.After-write-rows) → let s = begun (asked (met c .before)) in 4 * (trackCount (b s) + trackCount (o s) + trackCount (t s)) ≤ length (old s)
-room c = let s = begun (asked (met c .before)) in omega (arith, number s, met c .if4 .left)
-
-count-requires : tie.Need-count-rows-requires
-count-requires c κs =
-    let w = written (c .before) in
-    let s = begun (asked (met w .before)) in
-    let a = w .write-rows .ensures in
-    let rows = rows-few (b s) (o s) (t s) (s .args .floor) (s .args .gate) (old s) in
-    (omega (arith, a .next, rows, number s, few s), omega (arith, a .next, rows, room w, appended-length a (omega (arith, rows, room w))))
-
-count-requires-2 : tie.Need-count-rows-requires-2
-count-requires-2 c κs = count-requires (c .before .before) κs
-
-count-requires-3 : tie.Need-count-rows-requires-3
-count-requires-3 c κs = count-requires (c .before .before .before .before) κs
-
-returns-5 : tie.Need-returns-5
-returns-5 c =
     let half = c .before .before in
     let full = half .before .before in
-    let w = written (full .before .before) in
-    let e = met w .before in
-    let s = begun (asked e) in
-    three-rows (b s) (o s) (t s) (s .args .floor) (s .args .gate) (old s) (met-17 (asked e)) (met-18 e) (room w) (w .write-rows .ensures)
+    let v = full .before .before .before .before in
+    let f = sized (written v) in
+    let s = entered f in
+    three-rows (b s) (o s) (t s) (s .args .floor) (s .args .gate) (old s) (met-18 (asked f .before)) (room f) (decided v)
     (full .count-rows .ensures) (half .count-rows2 .ensures) (c .count-rows3 .ensures)
 
 pub merge-three-spec : {M : Type 1} → statement M
 merge-three-spec =
     tie.close
-    (tie.spec returns returns-2 (λ c κs. search needs) returns-3 (λ c. omega (arith, few (begun (asked c)))) (λ c. omega (arith, few (begun (asked c))))
-    (λ c. omega (arith, few (begun (asked c)))) returns-4 (λ c. omega (arith, small c)) (λ c. omega (arith, product c)) (λ c. omega (arith, small c, product c))
-    write-requires count-requires count-requires-2 count-requires-3 (λ c. search needs) returns-5)
+    (tie.spec (λ c κs. search needs) returns (λ c. omega (arith, few-of (begun c .pre))) (λ c. omega (arith, few-of (begun c .pre))) (λ c. omega (arith, few-of (begun c .pre))) returns-2
+    (λ c κs. search needs) pair-all-requires write-rows-requires write-verdicts-requires count-rows-requires (λ c κs. count-rows-requires (c .before .before) κs)
+    (λ c κs. count-rows-requires (c .before .before .before .before) κs) (λ c. search needs) returns-3)

@@ -5,8 +5,8 @@ use mathlib.Core.Bool.{cond}
 use native.Mathlib.Omega.{arith}
 use borrow.Author.Needs.{needs}
 use Rattle.merge.specs.Rows.{tracksAmong, isTrack}
-use Rattle.merge.proofs.rows.tracks_among.Statement.{statement}
-use Rattle.merge.proofs.rows.tracks_among.Tie as tie
+use Rattle.merge.proofs.counts.tracks_among.Statement.{statement}
+use Rattle.merge.proofs.counts.tracks_among.Tie as tie
 
 returns : tie.Need-returns
 unfolding tracksAmong

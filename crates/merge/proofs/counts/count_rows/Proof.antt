@@ -10,8 +10,8 @@ use denote.Ref.{now}
 use lib.Dec.{eqb}
 use Rattle.merge.specs.Demand3.{tracksIn, howMany}
 use Rattle.merge.proofs.Groups.{howMany-more}
-use Rattle.merge.proofs.rows.count_rows.Statement.{statement}
-use Rattle.merge.proofs.rows.count_rows.Tie as tie
+use Rattle.merge.proofs.counts.count_rows.Statement.{statement}
+use Rattle.merge.proofs.counts.count_rows.Tie as tie
 
 abbrev has : List ℕ → ℕ → ℕ → Bool
 has rows n r = eqb (tracksIn rows r) n

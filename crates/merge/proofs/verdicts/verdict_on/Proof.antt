@@ -7,8 +7,8 @@ use Rattle.merge.specs.Tracks.{equalTracks}
 use Rattle.merge.specs.Rows.{isTrack, verdict, verdictOn}
 use Rattle.merge.specs.Steps.{held}
 use Rattle.merge.proofs.Groups.{verdict-there}
-use Rattle.merge.proofs.rows.verdict_on.Statement.{statement}
-use Rattle.merge.proofs.rows.verdict_on.Tie as tie
+use Rattle.merge.proofs.verdicts.verdict_on.Statement.{statement}
+use Rattle.merge.proofs.verdicts.verdict_on.Tie as tie
 
 abbrev start-of : tie.After-shared-slice-known6 → tie.Start
 start-of c = c .before .before .before .before .before .before

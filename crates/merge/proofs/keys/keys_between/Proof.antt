@@ -1,0 +1,81 @@
+-- `keys_between` meets its contract: before turn i the rows of keys before i stand in front of the array.
+use Prim.Native.Nat.{ℕ, _+_, _*_, _-_, _≤_}
+use native.Mathlib.Nat.{le-antisymm, mul-le-mul}
+use native.Mathlib.Omega.{arith}
+use mathlib.Core.List.{List}
+use mathlib.Core.Path.{_≡_, ap, subst, _∙_}
+use lib.Ieee.{Float}
+use lib.ListN.{length, take, length-replicate}
+use Rattle.kernel.specs.Constants.{nought}
+use Rattle.kernel.specs.Lists.{tabulate}
+use Rattle.dense.specs.Fill.{FilledRows}
+use Rattle.dense.specs.Matrix.{rowOf, matrix}
+use Rattle.dense.proofs.Laws.{row-within, length-part, rows-none, rows-more}
+use Rattle.pairing.specs.Search.{isFree}
+use Rattle.merge.specs.Steps.{keyAmong}
+use Rattle.merge.proofs.keys.keys_between.Statement.{statement}
+use Rattle.merge.proofs.keys.keys_between.Tie as tie
+
+abbrev Inv-loop : tie.InvT-loop
+Inv-loop us m vs vs-partners n terms us-partners keys₀ f i₀ keys i =
+    (i ≤ m) × (length keys₀ ≡ 1024) × FilledRows (λ i j. keyAmong terms (isFree us-partners i) (isFree vs-partners j) (rowOf us (terms .f) i) (rowOf vs (terms .f) j)) n keys₀ i keys
+
+abbrev μ-loop : tie.MeasureT-loop
+μ-loop us m vs vs-partners n terms us-partners keys₀ f i₀ keys i = m - i
+
+abbrev entered : tie.In-loop Inv-loop μ-loop → tie.Start Inv-loop μ-loop
+entered c = c .before .before .before .before
+
+-- the row of keys lies within the array
+few : (c : tie.In-loop Inv-loop μ-loop) → c .before .loop .i * entered c .args .n + entered c .args .n ≤ 1024
+few c = let s = entered c in omega (arith, row-within (s .args .m) (s .args .n) {i = c .before .loop .i} (omega arith), mul-le-mul (s .pre .1 .few) (s .pre .2 .few))
+
+within : (c : tie.In-loop Inv-loop μ-loop) → c .before .loop .i * entered c .args .n + entered c .args .n ≤ length (c .before .loop .keys)
+within c = let v = c .before .loop .inv in omega (arith, few c, v .1, v .2 .size)
+
+-- the key of tracks i and j
+abbrev key-at : tie.Start Inv-loop μ-loop → List Float → ℕ → ℕ → Float
+key-at s u i j =
+    let x = s .args in
+    keyAmong (x .terms) (isFree (x .t2) i) (isFree (x .vs-partners) j) u (rowOf (x .vs .now) (x .terms .f) j)
+
+loop-holds : tie.Need-loop-holds Inv-loop μ-loop
+loop-holds c = (omega arith, length-replicate 1024 nought, rows-none _ _ _)
+
+row-requires : tie.Need-row-requires Inv-loop μ-loop
+row-requires c κs =
+    let s = entered c in
+    omega (arith, row-within (s .args .m) (s .args .terms .f) {i = c .before .loop .i} (omega arith), s .pre .1 .values-long)
+
+key-row-requires : tie.Need-key-row-requires Inv-loop μ-loop
+key-row-requires c κs =
+    let found = c .before in
+    let in-loop = found .before in
+    let s = entered in-loop in
+    (s .pre .0, found .row .ensures .0, s .pre .2, length-part (in-loop .before .loop .keys) (s .args .n) (in-loop .before .loop .i) (within in-loop))
+
+loop-again : tie.Need-loop-again Inv-loop μ-loop
+loop-again c =
+    let made = c .before in
+    let found = made .before .before in
+    let in-loop = found .before in
+    let s = entered in-loop in
+    let i = in-loop .before .loop .i in
+    let v = in-loop .before .loop .inv in
+    let row : List Float → List Float = λ u. tabulate (s .args .n) (key-at s u i) in
+    (omega arith, v .1, rows-more _ (s .args .n) i (within in-loop) (made .key-row .ensures ∙ ap row (found .row .ensures .1)) (v .2))
+
+returns : tie.Need-returns Inv-loop μ-loop
+returns c =
+    let turn = c .before in
+    let s = turn .before .before .before in
+    let x = s .args in
+    let whole : ℕ → Type 0 = λ k. take (k * x .n) (turn .loop .keys) ≡ matrix k (x .n) (λ i. key-at s (rowOf (x .us .now) (x .terms .f) i) i) in
+    subst whole (le-antisymm (turn .loop .inv .0) (c .loop-test .left)) (turn .loop .inv .2 .done)
+
+pub keys-between-spec : {M : Type 1} → statement M
+keys-between-spec =
+    tie.close
+    (tie.spec Inv-loop μ-loop loop-holds row-requires (λ c. omega (arith, few (c .before))) (λ c. omega (arith, few (c .before)))
+    (λ c. omega (arith, entered (c .before) .pre .1 .few)) (λ c. omega (arith, few (c .before))) (λ c. omega (arith, within (c .before))) (λ c. omega (arith, within (c .before)))
+    (λ c. omega (arith, within (c .before))) key-row-requires (λ c. omega arith) (λ c. omega arith) loop-again returns)
