@@ -5,6 +5,7 @@ pub mod Lists
 pub mod Written
 pub mod Stream
 pub mod Bits
+pub mod TrackRead
 pub mod Track
 pub mod Values
 pub mod Records

@@ -7,12 +7,10 @@ use denote.Ref.{now}
 use lib.ListN.{length, take}
 use Rattle.kernel.specs.Answer.{Outcome, refused, answered}
 use Rattle.kernel.specs.Lists.{over, tabulate}
-use Rattle.tracks.specs.Layout.{fields}
-use Rattle.tracks.specs.Read.{TrackList, tracks, dimension, contents}
-use Rattle.tracks.specs.Record.{endOf, offset, placing}
+use Rattle.tracks.specs.Read.{TrackList, tracks, contents}
+use Rattle.tracks.specs.Record.{offset, placing}
 use Rattle.tracks.specs.Calls.{readAnswer, offsetsLeft, trackOffsets}
 use Rattle.tracks.specs.declared.read.ReadList.{ReadList}
-use Rattle.tracks.proofs.Accepted.{contents-met}
 use Rattle.tracks.proofs.Known.{Known, known-list, read-refused}
 use Rattle.tracks.proofs.Offsets.{placing-fits, placing-short, placing-refused, offsets-long, offsets-front}
 use borrow.Author.Needs.{needs}

@@ -11,7 +11,7 @@ use Rattle.tracks.specs.Layout.{finiteBits}
 use Rattle.tracks.specs.Write.{allFinite}
 use Rattle.tracks.specs.Calls.{patterns}
 use Rattle.tracks.proofs.Lists.{take-more}
-use Rattle.tracks.proofs.Written.{length-patterns, all-more, all-not}
+use Rattle.tracks.proofs.Values.{length-patterns, all-more, all-not}
 use Rattle.tracks.proofs.write.all_finite.Statement.{statement}
 use Rattle.tracks.proofs.write.all_finite.Tie as tie
 

@@ -10,7 +10,8 @@ use Rattle.tracks.specs.Write.{fieldBytes, storedBytes}
 use Rattle.tracks.specs.Calls.{patterns}
 use Rattle.kernel.specs.Lists.{over}
 use Rattle.kernel.proofs.Lists.{over-none, over-over}
-use Rattle.tracks.proofs.Written.{length-patterns, stored-more, stored-part}
+use Rattle.tracks.proofs.Written.{stored-more, stored-part}
+use Rattle.tracks.proofs.Values.{length-patterns}
 use Rattle.tracks.proofs.write.write_fields.Statement.{statement}
 use Rattle.tracks.proofs.write.write_fields.Tie as tie
 

@@ -15,7 +15,8 @@ use Rattle.tracks.specs.declared.write.WrittenList.the-variants as Writt
 use Rattle.tracks.proofs.Accepted.{dimension-small}
 use Rattle.tracks.proofs.Lists.{over-two}
 use Rattle.kernel.proofs.Lists.{length-tabulate}
-use Rattle.tracks.proofs.Written.{Listed, written-met, write-accepted, write-refused, length-patterns}
+use Rattle.tracks.proofs.Written.{Listed, written-met, write-accepted, write-refused}
+use Rattle.tracks.proofs.Values.{length-patterns}
 use borrow.Author.Needs.{needs}
 use Rattle.tracks.proofs.write.write_list.Statement.{statement}
 use Rattle.tracks.proofs.write.write_list.Tie as tie

@@ -10,7 +10,7 @@ use Rattle.tracks.specs.Write.{mapByte, mapOf}
 use Rattle.kernel.specs.Lists.{tabulate, over}
 use Rattle.tracks.specs.Calls.{patterns}
 use Rattle.kernel.proofs.Lists.{length-tabulate, tabulate-more, over-none, over-more}
-use Rattle.tracks.proofs.Written.{length-patterns}
+use Rattle.tracks.proofs.Values.{length-patterns}
 use Rattle.tracks.proofs.write.write_map.Statement.{statement}
 use Rattle.tracks.proofs.write.write_map.Tie as tie
 

@@ -9,7 +9,8 @@ use Rattle.tracks.specs.Write.{mapOf, storedBytes, recordOf}
 use Rattle.tracks.specs.Calls.{patterns}
 use Rattle.kernel.specs.Lists.{over}
 use Rattle.kernel.proofs.Lists.{over-over}
-use Rattle.tracks.proofs.Written.{length-patterns, record-length}
+use Rattle.tracks.proofs.Written.{record-length}
+use Rattle.tracks.proofs.Values.{length-patterns}
 use borrow.Author.Needs.{needs}
 use Rattle.tracks.proofs.write.write_record.Statement.{statement}
 use Rattle.tracks.proofs.write.write_record.Tie as tie

@@ -12,7 +12,8 @@ use Rattle.kernel.specs.Lists.{tabulate, over}
 use Rattle.tracks.specs.Calls.{patterns}
 use Rattle.kernel.proofs.Lists.{over-none, over-over}
 use Rattle.tracks.proofs.Lists.{row, row-next}
-use Rattle.tracks.proofs.Written.{patterns-part, records-more, records-part}
+use Rattle.tracks.proofs.Written.{records-more, records-part}
+use Rattle.tracks.proofs.Values.{patterns-part}
 use Rattle.tracks.proofs.write.write_tracks.Statement.{statement}
 use Rattle.tracks.proofs.write.write_tracks.Tie as tie
 
