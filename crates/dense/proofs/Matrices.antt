@@ -1,5 +1,5 @@
--- Laws of one cell of a matrix. `one-row` and `one-column`: a cell has one row and one column. `at-set-other`: another cell is not written. `square-size` and
--- `augmented-size`: how large a matrix of a side up to 16 is.
+-- Laws of one cell of a matrix. `one-row` and `one-column`: a cell has one row and one column. `at-set-other`: another cell is not written. `square-size`: a
+-- matrix of a side up to 16 has at most 256 entries.
 use Prim.Native.Nat.{ℕ, _+_, _*_, _<_, _≤_}
 use native.Mathlib.Omega.{arith}
 use native.Mathlib.Nat.{mul-le-mul-right}
@@ -18,10 +18,6 @@ use Rattle.dense.proofs.Laws.{row-within}
 -- a matrix of a side up to 16 has at most 256 entries
 pub square-size : (n : ℕ) → n ≤ 16 → n * n ≤ 256
 square-size n h = omega (arith, mul-le-mul-right n h)
-
--- and at most 512 with a right part as wide
-pub augmented-size : (n r : ℕ) → n ≤ 16 → r ≤ 16 → n * (n + r) ≤ 512
-augmented-size n r h k = omega (arith, mul-le-mul-right (n + r) h)
 
 -- ---- one cell
 

@@ -2,6 +2,7 @@ pub mod Items
 pub mod Accepted
 pub mod Known
 pub mod Lists
+pub mod Laid
 pub mod Written
 pub mod Stream
 pub mod Bits

@@ -1,11 +1,11 @@
 -- Laws of values and their bits, and of tracks and their values one after another. `patterns-doubles` and `doubles-patterns` lead from bits to values and
 -- back, `joined-tracks` and `tracks-joined` from tracks to their values and back. `all-more`, `all-not` and `all-at`: when all values are finite.
-use Prim.Native.Nat.{ℕ, zero, suc, _+_, _*_, _<_, _≤_}
+use Prim.Native.Nat.{ℕ, zero, suc, _+_, _*_, _<_}
 use native.Mathlib.Omega.{arith}
 use native.Mathlib.Nat.{zero-mul, suc-mul, le-of-suc-le-suc, add-comm}
 use mathlib.Core.Path.{_≡_, refl, sym, ap, _∙_, subst}
 use mathlib.Core.Bool.{Bool, true, false, not, _&&_}
-use mathlib.Core.List.{List, [], _∷_, _++_, flatMap, map-append}
+use mathlib.Core.List.{List, [], _∷_, _++_, flatMap}
 use lib.Dec.{T}
 use lib.ListN.{length, getD, take, drop, length-map, List·getD-map}
 use lib.Seq.{take-add, take-all, take-at, drop-at, drop-drop, ext-getD, getD-drop}
@@ -14,11 +14,11 @@ use lib.Ieee.Compare.{differs-from-itself, nan-differs}
 use lib.Ieee.Bits.{ofBits-toBits, toBits-ofBits, toBits-lt, nanBits-is}
 use Rattle.tracks.specs.Layout.{Words, finiteBits}
 use Rattle.tracks.specs.Write.{allFinite, tracksOf}
-use Rattle.kernel.specs.Lists.{tabulate, over}
+use Rattle.kernel.specs.Lists.{tabulate}
 use Rattle.tracks.specs.Calls.{doubles, patterns, Doubles, joined}
 use Rattle.tracks.proofs.Accepted.{finite-no-nan}
 use Rattle.tracks.proofs.Lists.{joined-more, getD-any, map-take, map-drop}
-use Rattle.kernel.proofs.Lists.{length-tabulate, getD-tabulate, over-over}
+use Rattle.kernel.proofs.Lists.{length-tabulate, getD-tabulate}
 
 -- ---- values and their bits
 
@@ -150,9 +150,3 @@ tracks-joined f ts h =
     ext-getD [] (tracksOf (length ts) f (joined ts)) ts (length-tabulate (length ts) _) (λ k lk.
     let lt : k < length ts = rw (length-tabulate (length ts) (λ (j : ℕ). take f (drop (j * f) (joined ts)))) at lk in
     getD-tabulate (length ts) _ [] k lt ∙ cut-at f ts h k lt)
-
--- two parts of doubles, one where the other ends
-pub over-doubles : (old : List Float) (i j : ℕ) (us vs : List ℕ) → j ≡ i + length us → i + length us ≤ length old → over (over old i (doubles us)) j (doubles vs) ≡ over old i (doubles (us ++ vs))
-over-doubles old i j us vs e h =
-    let n : length (doubles us) ≡ length us = length-map us (ofBits binary64) in
-    over-over old i j (doubles us) (doubles vs) (omega arith) (omega arith) ∙ ap (over old i) (sym (map-append (ofBits binary64) us vs))

@@ -118,23 +118,6 @@ returns-6 c =
 pub check-offsets-spec : {M : Type 1} → statement M
 check-offsets-spec =
     tie.close
-    (tie.spec
-    returns
-    (λ c. search needs)
-    cast-n
-    (λ c. search needs)
-    cast-d
-    (λ c κs. search needs)
-    returns-2
-    (λ c κs. search needs)
-    returns-3
-    fields-requires
-    check-tracks-requires
-    (λ c. search needs)
-    (λ c. search needs)
-    (λ c. search needs)
-    returns-4
-    (λ c. search needs)
-    returns-5
-    (λ c. search needs)
-    returns-6)
+    (tie.spec returns (λ c. search needs) cast-n (λ c. search needs) cast-d (λ c κs. search needs) returns-2 (λ c κs. search needs) returns-3
+    fields-requires check-tracks-requires (λ c. search needs) (λ c. search needs) (λ c. search needs) returns-4 (λ c. search needs) returns-5
+    (λ c. search needs) returns-6)

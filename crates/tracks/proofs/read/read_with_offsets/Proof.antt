@@ -118,20 +118,5 @@ returns-4 c =
 pub read-with-offsets-spec : {M : Type 1} → statement M
 read-with-offsets-spec =
     tie.close
-    (tie.spec
-    (λ c. search needs)
-    (λ c κs. search needs)
-    (λ c. search needs)
-    fields-requires
-    mul-if1
-    returns
-    returns-2
-    put-tracks-requires
-    (λ c. search needs)
-    add-copy-offsets
-    copy-offsets-requires
-    (λ c. search needs)
-    (λ c. search needs)
-    (λ c. search needs)
-    returns-3
-    returns-4)
+    (tie.spec (λ c. search needs) (λ c κs. search needs) (λ c. search needs) fields-requires mul-if1 returns returns-2 put-tracks-requires
+    (λ c. search needs) add-copy-offsets copy-offsets-requires (λ c. search needs) (λ c. search needs) (λ c. search needs) returns-3 returns-4)

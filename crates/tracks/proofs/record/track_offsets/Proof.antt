@@ -79,15 +79,5 @@ returns-3 c =
 pub track-offsets-spec : {M : Type 1} → statement M
 track-offsets-spec =
     tie.close
-    (tie.spec
-    (λ c. search needs)
-    (λ c κs. search needs)
-    (λ c. search needs)
-    returns
-    (λ c. search needs)
-    add-copy-offsets
-    copy-offsets-requires
-    (λ c. search needs)
-    (λ c. search needs)
-    returns-2
-    returns-3)
+    (tie.spec (λ c. search needs) (λ c κs. search needs) (λ c. search needs) returns (λ c. search needs) add-copy-offsets copy-offsets-requires
+    (λ c. search needs) (λ c. search needs) returns-2 returns-3)

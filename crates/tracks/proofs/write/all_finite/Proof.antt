@@ -50,14 +50,4 @@ returns-2 c =
 pub all-finite-spec : {M : Type 1} → statement M
 all-finite-spec =
     tie.close
-    (tie.spec
-    Inv-loop
-    μ-loop
-    loop-holds
-    (λ c κs. omega arith)
-    (λ c κs. tt)
-    returns
-    (λ c. omega arith)
-    (λ c. omega arith)
-    loop-again
-    returns-2)
+    (tie.spec Inv-loop μ-loop loop-holds (λ c κs. omega arith) (λ c κs. tt) returns (λ c. omega arith) (λ c. omega arith) loop-again returns-2)

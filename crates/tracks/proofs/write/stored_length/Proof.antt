@@ -46,14 +46,4 @@ returns c =
 pub stored-length-spec : {M : Type 1} → statement M
 stored-length-spec =
     tie.close
-    (tie.spec
-    Inv-loop
-    μ-loop
-    loop-holds
-    (λ c κs. omega arith)
-    (λ c κs. tt)
-    add-n
-    (λ c. omega arith)
-    (λ c. omega arith)
-    loop-again
-    returns)
+    (tie.spec Inv-loop μ-loop loop-holds (λ c κs. omega arith) (λ c κs. tt) add-n (λ c. omega arith) (λ c. omega arith) loop-again returns)

@@ -107,16 +107,5 @@ returns-2 c =
 pub write-list-spec : {M : Type 1} → statement M
 write-list-spec =
     tie.close
-    (tie.spec
-    (λ c κs. search needs)
-    (λ c. search needs)
-    cast-out
-    slice-write-out
-    cast-out-2
-    slice-write-out-2
-    fields-requires
-    write-tracks-requires
-    (λ c. search needs)
-    same-length
-    returns
-    returns-2)
+    (tie.spec (λ c κs. search needs) (λ c. search needs) cast-out slice-write-out cast-out-2 slice-write-out-2 fields-requires write-tracks-requires
+    (λ c. search needs) same-length returns returns-2)
