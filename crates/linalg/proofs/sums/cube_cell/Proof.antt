@@ -30,7 +30,10 @@ entry-requires-3 c κs = let start = c .before .before .before .before .before i
 
 loop-again : tie.Need-loop-again Inv-loop μ-loop
 unfolding sumFrom
-loop-again c = turned-more (c .before .before .before .before .loop .inv) (c .before .before .before .loop-test .taken) (λ e. rw (e, c .before .before .entry .ensures, c .before .entry2 .ensures, c .entry3 .ensures))
+loop-again c =
+    let after-entry = c .before .before in
+    let turn = after-entry .before in
+    turned-more (turn .before .loop .inv) (turn .loop-test .taken) (λ e. rw (e, after-entry .entry .ensures, c .before .entry2 .ensures, c .entry3 .ensures))
 
 returns : tie.Need-returns Inv-loop μ-loop
 returns c = turned-all (c .before .loop .inv) (c .loop-test .left)

@@ -61,5 +61,5 @@ returns c =
 pub map-byte-spec : {M : Type 1} → statement M
 map-byte-spec =
     tie.close
-    (tie.spec Inv-loop μ-loop loop-holds (λ c. omega arith) (λ c. omega arith) (λ c κs. tt) (λ c. omega (arith, small (c .before .before .before))) (λ c. omega (arith, small (c .before .before .before))) (λ c. omega arith) (λ c. omega arith)
-    loop-again (λ c. omega (arith, small (c .before))) returns)
+    (tie.spec Inv-loop μ-loop loop-holds (λ c. omega arith) (λ c. omega arith) (λ c κs. tt) (λ c. omega (arith, small (c .before .before .before)))
+    (λ c. omega (arith, small (c .before .before .before))) (λ c. omega arith) (λ c. omega arith) loop-again (λ c. omega (arith, small (c .before))) returns)
