@@ -77,7 +77,8 @@ module _ {M : Type 1} (𝓤 : URA M) (H : Heap 𝓤) (A : Atoms 𝓤) (W : Given
   exits : (r : RefT (List ℕ)) (u : Val) → Found r → ent 𝓤 (⋆ 𝓤 H A (‵ (ShrSlice (named 0) κ u8 .own r (u ∷ [])) ∷ (‵ (flft κ q) ⊛ ‵ ftrue) ∷ ‵ (Own κ d) ∷ [])) (Post u)
   exits r u e =
       qed W (‵ (ShrSlice (named 0) κ u8 .own r (u ∷ [])) ∷ (‵ (flft κ q) ⊛ ‵ ftrue) ∷ ‵ (Own κ d) ∷ []) ∵
-      suffices ! _ (ends-at 𝓤 H A here.ended (stayed (here.signature .result)) (here.clauses 𝓤 H A mem run) W (((κ, tt), (q, tt), tt, (d, tt), (mach d ∷ [], tt)), tt) u r (tt, tt) (tt, tt)) $ says ! e $
+      suffices ! _
+      (ends-at 𝓤 H A here.ended (stayed (here.signature .result)) (here.clauses 𝓤 H A mem run) W (((κ, tt), (q, tt), tt, (d, tt), (mach d ∷ [], tt)), tt) u r (tt, tt) (tt, tt)) $ says ! e $
       move ! (1 ∷ []) $ frame ! $ nothing ! $ move ! (2 ∷ 0 ∷ []) $ fjoin ! $ frame ! $ done !
 
   module _ (C : Calls 𝓤 H) (Λ : Loops 𝓤 H) (fm : FmC 𝓤 H (W .laws) C) (known : Triple 𝓤 (C #called) (Called 𝓤 H A mem run)) where
