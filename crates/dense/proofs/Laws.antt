@@ -1,4 +1,6 @@
--- Laws of sums, of vectors and matrices made by a rule, and of slices that are filled in order; all over the order.
+-- Laws of sums, of vectors and matrices made by a rule, and of slices that are filled in order; all over the order. `cell` and `row-within`: where a cell and a
+-- row lie. `sum-more`: one term more; `sum-ext`: equal terms. `at-matrix` and `matrix-by-entries`: a matrix and its entries. `filled-none`, `filled-more` and
+-- `filled-all`, and `rows-none`, `rows-more` and `rows-all`: a slice that is filled entry by entry and row by row.
 use Prim.Native.Nat.{ℕ, zero, suc, _+_, _*_, _-_, _/_, _%_, _<_, _≤_}
 use native.Mathlib.Omega.{arith}
 use native.Mathlib.Nat.{mul-le-mul-right, suc-mul, zero-mul, le-refl, le-antisymm, eq-or-lt-of-le, le-of-suc-le-suc, ne-of-lt}
