@@ -4,13 +4,12 @@ use Prim.Native.Nat.{ℕ, _+_, _*_, _<_, _≤_}
 use native.Mathlib.Omega.{arith}
 use native.Mathlib.Nat.{mul-le-mul-right}
 use native.Mathlib.Decide.{decLt}
-use mathlib.Core.Path.{_≡_, refl, ap}
+use mathlib.Core.Path.{_≡_, ap}
 use mathlib.Core.List.{List}
 use lib.ListN.{set}
 use lib.Seq.{getD-set-other}
 use lib.Ieee.{Float, nan}
-use Rattle.dense.specs.Matrix.{nth, at}
-use Rattle.dense.specs.Fill.{Filled}
+use Rattle.dense.specs.Matrix.{at}
 use Rattle.dense.proofs.Laws.{row-within}
 
 -- ---- sizes
@@ -37,8 +36,3 @@ one-column n i j a b h k e = omega (arith, ap (λ (x : ℕ). x * n) (one-row n i
 pub at-set-other : (n : ℕ) (l : List Float) (a b : ℕ) (v : Float) (i j : ℕ) → j < n → b < n → (i ≡ a → j ≡ b → ⊥) → at (set l (a * n + b) v) n i j ≡ at l n i j
 at-set-other n l a b v i j h k ne =
     getD-set-other l (a * n + b) (i * n + j) v nan (λ e. ne (one-row n i j a b h k e) (one-column n i j a b h k e))
-
--- ---- a part that is filled from entry i on
-
-pub filled-from : (f : ℕ → Float) (l : List Float) (i : ℕ) → ((q : ℕ) → q < i → nth l q ≡ f q) → Filled f l i l
-filled-from f l i h = record { size = refl; done = h; left = λ q k. refl }

@@ -47,5 +47,6 @@ returns c =
 pub ata-row-spec : {M : Type 1} → statement M
 ata-row-spec =
     tie.close
-    (tie.spec Inv-loop μ-loop (λ c. no-term (omega arith)) entry-requires row-requires (λ c. omega arith) (λ c. sym (sums-lent (c .before .before .before .before .loop .inv)))
-    add-scaled-requires (λ c. omega arith) (λ c. omega arith) loop-again (λ c. omega arith) (λ c. sym (sums-lent (c .before .before .loop .inv))) copy-requires (λ c. search needs) returns)
+    (tie.spec Inv-loop μ-loop (λ c. no-term (omega arith)) entry-requires row-requires (λ c. omega arith)
+    (λ c. sym (sums-lent (c .before .before .before .before .loop .inv))) add-scaled-requires (λ c. omega arith) (λ c. omega arith) loop-again
+    (λ c. omega arith) (λ c. sym (sums-lent (c .before .before .loop .inv))) copy-requires (λ c. search needs) returns)

@@ -39,5 +39,6 @@ returns c = let end = c .before .before .before .before .before in c .before .be
 pub product-row-spec : {M : Type 1} → statement M
 product-row-spec =
     tie.close
-    (tie.spec Inv-loop μ-loop (λ c. no-term (omega arith)) (λ c κs. omega arith) row-requires (λ c. omega arith) (λ c. sym (sums-lent (c .before .before .before .before .loop .inv)))
-    add-scaled-requires (λ c. omega arith) (λ c. omega arith) loop-again (λ c. omega arith) (λ c. sym (sums-lent (c .before .before .loop .inv))) copy-requires (λ c. search needs) returns)
+    (tie.spec Inv-loop μ-loop (λ c. no-term (omega arith)) (λ c κs. omega arith) row-requires (λ c. omega arith)
+    (λ c. sym (sums-lent (c .before .before .before .before .loop .inv))) add-scaled-requires (λ c. omega arith) (λ c. omega arith) loop-again
+    (λ c. omega arith) (λ c. sym (sums-lent (c .before .before .loop .inv))) copy-requires (λ c. search needs) returns)

@@ -92,5 +92,6 @@ pub product-spec : {M : Type 1} → statement M
 product-spec =
     tie.close
     (tie.spec Inv-loop μ-loop loop-holds (λ c κs. omega arith) (λ c κs. search needs) (λ c. turn (c .before .before) .before .loop .inv .1 .rows)
-    (λ c. turn (c .before .before) .before .loop .inv .1 .norms) (λ c. turn (c .before .before) .before .loop .inv .1 .row) returns (λ c κs. search needs) entry-requires swap-norms-requires
-    lower-requires (λ c. omega arith) (λ c. omega arith) loop-again (λ c. c .before .loop .inv .1 .rows) (λ c. c .before .loop .inv .1 .norms) (λ c. c .before .loop .inv .1 .row) returns-2)
+    (λ c. turn (c .before .before) .before .loop .inv .1 .norms) (λ c. turn (c .before .before) .before .loop .inv .1 .row) returns (λ c κs. search needs)
+    entry-requires swap-norms-requires lower-requires (λ c. omega arith) (λ c. omega arith) loop-again (λ c. c .before .loop .inv .1 .rows)
+    (λ c. c .before .loop .inv .1 .norms) (λ c. c .before .loop .inv .1 .row) returns-2)

@@ -53,5 +53,6 @@ returns-2 c = let all = columns-all (c .before .loop .inv .0) (c .loop-test .lef
 pub reduce-spec : {M : Type 1} → statement M
 reduce-spec =
     tie.close
-    (tie.spec Inv-loop μ-loop loop-holds (λ c κs. omega arith) (λ c. lengths (c .before) .rows) (λ c. lengths (c .before) .norms) (λ c. lengths (c .before) .row)
-    returns (λ c. omega arith) (λ c. omega arith) loop-again (λ c. c .before .loop .inv .1 .rows) (λ c. c .before .loop .inv .1 .norms) (λ c. c .before .loop .inv .1 .row) returns-2)
+    (tie.spec Inv-loop μ-loop loop-holds (λ c κs. omega arith) (λ c. lengths (c .before) .rows) (λ c. lengths (c .before) .norms)
+    (λ c. lengths (c .before) .row) returns (λ c. omega arith) (λ c. omega arith) loop-again (λ c. c .before .loop .inv .1 .rows)
+    (λ c. c .before .loop .inv .1 .norms) (λ c. c .before .loop .inv .1 .row) returns-2)

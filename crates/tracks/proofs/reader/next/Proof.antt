@@ -67,7 +67,8 @@ module _ {M : Type 1} (𝓤 : URA M) (H : Heap 𝓤) (A : Atoms 𝓤) (W : Given
   exits r u e ok =
       qed W (‵ (usize .own r (u ∷ [])) ∷ (‵ (flft κ q) ⊛ ‵ ftrue) ∷ ‵ (Own κ d) ∷ []) ∵
       suffices ! _
-      (ends-at 𝓤 H A next.ended (stayed (next.signature .result)) (next.clauses 𝓤 H A mem run) W (((κ, tt), (q, tt), tt, (d, tt), (mach d ∷ [], tt)), tt) (T′.lowered (at r)) (at r) (tt, tt) (tt, tt)) $
+      (ends-at 𝓤 H A next.ended (stayed (next.signature .result)) (next.clauses 𝓤 H A mem run) W
+      (((κ, tt), (q, tt), tt, (d, tt), (mach d ∷ [], tt)), tt) (T′.lowered (at r)) (at r) (tt, tt) (tt, tt)) $
       says ! (refl, e) $
       drop ! $ frame ! $ use1 W (‵ (Own κ d) ⊛ ‵ (Own κ d)) (LL.copy (D κ) (T′.the-copy (namedLft 1 0 tt (κ, tt))) 𝓤 H A W .twice d (mach d ∷ [])) $ split ! $ nothing ! $
       move ! (1 ∷ 0 ∷ []) $ fjoin ! $ frame ! $
