@@ -1,4 +1,4 @@
--- The answer of a call that has done its work, and of one that refused after it was begun.
+-- The answer of a call that has done its work (`done`, `value`), and of one that refused after it was begun (`kept`).
 use Prim.Native.Nat.{ℕ}
 use mathlib.Core.List.{List}
 use mathlib.Core.Path.{_≡_, ap}

@@ -1,19 +1,21 @@
--- Laws of sums, of vectors and matrices made by a rule, and of slices that are filled in order; all over the order.
+-- Laws of sums, of vectors and matrices made by a rule, and of slices that are filled in order; all over the order. `cell` and `row-within`: where a cell and a
+-- row lie. `sum-more`: one term more; `sum-ext`: equal terms. `at-matrix` and `matrix-by-entries`: a matrix and its entries. `filled-none`, `filled-more` and
+-- `filled-all`, and `rows-none`, `rows-more` and `rows-all`: a slice that is filled entry by entry and row by row.
 use Prim.Native.Nat.{ℕ, zero, suc, _+_, _*_, _-_, _/_, _%_, _<_, _≤_}
 use native.Mathlib.Omega.{arith}
 use native.Mathlib.Nat.{mul-le-mul-right, suc-mul, zero-mul, le-refl, le-antisymm, eq-or-lt-of-le, le-of-suc-le-suc, ne-of-lt}
 use native.Mathlib.Nat.{add-sub-cancel-left, mul-zero, div-lt-iff-lt-mul, zero-lt-suc, mod-lt, div-add-mod'}
 use native.Mathlib.Numerals.{add-one}
 use mathlib.Core.Path.{_≡_, refl, sym, ap, _∙_, subst}
-use mathlib.Core.Logic.{_⊎_, ⊎-elim}
+use mathlib.Core.Logic.{⊎-elim}
 use mathlib.Core.List.{List, _++_, append-assoc}
-use lib.ListN.{length, set, take, drop, length-append, length-set, length-drop, List·getD-append, replicate, getD-replicate}
+use lib.ListN.{length, set, take, drop, length-append, length-set, length-drop, List·getD-append}
 use lib.Seq.{getD-set-same, getD-set-other, ext-getD, getD-append-add, getD-take, getD-drop, length-take-le, take-all, take-at}
 use borrow.Rule.Slice.PartMut.{midOf, postOf, putMid, same-len-mid}
 use lib.Ieee.{Float, nan}
 use Rattle.kernel.specs.Number.{add, mul}
 use Rattle.kernel.specs.Constants.{nought}
-use Rattle.dense.specs.Matrix.{sumFrom, sumRowsFrom, sumPlanesFrom, nth, at, rowOf, matrix}
+use Rattle.dense.specs.Matrix.{sumFrom, nth, at, rowOf, matrix}
 use Rattle.kernel.specs.Lists.{tabulate}
 use Rattle.kernel.proofs.Lists.{length-tabulate, getD-tabulate, by-elements, tabulate-ext}
 use Rattle.dense.specs.Fill.{Filled, FilledRows}
@@ -42,21 +44,6 @@ sum-more x f l p q = rw (add-one, p, q)
 -- the sum at the loop's end
 pub sum-all : (x : Float) (f : ℕ → Float) {l n : ℕ} {s : Float} → l ≤ n → n ≤ l → s ≡ sumFrom x l f → s ≡ sumFrom x n f
 sum-all x f h k p = p ∙ ap (λ (y : ℕ). sumFrom x y f) (le-antisymm h k)
-
--- the same for a sum that runs through rows, and for one that runs through matrices
-pub sum-rows-more : (x : Float) (n i : ℕ) (f : ℕ → ℕ → Float) {s r : Float} → s ≡ sumRowsFrom x i n f → r ≡ sumFrom s n (f i) → r ≡ sumRowsFrom x (i + 1) n f
-unfolding sumRowsFrom
-sum-rows-more x n i f p q = q ∙ rw (add-one, p)
-
-pub sum-rows-all : (x : Float) (n : ℕ) (f : ℕ → ℕ → Float) {i m : ℕ} {s : Float} → i ≤ m → m ≤ i → s ≡ sumRowsFrom x i n f → s ≡ sumRowsFrom x m n f
-sum-rows-all x n f h k p = p ∙ ap (λ (y : ℕ). sumRowsFrom x y n f) (le-antisymm h k)
-
-pub sum-planes-more : (x : Float) (m n i : ℕ) (f : ℕ → ℕ → ℕ → Float) {s r : Float} → s ≡ sumPlanesFrom x i m n f → r ≡ sumRowsFrom s m n (f i) → r ≡ sumPlanesFrom x (i + 1) m n f
-unfolding sumPlanesFrom
-sum-planes-more x m n i f p q = q ∙ rw (add-one, p)
-
-pub sum-planes-all : (x : Float) (m n : ℕ) (f : ℕ → ℕ → ℕ → Float) {i l : ℕ} {s : Float} → i ≤ l → l ≤ i → s ≡ sumPlanesFrom x i m n f → s ≡ sumPlanesFrom x l m n f
-sum-planes-all x m n f h k p = p ∙ ap (λ (y : ℕ). sumPlanesFrom x y m n f) (le-antisymm h k)
 
 -- equal terms make equal sums
 pub sum-ext : (x : Float) (n : ℕ) (f g : ℕ → Float) → ((l : ℕ) → l < n → f l ≡ g l) → sumFrom x n f ≡ sumFrom x n g
@@ -145,11 +132,6 @@ scaled a n i j e p h = rw (e, p, nth-row a n i j h)
 pub row-sum : (a y : List Float) (n i : ℕ) {x : List Float} → x ≡ rowOf a n i → sumFrom nought n (λ j. mul (nth x j) (nth y j)) ≡ sumFrom nought n (λ j. mul (at a n i j) (nth y j))
 row-sum a y n i {x} e = sum-ext nought n _ _ (λ j h. rw (e, nth-row a n i j h))
 
--- every entry of a row of running sums gets its next term
-pub sums-more : (x : Float) (n l : ℕ) (f : ℕ → ℕ → Float) (t : ℕ → Float) (y : List Float) → y ≡ tabulate n (λ j. sumFrom x l (f j)) → ((j : ℕ) → j < n → t j ≡ f j l)
-    → tabulate n (λ j. add (nth y j) (t j)) ≡ tabulate n (λ j. sumFrom x (l + 1) (f j))
-sums-more x n l f t y e h = tabulate-ext n _ _ (λ j k. sum-more x (f j) l (ap (λ (v : List Float). nth v j) e ∙ nth-tabulate n _ j k) (h j k))
-
 -- ---- a slice that is filled in order
 
 pub filled-none : (f : ℕ → Float) (l : List Float) → Filled f l 0 l
@@ -201,13 +183,3 @@ rows-more f n i {old} {l} {y} h e w = record { size = same-len-mid (i * n) (i * 
 
 pub rows-all : (f : ℕ → ℕ → Float) (m n : ℕ) {i : ℕ} {old l : List Float} → length old ≡ m * n → i ≤ m → m ≤ i → FilledRows f n old i l → l ≡ matrix m n f
 rows-all f m n {i} {old} {l} e h k w = sym (take-all (m * n) l (omega (arith, w .size))) ∙ subst (λ (x : ℕ). take (x * n) l ≡ matrix x n f) (le-antisymm h k) (w .done)
-
--- ---- sums in the front of an array
-
--- before the first term
-pub front-zeros : (n : ℕ) (x : Float) → n ≤ 16 → take n (replicate 16 x) ≡ tabulate n (λ _. x)
-front-zeros n x h = by-entries n (λ _. x) (take n (replicate 16 x)) (length-take-le n (replicate 16 x) h) (λ q k. getD-take n (replicate 16 x) q nan k ∙ getD-replicate 16 q x nan (omega arith))
-
--- the front is written anew
-pub front-size : (n : ℕ) (y l : List Float) → length y ≡ n → n ≤ length l → length (y ++ drop n l) ≡ length l
-front-size n y l e h = omega (arith, length-append y (drop n l), length-drop n l)

@@ -3,4 +3,7 @@ pub mod Answers
 pub mod Laws
 pub mod Signs
 pub mod Matrices
+pub mod Entries
+pub mod Rows
+pub mod Sums
 pub mod Finite

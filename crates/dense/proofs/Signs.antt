@@ -1,10 +1,9 @@
--- |y| against a number without a sign, by tests of y and of -y (`first`, `second`, `third`: the three ways out), and the greatest |entry|:
--- it has no sign (`max-abs-abs`), and one more entry raises it or not (`max-abs-more`).
-use Prim.Native.Nat.{ℕ, zero, suc, _+_}
-use native.Mathlib.Numerals.{add-one}
+-- |y| against a number without a sign, by tests of y and of -y (`first`, `second`, `third`: the three ways out), and the greatest |entry|, which has
+-- no sign (`max-abs-abs`).
+use Prim.Native.Nat.{ℕ, zero, suc}
 use mathlib.Core.Bool.{Bool, true, false, cond}
 use mathlib.Core.List.{List}
-use mathlib.Core.Path.{_≡_, refl, _∙_}
+use mathlib.Core.Path.{_≡_, refl}
 use lib.Ieee.{Float, nan, inf, fin, lt, neg, ofBits}
 use Rattle.kernel.specs.Number.{abs}
 use Rattle.dense.specs.Matrix.{nth, maxAbs}
@@ -54,7 +53,3 @@ max-abs-abs a (suc n) = either (lt (maxAbs a n) (abs (nth a n))) (abs-abs (nth a
     either : (t : Bool) {u v : Float} → abs u ≡ u → abs v ≡ v → abs (cond t u v) ≡ cond t u v
     either true p q = p
     either false p q = q
-
-pub max-abs-more : (a : List Float) (n : ℕ) {g r : Float} → g ≡ maxAbs a n → r ≡ cond (lt g (abs (nth a n))) (abs (nth a n)) g → r ≡ maxAbs a (n + 1)
-unfolding maxAbs
-max-abs-more a n p e = e ∙ rw (add-one, p)

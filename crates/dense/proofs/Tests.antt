@@ -1,4 +1,5 @@
--- What a question's own function tells of the definition's test: r is what the function answered, and b the test.
+-- What a question's own function tells of the definition's test (`met`, `unmet`): r is what the function answered, and b the test. `side-high`, `area`, `long-length`
+-- and their neighbours: what the tests of sides and lengths say.
 use Prim.Native.Nat.{ℕ, _*_, _≤_}
 use native.Mathlib.Omega.{arith}
 use native.Mathlib.Nat.{mul-le-mul-right, mul-le-mul}

@@ -1,4 +1,5 @@
--- Laws of the Cholesky factor: its length, that its entries can be made in a slice that holds those before them, and when a pivot fails.
+-- Laws of the Cholesky factor. `length-factor`: its length. `left-more`, `pivot-in` and `row-more`: its entries can be made in a slice that holds those before
+-- them. `definite-suc` and `definite-never`: one pivot more, and a pivot that fails.
 use Prim.Native.Nat.{ℕ, zero, suc, _+_, _*_, _-_, _<_, _≤_}
 use native.Mathlib.Omega.{arith}
 use native.Mathlib.Nat.{suc-mul, zero-mul, zero-add, suc-add}
@@ -89,7 +90,10 @@ unfolding definite
 definite-suc a n i = rw add-one
 
 -- once a pivot fails, the matrix is not definite
-pub definite-never : (a : List Float) (n i d : ℕ) → definite a n i ≡ false → definite a n (d + i) ≡ false
+pub definite-never : (a : List Float) (n i : ℕ) → i ≤ n → definite a n i ≡ false → definite a n n ≡ false
 unfolding definite
-definite-never a n i zero e = ap (definite a n) (zero-add i) ∙ e
-definite-never a n i (suc d) e = ap (definite a n) (suc-add d i) ∙ rw (definite-never a n i d e)
+definite-never a n i h e = let end : n ≡ n - i + i = omega arith in ap (definite a n) end ∙ later (n - i)
+  where
+    later : (d : ℕ) → definite a n (d + i) ≡ false
+    later zero = ap (definite a n) (zero-add i) ∙ e
+    later (suc d) = ap (definite a n) (suc-add d i) ∙ rw (later d)

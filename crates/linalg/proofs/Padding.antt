@@ -1,4 +1,5 @@
--- Laws of a slice that is filled from the front and is 0.0 behind.
+-- Laws of a slice that is filled from the front and is 0.0 behind. `padded-none` begins it, `padded-push` writes the next entry, `padded-skip` leaves some 0.0, and
+-- `padded-all` says that it is full. `padded-nth`: the front can be read.
 use Prim.Native.Nat.{ℕ, suc, _+_, _-_, _<_, _≤_}
 use native.Mathlib.Omega.{arith}
 use mathlib.Core.List.{List, [], _∷_, _++_, append-assoc, append-nil}

@@ -1,4 +1,5 @@
--- Sums and products of binary64 numbers do not depend on the order of their two operands; what follows for symmetric matrices.
+-- Sums and products of binary64 numbers do not depend on the order of their two operands (`add-float-comm`, `mul-float-comm`); what follows for the product of a
+-- transpose and its matrix (`ata-either`) and for a mean of two entries (`mean`).
 use Prim.Native.Nat.{ℕ, _*_, _<_, _≤_, min, max}
 use native.Mathlib.Omega.{arith}
 use native.Mathlib.Nat.{mul-comm, add-comm}

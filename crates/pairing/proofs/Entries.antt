@@ -1,6 +1,6 @@
--- One table of partners: `entered-more` says that a pair may be entered in it and in the other table, `partner-none` and `partner-one` what a track's partner is, and
+-- One table of partners: `entered-more` says that a pair may be entered in it and in the other table, `entered-all` that it is complete where it has every partner, and
 -- `fewer-free` that an entry leaves fewer tracks free.
-use Prim.Native.Nat.{ℕ, zero, suc, _<_}
+use Prim.Native.Nat.{ℕ, zero, suc, _<_, _≤_}
 use native.Mathlib.Decide.{ℕ-discrete}
 use native.Mathlib.Omega.{arith}
 use mathlib.Core.Path.{_≡_, refl, sym, ap, subst, _∙_}
@@ -11,16 +11,19 @@ use lib.Dec.{T}
 use lib.ListN.{length, getD, set, length-set}
 use lib.Seq.{getD-set-same, getD-set-other}
 use borrow.Author.Tests.{eq-eqb, ne-eqb}
+use Rattle.kernel.specs.Lists.{tabulate}
+use Rattle.kernel.proofs.Lists.{length-tabulate, getD-tabulate, by-elements}
 use Rattle.pairing.specs.Pairing.{Pairs}
 use Rattle.pairing.specs.Keys.{nobody, partner}
-use Rattle.pairing.specs.Search.{Entered, countFree}
+use Rattle.pairing.specs.Search.{Entered, nobodies, countFree}
 
 -- ---- one table and the other
 
-module _ (s : Pairs) (table other : List ℕ) where
-  pub entered-none : ((x : ℕ) → x < length table → getD table x 0 ≡ nobody) → Entered s table other
-  entered-none h x l = inl (h x l)
+pub entered-none : (s : Pairs) (n : ℕ) (other : List ℕ) → Entered s (nobodies n) other
+unfolding nobodies
+entered-none s n other x l = inl (getD-tabulate n (λ i. nobody) 0 x (omega (arith, length-tabulate n (λ i. nobody))))
 
+module _ (s : Pairs) (table other : List ℕ) where
   pub entered-more : (i j : ℕ) → ((x y : ℕ) → T (s x y) → x < nobody) → i < length table → j < length other → T (s i j) → getD other j 0 ≡ nobody
       → Entered s table other → Entered s (set table i j) (set other j i)
   entered-more i j small hi hj t f e x l = go (ℕ-discrete x i)
@@ -63,6 +66,15 @@ partner-one (suc n) test k h t u = go (test n) refl (λ l. partner-one n test k 
         other : Dec (k ≡ n) → k < n
         other (yes q) = absurd (subst T e (subst (λ (x : ℕ). T (test x)) q t))
         other (no q) = omega arith
+
+-- a table that has the partner of each track is complete
+pub entered-all : (s : Pairs) (m n : ℕ) (table other : List ℕ) → n ≤ nobody → length table ≡ m → Entered s table other → ((i j : ℕ) → T (s i j) → (j < n) × (getD table i 0 ≡ j))
+    → table ≡ tabulate m (λ i. partner n (s i))
+entered-all s m n table other small size e h = by-elements 0 m (λ i. partner n (s i)) table size (λ i l. go i (e i (omega arith)))
+  where
+    go : (i : ℕ) → (getD table i 0 ≡ nobody) ⊎ (T (s i (getD table i 0)) × (getD other (getD table i 0) 0 ≡ i)) → getD table i 0 ≡ partner n (s i)
+    go i (inl a) = a ∙ sym (partner-none n (s i) (λ j l t. let w = h i j t in omega arith))
+    go i (inr a) = let x = getD table i 0 in sym (partner-one n (s i) x (h i x (a .0) .0) (a .0) (λ j t. sym (h i j t .1)))
 
 -- ---- free tracks
 

@@ -18,7 +18,7 @@ use Rattle.pairing.proofs.Stable.{asymmetric}
 use Rattle.pairing.proofs.Keys.{Keyed, of-candidate, to-candidate, ordered}
 use Rattle.pairing.proofs.Best.{First}
 use Rattle.pairing.proofs.Chosen.{Open}
-use Rattle.pairing.proofs.Entries.{entered-none, entered-more, partner-none, partner-one}
+use Rattle.pairing.proofs.Entries.{entered-none, entered-more, entered-all}
 
 module _ (keys : List Float) (m n : ℕ) (hm : m ≤ 32) (hn : n ≤ 32) where
   abbrev g : Candidates
@@ -41,8 +41,8 @@ module _ (keys : List Float) (m n : ℕ) (hm : m ≤ 32) (hn : n ≤ 32) where
   tables-start = record {
     all-firsts = length-tabulate m (λ i. nobody);
     all-seconds = length-tabulate n (λ i. nobody);
-    of-firsts = entered-none (paired g) (nobodies m) (nobodies n) (λ x l. getD-tabulate m (λ i. nobody) 0 x (omega (arith, length-tabulate m (λ i. nobody))));
-    of-seconds = entered-none (λ j i. paired g i j) (nobodies n) (nobodies m) (λ x l. getD-tabulate n (λ i. nobody) 0 x (omega (arith, length-tabulate n (λ i. nobody))));
+    of-firsts = entered-none (paired g) m (nobodies n);
+    of-seconds = entered-none (λ j i. paired g i j) n (nobodies m);
   }
 
   module _ (firsts seconds : List ℕ) (u : Underway g firsts seconds) where
@@ -110,20 +110,10 @@ module _ (keys : List Float) (m n : ℕ) (hm : m ≤ 32) (hn : n ≤ 32) where
     module _ (none : (p : Pair) → Open keys m n firsts seconds p → ⊥) where
       pub firsts-done : firsts ≡ firstPartners g
       unfolding firstPartners
-      firsts-done = by-elements 0 m (λ i. partner n (λ j. paired g i j)) firsts (u .all-firsts) (λ i l. go i (u .of-firsts i (omega (arith, u .all-firsts))))
-        where
-          go : (i : ℕ) → (getD firsts i 0 ≡ nobody) ⊎ (T (paired g i (getD firsts i 0)) × (getD seconds (getD firsts i 0) 0 ≡ i)) → getD firsts i 0 ≡ partner n (λ j. paired g i j)
-          go i (inl a) = a ∙ sym (partner-none n (λ j. paired g i j) (λ j l t. let h = held none (pair i j) t in omega (arith, h .0)))
-          go i (inr a) =
-              let x = getD firsts i 0 in
-              sym (partner-one n (λ j. paired g i j) x (keyed (pair i x) (a .0) .second) (a .0) (λ j t. same-second i j x t (a .0)))
+      firsts-done =
+          entered-all (paired g) m n firsts seconds (omega arith) (u .all-firsts) (u .of-firsts) (λ i j t. (keyed (pair i j) t .second, held none (pair i j) t .0))
 
       pub seconds-done : seconds ≡ secondPartners g
       unfolding secondPartners
-      seconds-done = by-elements 0 n (λ j. partner m (λ i. paired g i j)) seconds (u .all-seconds) (λ j l. go j (u .of-seconds j (omega (arith, u .all-seconds))))
-        where
-          go : (j : ℕ) → (getD seconds j 0 ≡ nobody) ⊎ (T (paired g (getD seconds j 0) j) × (getD firsts (getD seconds j 0) 0 ≡ j)) → getD seconds j 0 ≡ partner m (λ i. paired g i j)
-          go j (inl a) = a ∙ sym (partner-none m (λ i. paired g i j) (λ i l t. let h = held none (pair i j) t in omega (arith, h .1)))
-          go j (inr a) =
-              let x = getD seconds j 0 in
-              sym (partner-one m (λ i. paired g i j) x (keyed (pair x j) (a .0) .first) (a .0) (λ i t. same-first i x j t (a .0)))
+      seconds-done =
+          entered-all (λ j i. paired g i j) n m seconds firsts (omega arith) (u .all-seconds) (u .of-seconds) (λ j i t. (keyed (pair i j) t .first, held none (pair i j) t .1))

@@ -1,4 +1,5 @@
--- Laws of the reduction below the diagonal: one step from its parts, and one column more of matrix, sign and product.
+-- Laws of the reduction below the diagonal: one step from its parts (`lower-stepped`), and one column more of the matrix (`lowered-more`), of the sign (`sign-more`)
+-- and of the product (`product-more`).
 use Prim.Native.Nat.{ℕ, _+_, _<_}
 use native.Mathlib.Omega.{arith}
 use native.Mathlib.Numerals.{add-one}

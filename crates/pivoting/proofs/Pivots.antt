@@ -1,9 +1,9 @@
--- Laws of norms and of the choice of a pivot row: one more entry, one more row, and where the pivot can be.
+-- Laws of the choice of a pivot row. `best-none` and `best-more`: the best before the first row, and after one row more. `best-abs`: its ratio has no sign.
+-- `pivot-row`: it is one of the rows.
 use Prim.Native.Nat.{ℕ, zero, suc, _+_, _-_, _<_, _≤_}
 use native.Mathlib.Omega.{arith}
-use native.Mathlib.Numerals.{add-one}
-use native.Mathlib.Nat.{le-antisymm, sub-self}
-use mathlib.Core.Bool.{Bool, true, false, cond, not, _||_}
+use native.Mathlib.Nat.{sub-self}
+use mathlib.Core.Bool.{Bool, true, false, cond}
 use mathlib.Core.List.{List}
 use mathlib.Core.Path.{_≡_, refl, sym, ap, _∙_, subst}
 use lib.Ieee as Ieee
@@ -12,33 +12,21 @@ use Rattle.kernel.specs.Number.{abs, div}
 use Rattle.kernel.specs.Constants.{nought, minScale}
 use Rattle.dense.specs.Matrix.{nth, at}
 use Rattle.pivoting.specs.declared.Pivot.{Pivot}
-use Rattle.pivoting.specs.Pivot.{someScale, consider, bestOf, pivot}
+use Rattle.pivoting.specs.Pivot.{consider, bestOf, pivot}
 use Rattle.dense.proofs.Signs.{abs-abs}
 use Rattle.pivoting.proofs.Ratios.{abs-ratio}
-
--- ---- norms
-
-pub some-scale-more : (s : List Float) (l : ℕ) {b r : Bool} → b ≡ someScale l s → r ≡ (b || not (lt (nth s l) minScale)) → r ≡ someScale (l + 1) s
-unfolding someScale
-some-scale-more s l p e = e ∙ rw (add-one, p)
-
-pub some-scale-all : (s : List Float) {l n : ℕ} {b : Bool} → l ≤ n → n ≤ l → b ≡ someScale l s → b ≡ someScale n s
-some-scale-all s h k p = p ∙ ap (λ (y : ℕ). someScale y s) (le-antisymm h k)
 
 -- before the first row
 pub best-none : (m s : List Float) (w k : ℕ) → record { ratio = nought; row = k } ≡ bestOf m s w k (k - k)
 unfolding bestOf
 best-none m s w k = ap (λ (d : ℕ). bestOf m s w k d) (sym (sub-self k))
 
-pub best-all : (m s : List Float) (w k : ℕ) {i n : ℕ} {b : Pivot} → i ≤ n → n ≤ i → b ≡ bestOf m s w k (i - k) → b ≡ bestOf m s w k (n - k)
-best-all m s w k h l p = p ∙ ap (λ (y : ℕ). bestOf m s w k (y - k)) (le-antisymm h l)
-
 -- row i, after the rows k to i - 1
-pub best-more : (m s : List Float) (w k i : ℕ) {b r : Pivot} {x : Float} → k ≤ i → b ≡ bestOf m s w k (i - k) → x ≡ at m w i k → r ≡ consider b (nth s i) x i → r ≡ bestOf m s w k (i + 1 - k)
+pub best-more : (m s : List Float) (w k i : ℕ) {b r : Pivot} {x : Float} → k ≤ i → b ≡ bestOf m s w k (i - k) → x ≡ at m w i k → r ≡ consider b (nth s i) x i → r ≡ bestOf m s w k (suc i - k)
 unfolding bestOf
 best-more m s w k i {b} {r} {x} h p q e = e ∙ one-more ∙ ap (λ (d : ℕ). bestOf m s w k d) count
   where
-    count : suc (i - k) ≡ i + 1 - k
+    count : suc (i - k) ≡ suc i - k
     count = omega arith
 
     place : i ≡ k + (i - k)

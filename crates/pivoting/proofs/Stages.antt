@@ -1,8 +1,9 @@
--- Laws of the elimination: one step from its parts, one column more, and a refusal that stays.
-use Prim.Native.Nat.{ℕ, zero, suc, _+_, _-_, _<_}
+-- Laws of the elimination. `stepped` and `columned`: a step and a column from their parts. `Columns`: k of n columns are reduced, each with a pivot;
+-- `columns-more` reduces one more, `columns-never` is refused, and `columns-all` says it of the end. `SameLengths`: what is lent keeps its lengths.
+use Prim.Native.Nat.{ℕ, zero, suc, _+_, _-_, _<_, _≤_}
 use native.Mathlib.Omega.{arith}
 use native.Mathlib.Numerals.{add-one}
-use native.Mathlib.Nat.{add-suc, add-zero}
+use native.Mathlib.Nat.{add-suc, add-zero, le-antisymm}
 use native.Mathlib.Decide.{ℕ-discrete}
 use mathlib.Core.Bool.{Bool, true, false, cond}
 use mathlib.Core.List.{List}
@@ -10,12 +11,13 @@ use mathlib.Core.Path.{_≡_, sym, ap, _∙_}
 use borrow.Author.Tests.{eq-eqb, ne-eqb}
 use lib.Dec.{eqb}
 use lib.Ieee.{Float}
+use lib.ListN.{length}
 use Rattle.kernel.specs.Number.{sub, mul, div}
 use Rattle.dense.specs.Matrix.{nth, at, matrix}
 use Rattle.kernel.specs.Lists.{tabulate}
 use Rattle.dense.proofs.Laws.{nth-tabulate, at-matrix, matrix-ext}
 use Rattle.pivoting.specs.declared.Pivot.{Pivot}
-use Rattle.pivoting.specs.Pivot.{pivot, taken, swapped, swappedNorms, Stage, stage, pivotAt, pivoted}
+use Rattle.pivoting.specs.Pivot.{pivot, taken, swapped, swappedNorms, Stage, stage, pivoted}
 use Rattle.pivoting.specs.Solve.{stepEntry, column, reduced}
 
 -- the divided pivot row x, and m₁, in which row k stands in place p, make the step
@@ -44,19 +46,43 @@ pub reduced-more : (n w : ℕ) (t : Stage) (k : ℕ) (m s : List Float) {u : Sta
 unfolding reduced
 reduced-more n w t k m s e f = f ∙ rw (add-one, ← e)
 
-pub pivoted-more : (n w : ℕ) (f : ℕ → Stage) (k : ℕ) {t : Stage} {b : Bool} → pivoted n w f k ≡ true → t ≡ f k → b ≡ taken (pivotAt n w k t) → b ≡ pivoted n w f (k + 1)
-unfolding pivoted
-pivoted-more n w f k p e q = q ∙ rw (add-one, p, e)
-
 -- where a column has no pivot, no later column helps
-pub pivoted-stays : (n w : ℕ) (f : ℕ → Stage) (k d : ℕ) → pivoted n w f k ≡ false → pivoted n w f (k + d) ≡ false
+pivoted-stays : (n w : ℕ) (f : ℕ → Stage) (k d : ℕ) → pivoted n w f k ≡ false → pivoted n w f (k + d) ≡ false
 unfolding pivoted
 pivoted-stays n w f k zero e = rw add-zero e
 pivoted-stays n w f k (suc d) e = rw (add-suc, pivoted-stays n w f k d e)
 
--- a column without a pivot refuses the whole
-pub pivoted-never : (n w : ℕ) (f : ℕ → Stage) (k : ℕ) {t : Stage} {b : Bool} → k < n → pivoted n w f k ≡ true → t ≡ f k → b ≡ taken (pivotAt n w k t) → b ≡ false → pivoted n w f n ≡ false
-pivoted-never n w f k h p e q r = ap (pivoted n w f) count ∙ pivoted-stays n w f (k + 1) (n - (k + 1)) (sym (pivoted-more n w f k p e q) ∙ r)
-  where
-    count : n ≡ k + 1 + (n - (k + 1))
-    count = omega arith
+-- m and s are the matrix and the norms of stage k
+pub record Columns (n w : ℕ) (f : ℕ → Stage) (k : ℕ) (m s : List Float) : Type 0 where
+  pub turns : k ≤ n
+  pub pivots : pivoted n w f k ≡ true
+  pub here : stage m s ≡ f k
+
+module _ {n w : ℕ} {f : ℕ → Stage} {k : ℕ} {m s : List Float} (c : Columns n w f k m s) where
+  -- what b says of the pivot of column k, the whole says of the first k + 1
+  next : {b : Bool} → b ≡ taken (pivot m s n w k) → b ≡ pivoted n w f (k + 1)
+  unfolding pivoted
+  next q = q ∙ rw (add-one, c .pivots, ← (c .here))
+
+  pub columns-more : {b : Bool} {m₁ s₁ : List Float} → k < n → b ≡ taken (pivot m s n w k) → b ≡ true → stage m₁ s₁ ≡ f (k + 1) → Columns n w f (k + 1) m₁ s₁
+  columns-more h q r e = record { turns = omega arith; pivots = sym (next q) ∙ r; here = e }
+
+  -- a column without a pivot refuses the whole
+  pub columns-never : {b : Bool} → k < n → b ≡ taken (pivot m s n w k) → b ≡ false → pivoted n w f n ≡ false
+  columns-never h q r = ap (pivoted n w f) count ∙ pivoted-stays n w f (k + 1) (n - (k + 1)) (sym (next q) ∙ r)
+    where
+      count : n ≡ k + 1 + (n - (k + 1))
+      count = omega arith
+
+  pub columns-all : n ≤ k → Columns n w f n m s
+  columns-all h = let e = le-antisymm (c .turns) h in record { turns = omega arith; pivots = sym (ap (pivoted n w f) e) ∙ c .pivots; here = c .here ∙ ap f e }
+
+-- the matrix, the norms and the room for a row are as long as they were
+pub record SameLengths (m₀ s₀ x₀ m s x : List Float) : Type 0 where
+  pub rows : length m ≡ length m₀
+  pub norms : length s ≡ length s₀
+  pub row : length x ≡ length x₀
+
+pub lengths-kept : {m₀ s₀ x₀ m s x m₁ s₁ x₁ : List Float} → SameLengths m₀ s₀ x₀ m s x → length m₁ ≡ length m → length s₁ ≡ length s → length x₁ ≡ length x
+    → SameLengths m₀ s₀ x₀ m₁ s₁ x₁
+lengths-kept l e f g = record { rows = e ∙ l .rows; norms = f ∙ l .norms; row = g ∙ l .row }

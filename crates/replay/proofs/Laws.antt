@@ -1,4 +1,4 @@
--- Which bit patterns are a NaN's, by the comparison that the code makes; what is the same double.
+-- Which bit patterns are a NaN's, by the comparison that the code makes (`of-nan-pattern`, `no-nan-pattern`), and what is the same double (`same-nan`, `same-number`).
 use Prim.Native.Nat.{ℕ, _%_, _≤_, _<_}
 use mathlib.Core.Path.{_≡_, refl, sym, _∙_, subst}
 use mathlib.Core.Bool.{true, false}

@@ -1,5 +1,5 @@
 -- What an accepted field, track and list say of their bytes. `stored-met`, `field-met`, `track-met` and `contents-met` give each question that was met.
-use Prim.Native.Nat.{ℕ, _+_, _*_, _%_, _^_, _<_, _≤_}
+use Prim.Native.Nat.{ℕ, _+_, _*_, _%_, _^_, _≤_}
 use native.Mathlib.Omega.{arith}
 use mathlib.Core.Path.{_≡_, refl, sym, ap, _∙_, subst}
 use mathlib.Core.Logic.{_⊎_, inl, inr, ⊎-elim}
@@ -9,11 +9,11 @@ use lib.Dec.{T, leb, eqb}
 use lib.Ieee.{binary64, nanBits}
 use lib.Ieee.Bits.{nanBits-above}
 use lib.ListN.{length}
-use borrow.Author.Tests.{leb-true, eqb-true, not-true, ltb-true, le-ltb, le-leb, lt-leb, eq-eqb, ne-eqb}
-use Rattle.kernel.specs.Answer.{Outcome, refused, answered, andThen}
+use borrow.Author.Tests.{leb-true, eqb-true, not-true, ltb-true, le-ltb, le-leb, eq-eqb, ne-eqb}
+use Rattle.kernel.specs.Answer.{Outcome, answered, andThen}
 use Rattle.tracks.specs.Layout.{fields, mapBytes, stands, spare, finiteBits, countMet, dimensionMet}
 use Rattle.kernel.specs.Bytes.{word}
-use Rattle.tracks.specs.Read.{Item, TrackList, stored, storedIf, field, items, track, tracks, count, dimension, nothingAfter, contents, reading}
+use Rattle.tracks.specs.Read.{Item, TrackList, stored, storedIf, field, items, track, tracks, count, dimension, nothingAfter, contents}
 use Rattle.tracks.specs.Calls.{readAnswer}
 use Rattle.tracks.specs.Steps.{ends, Within}
 use Rattle.tracks.specs.declared.read.ReadList.{ReadList}

@@ -2,9 +2,11 @@ pub mod Items
 pub mod Accepted
 pub mod Known
 pub mod Lists
+pub mod Laid
 pub mod Written
 pub mod Stream
 pub mod Bits
+pub mod TrackRead
 pub mod Track
 pub mod Values
 pub mod Records

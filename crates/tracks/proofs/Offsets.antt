@@ -1,4 +1,4 @@
--- Laws of the offsets of a list's tracks. `placing-fits` and `placed-fits` with their neighbours say what question 2 decides on them, `offsets-long` and `offsets-front` what
+-- Laws of the offsets of a list's tracks. `placing-fits` and `placed-fits` with their neighbours say what question 2 decides on them, `offsets-long` and `known-front` what
 -- a slice of 33 numbers holds when the list is checked.
 use Prim.Native.Nat.{ℕ, _+_, _*_, _<_, _≤_}
 use native.Mathlib.Omega.{arith}
@@ -15,6 +15,7 @@ use Rattle.tracks.specs.Record.{offset, placing}
 use Rattle.tracks.specs.Calls.{readingPlaced}
 use Rattle.tracks.specs.Steps.{Offsets}
 use Rattle.tracks.proofs.Accepted.{contents-met}
+use Rattle.tracks.proofs.Known.{Known}
 
 -- question 2 after the others
 pub placing-fits : (l : List ℕ) (room : ℕ) {c : TrackList} → contents l ≡ answered c → length (c .tracks) + 1 ≤ room → placing l room ≡ answered c
@@ -56,3 +57,7 @@ module _ (l old new : List ℕ) {c : TrackList} (o : Offsets l old new) (e : con
 
   pub offsets-front : take (length (c .tracks) + 1) new ≡ tabulate (length (c .tracks) + 1) (offset l)
   offsets-front = ap (take (length (c .tracks) + 1)) (o c e) ∙ take-over old (tabulate (length (c .tracks) + 1) (offset l)) _ (length-tabulate (length (c .tracks) + 1) (offset l))
+
+-- of a list of which n tracks are known, the first n + 1 of them
+pub known-front : {l : List ℕ} {n d : ℕ} (k : Known l n d) (old new : List ℕ) → Offsets l old new → take (n + 1) new ≡ tabulate (length (k .held .tracks) + 1) (offset l)
+known-front {l} k old new o = ap (λ (n : ℕ). take (n + 1) new) (k .count) ∙ offsets-front l old new o (k .accepted)

@@ -22,7 +22,8 @@ use Rattle.tracks.proofs.Accepted.{contents-met}
 use Rattle.tracks.proofs.Lists.{flatMap-more, joined-more}
 use Rattle.tracks.proofs.Walk.{whole, offset-is, step, later, ends-at, reader-start, record-part}
 use Rattle.tracks.proofs.Records.{end-later, same-refl, same-equal}
-use Rattle.tracks.proofs.Track.{Fit, track-read, track-of}
+use Rattle.tracks.proofs.TrackRead.{track-read}
+use Rattle.tracks.proofs.Track.{Fit, track-of}
 use Rattle.tracks.proofs.RoundTrip.{accepted-fit, accepted-records, some-fields}
 
 -- ---- records and fields

@@ -1,18 +1,18 @@
 -- Laws of the records that a list is walked through. `end-here`, `end-later` and `end-refused` are the steps of the walk, `same-equal` and `same-refl` say that
 -- the same bytes are equal lists.
-use Prim.Native.Nat.{ℕ, suc, _+_, _-_, _<_, _≤_}
+use Prim.Native.Nat.{ℕ, suc, _-_, _≤_}
 use native.Mathlib.Omega.{arith}
 use mathlib.Core.Path.{_≡_, refl, ap}
 use mathlib.Core.Bool.{Bool, true, false, _&&_}
 use mathlib.Core.List.{List, [], _∷_}
-use borrow.Author.Tests.{eq-eqb, ne-eqb, eqb-true, le-leb, lt-leb}
+use borrow.Author.Tests.{eq-eqb, ne-eqb, eqb-true}
 use lib.Dec.{eqb}
 use lib.ListN.{length, drop, length-take, length-drop}
 use Rattle.kernel.specs.Answer.{Outcome, refused, answered}
 use Rattle.tracks.specs.Layout.{fields}
 use Rattle.tracks.specs.Read.{TrackList, track, contents}
 use Rattle.tracks.specs.Steps.{ends}
-use Rattle.tracks.specs.Record.{recordEnd, recordIn, recordAt, placing, sameBytes}
+use Rattle.tracks.specs.Record.{recordEnd, recordIn, recordAt, sameBytes}
 use Rattle.tracks.specs.declared.read.Checked.the-variants.{End, Refused}
 use Rattle.tracks.proofs.Items.{ended, stopped}
 

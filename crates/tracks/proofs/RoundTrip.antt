@@ -23,7 +23,8 @@ use Rattle.tracks.proofs.Accepted.{contents-met, contents-head}
 use Rattle.tracks.proofs.Lists.{row}
 use Rattle.kernel.proofs.Lists.{length-tabulate, getD-tabulate}
 use Rattle.tracks.proofs.Stream.{Part, read-bytes, bytes-read}
-use Rattle.tracks.proofs.Track.{Fit, track-read, track-of}
+use Rattle.tracks.proofs.TrackRead.{track-read}
+use Rattle.tracks.proofs.Track.{Fit, track-of}
 use Rattle.tracks.proofs.Written.{written-met}
 use Rattle.tracks.proofs.Values.{patterns-doubles, doubles-patterns, patterns-words, all-append, all-take, all-drop, words-append, words-take, words-drop, joined-tracks, tracks-joined}
 

@@ -18,7 +18,8 @@ use Rattle.tracks.specs.Read.{TrackList, contents}
 use Rattle.tracks.specs.Write.{nonzero, mapByte, mapOf, fieldBytes, storedBytes, recordOf, recordsOf, listOf, allFinite, tracksOf, trackList}
 use Rattle.tracks.proofs.Accepted.{contents-met, dimension-small}
 use Rattle.tracks.proofs.Lists.{getD-more, flatMap-more}
-use Rattle.tracks.proofs.Written.{packed-lt, all-more, field-some, record-length, stored-size, list-length}
+use Rattle.tracks.proofs.Written.{packed-lt, field-some, record-length, stored-size, list-length}
+use Rattle.tracks.proofs.Values.{all-more}
 use Rattle.tracks.proofs.RoundTrip.{Fits, accepted-fit, accepted-records, list-accepted, cut-fit}
 
 -- a record of at most 54 fields has at most 7 + 8 * 54 bytes

@@ -1,25 +1,48 @@
 -- Laws of values and their bits, and of tracks and their values one after another. `patterns-doubles` and `doubles-patterns` lead from bits to values and
--- back, `joined-tracks` and `tracks-joined` from tracks to their values and back.
-use Prim.Native.Nat.{ℕ, zero, suc, _+_, _*_, _<_, _≤_}
+-- back, `joined-tracks` and `tracks-joined` from tracks to their values and back. `all-more`, `all-not` and `all-at`: when all values are finite.
+use Prim.Native.Nat.{ℕ, zero, suc, _+_, _*_, _<_}
 use native.Mathlib.Omega.{arith}
 use native.Mathlib.Nat.{zero-mul, suc-mul, le-of-suc-le-suc, add-comm}
 use mathlib.Core.Path.{_≡_, refl, sym, ap, _∙_, subst}
 use mathlib.Core.Bool.{Bool, true, false, not, _&&_}
-use mathlib.Core.List.{List, [], _∷_, _++_, flatMap, map-append}
+use mathlib.Core.List.{List, [], _∷_, _++_, flatMap}
 use lib.Dec.{T}
-use lib.ListN.{length, getD, take, drop, length-map}
+use lib.ListN.{length, getD, take, drop, length-map, List·getD-map}
 use lib.Seq.{take-add, take-all, take-at, drop-at, drop-drop, ext-getD, getD-drop}
-use lib.Ieee.{Float, binary64, isNan, ofBits}
+use lib.Ieee.{Float, nan, inf, fin, binary64, ne, isNan, ofBits, toBits}
+use lib.Ieee.Compare.{differs-from-itself, nan-differs}
 use lib.Ieee.Bits.{ofBits-toBits, toBits-ofBits, toBits-lt, nanBits-is}
 use Rattle.tracks.specs.Layout.{Words, finiteBits}
 use Rattle.tracks.specs.Write.{allFinite, tracksOf}
-use Rattle.kernel.specs.Lists.{tabulate, over}
+use Rattle.kernel.specs.Lists.{tabulate}
 use Rattle.tracks.specs.Calls.{doubles, patterns, Doubles, joined}
 use Rattle.tracks.proofs.Accepted.{finite-no-nan}
-use Rattle.tracks.proofs.Lists.{joined-more}
-use Rattle.kernel.proofs.Lists.{length-tabulate, getD-tabulate, over-over}
+use Rattle.tracks.proofs.Lists.{joined-more, getD-any, map-take, map-drop}
+use Rattle.kernel.proofs.Lists.{length-tabulate, getD-tabulate}
 
 -- ---- values and their bits
+
+pub length-patterns : (v : List Float) → length (patterns v) ≡ length v
+length-patterns v = length-map v (toBits binary64)
+
+pub pattern-at : (v : List Float) (i : ℕ) → i < length v → getD (patterns v) i 0 ≡ toBits binary64 (getD v i nan)
+pattern-at v i h = getD-any (patterns v) i 0 (toBits binary64 nan) (rw length-patterns h) ∙ List·getD-map (toBits binary64) v i nan
+
+-- a value that equals itself is no NaN
+pub same-no-nan : (x : Float) → ne x x ≡ false → T (not (isNan x))
+unfolding isNan
+same-no-nan nan e = let z : true ≡ false = sym nan-differs ∙ e in let y : _≡_ {A = ℕ} 0 1 = cc in absurd (omega arith)
+same-no-nan (inf s) e = tt
+same-no-nan (fin s m n) e = tt
+
+-- one that does not is written as `toBits` writes a NaN
+pub nan-bits : (x : Float) → ne x x ≡ true → toBits binary64 x ≡ 0x7FF8_0000_0000_0000
+unfolding toBits
+nan-bits x e = ap (toBits binary64) (differs-from-itself x (rw e tt))
+
+-- the values of a track among those of all
+pub patterns-part : (v : List Float) (i f : ℕ) → patterns (take f (drop i v)) ≡ take f (drop i (patterns v))
+patterns-part v i f = map-take (toBits binary64) f (drop i v) ∙ ap (take f) (map-drop (toBits binary64) i v)
 
 and-both : (a b : Bool) → a && b ≡ true → (a ≡ true) × (b ≡ true)
 and-both true b e = (refl, e)
@@ -44,12 +67,33 @@ patterns-words [] h i = omega arith
 patterns-words (x ∷ v) h zero = toBits-lt binary64 x (h 0)
 patterns-words (x ∷ v) h (suc i) = patterns-words v (λ j. h (suc j)) i
 
--- ---- parts of values
+-- ---- question 14, and parts of values
 
 pub all-append : (u v : List ℕ) → allFinite u ≡ true → allFinite v ≡ true → allFinite (u ++ v) ≡ true
 unfolding allFinite
 all-append [] v p q = q
 all-append (x ∷ u) v p q = let b = and-both (finiteBits x) (allFinite u) p in rw (b .0, all-append u v (b .1) q) refl
+
+pub all-more : (v : List ℕ) (x : ℕ) → allFinite v ≡ true → finiteBits x ≡ true → allFinite (v ++ (x ∷ [])) ≡ true
+unfolding allFinite
+all-more v x p q = all-append v (x ∷ []) p (rw q refl)
+
+pub all-not : (v : List ℕ) (i : ℕ) → i < length v → finiteBits (getD v i 0) ≡ false → allFinite v ≡ false
+unfolding allFinite
+all-not [] i h e = absurd (omega arith)
+all-not (y ∷ v) zero h e = rw e refl
+all-not (y ∷ v) (suc i) h e = later (finiteBits y) (all-not v i (le-of-suc-le-suc h) e)
+  where
+    later : (b : Bool) {d : Bool} → d ≡ false → b && d ≡ false
+    later true p = p
+    later false p = refl
+
+pub all-at : (v : List ℕ) (i : ℕ) → allFinite v ≡ true → i < length v → finiteBits (getD v i 0) ≡ true
+all-at v i e h = split (finiteBits (getD v i 0)) refl
+  where
+    split : (b : Bool) → finiteBits (getD v i 0) ≡ b → finiteBits (getD v i 0) ≡ true
+    split true p = p
+    split false p = let z : true ≡ false = sym e ∙ all-not v i h p in let y : _≡_ {A = ℕ} 0 1 = cc in absurd (omega arith)
 
 pub all-take : (n : ℕ) (v : List ℕ) → allFinite v ≡ true → allFinite (take n v) ≡ true
 unfolding allFinite
@@ -106,9 +150,3 @@ tracks-joined f ts h =
     ext-getD [] (tracksOf (length ts) f (joined ts)) ts (length-tabulate (length ts) _) (λ k lk.
     let lt : k < length ts = rw (length-tabulate (length ts) (λ (j : ℕ). take f (drop (j * f) (joined ts)))) at lk in
     getD-tabulate (length ts) _ [] k lt ∙ cut-at f ts h k lt)
-
--- two parts of doubles, one where the other ends
-pub over-doubles : (old : List Float) (i j : ℕ) (us vs : List ℕ) → j ≡ i + length us → i + length us ≤ length old → over (over old i (doubles us)) j (doubles vs) ≡ over old i (doubles (us ++ vs))
-over-doubles old i j us vs e h =
-    let n : length (doubles us) ≡ length us = length-map us (ofBits binary64) in
-    over-over old i j (doubles us) (doubles vs) (omega arith) (omega arith) ∙ ap (over old i) (sym (map-append (ofBits binary64) us vs))

@@ -2,76 +2,26 @@
 -- `list-length` is the length of a whole list, `written-met` gives each question of a list that is written.
 use Prim.Native.Nat.{ℕ, zero, suc, _+_, _*_, _^_, _<_, _≤_}
 use native.Mathlib.Omega.{arith}
-use native.Mathlib.Nat.{zero-mul, suc-mul, le-of-suc-le-suc, pow-suc}
+use native.Mathlib.Nat.{zero-mul, suc-mul, pow-suc}
 use native.Mathlib.Numerals.{add-one}
 use mathlib.Core.Path.{_≡_, refl, sym, ap, _∙_}
-use mathlib.Core.Bool.{Bool, true, false, not, _&&_, cond}
+use mathlib.Core.Bool.{Bool, true, false, cond}
 use mathlib.Core.List.{List, [], _∷_, _++_, flatMap, append-assoc}
 use borrow.Author.Tests.{eq-eqb, ne-eqb, eqb-true, eqb-false, leb-true}
-use lib.Dec.{T, eqb, leb}
-use lib.ListN.{length, getD, take, drop, set, length-append, length-map, take-append-drop, length-drop, List·getD-map}
+use lib.Dec.{eqb, leb}
+use lib.ListN.{length, getD, take, drop, set, length-append, take-append-drop, length-drop}
 use lib.Seq.{sets-eq, take-add, take-all, length-take-le}
-use lib.Ieee.{Float, nan, inf, fin, binary64, toBits, isNan, ne}
-use lib.Ieee.Compare.{differs-from-itself, nan-differs}
-use Rattle.tracks.specs.Layout.{fields, mapBytes, finiteBits, countMet, dimensionMet}
+use Rattle.tracks.specs.Layout.{fields, mapBytes, countMet, dimensionMet}
 use Rattle.kernel.specs.Bytes.{bytes}
 use Rattle.tracks.specs.Write.{packed, mapByte, mapOf, fieldBytes, storedBytes, recordOf, recordsOf, listOf, tracksOf, trackList, allFinite, written}
 use Rattle.kernel.specs.Lists.{tabulate, over}
 use Rattle.kernel.specs.Answer.{Outcome, refused, answered}
-use Rattle.tracks.specs.Calls.{patterns, writeAnswer}
+use Rattle.tracks.specs.Calls.{writeAnswer}
 use Rattle.tracks.specs.declared.write.WrittenList.the-variants as WrittenList
 use Rattle.kernel.proofs.Answers.{answered-inj, ask-met}
 use Rattle.kernel.proofs.Words.{length-bytes}
-use Rattle.tracks.proofs.Lists.{flatMap-append, flatMap-more, flatMap-part, getD-any, take-more, map-take, map-drop}
+use Rattle.tracks.proofs.Lists.{flatMap-append, flatMap-more, flatMap-part, take-more}
 use Rattle.kernel.proofs.Lists.{length-tabulate, tabulate-more}
-
--- ---- the bits of values
-
-pub length-patterns : (v : List Float) → length (patterns v) ≡ length v
-length-patterns v = length-map v (toBits binary64)
-
-pub pattern-at : (v : List Float) (i : ℕ) → i < length v → getD (patterns v) i 0 ≡ toBits binary64 (getD v i nan)
-pattern-at v i h = getD-any (patterns v) i 0 (toBits binary64 nan) (rw length-patterns h) ∙ List·getD-map (toBits binary64) v i nan
-
--- a value that equals itself is no NaN
-pub same-no-nan : (x : Float) → ne x x ≡ false → T (not (isNan x))
-unfolding isNan
-same-no-nan nan e = let z : true ≡ false = sym nan-differs ∙ e in let y : _≡_ {A = ℕ} 0 1 = cc in absurd (omega arith)
-same-no-nan (inf s) e = tt
-same-no-nan (fin s m n) e = tt
-
--- one that does not is written as `toBits` writes a NaN
-pub nan-bits : (x : Float) → ne x x ≡ true → toBits binary64 x ≡ 0x7FF8_0000_0000_0000
-unfolding toBits
-nan-bits x e = ap (toBits binary64) (differs-from-itself x (rw e tt))
-
--- ---- question 14
-
-pub all-more : (v : List ℕ) (x : ℕ) → allFinite v ≡ true → finiteBits x ≡ true → allFinite (v ++ (x ∷ [])) ≡ true
-unfolding allFinite
-all-more [] x p q = rw q refl
-all-more (y ∷ v) x p q = both (finiteBits y) p (λ r. all-more v x r q)
-  where
-    both : (b : Bool) → b && allFinite v ≡ true → (allFinite v ≡ true → allFinite (v ++ (x ∷ [])) ≡ true) → b && allFinite (v ++ (x ∷ [])) ≡ true
-    both true p r = r p
-    both false p r = p
-
-pub all-not : (v : List ℕ) (i : ℕ) → i < length v → finiteBits (getD v i 0) ≡ false → allFinite v ≡ false
-unfolding allFinite
-all-not [] i h e = absurd (omega arith)
-all-not (y ∷ v) zero h e = rw e refl
-all-not (y ∷ v) (suc i) h e = later (finiteBits y) (all-not v i (le-of-suc-le-suc h) e)
-  where
-    later : (b : Bool) {d : Bool} → d ≡ false → b && d ≡ false
-    later true p = p
-    later false p = refl
-
-pub all-at : (v : List ℕ) (i : ℕ) → allFinite v ≡ true → i < length v → finiteBits (getD v i 0) ≡ true
-all-at v i e h = split (finiteBits (getD v i 0)) refl
-  where
-    split : (b : Bool) → finiteBits (getD v i 0) ≡ b → finiteBits (getD v i 0) ≡ true
-    split true p = p
-    split false p = let z : true ≡ false = sym e ∙ all-not v i h p in let y : _≡_ {A = ℕ} 0 1 = cc in absurd (omega arith)
 
 -- ---- a field's bytes
 
@@ -145,10 +95,6 @@ packed-lt test (suc n) = omega (arith, packed-lt test n, pow-suc 2 n, small (tes
 pub record-length : (v : List ℕ) → length (recordOf v) ≡ mapBytes (length v) + length (storedBytes v)
 unfolding recordOf mapOf
 record-length v = length-append (tabulate (mapBytes (length v)) (mapByte v)) (storedBytes v) ∙ ap (λ (k : ℕ). k + length (storedBytes v)) (length-tabulate (mapBytes (length v)) (mapByte v))
-
--- the values of a track among those of all
-pub patterns-part : (v : List Float) (i f : ℕ) → patterns (take f (drop i v)) ≡ take f (drop i (patterns v))
-patterns-part v i f = map-take (toBits binary64) f (drop i v) ∙ ap (take f) (map-drop (toBits binary64) i v)
 
 pub records-more : (j f : ℕ) (v : List ℕ) → recordsOf (tracksOf (j + 1) f v) ≡ recordsOf (tracksOf j f v) ++ recordOf (take f (drop (j * f) v))
 unfolding recordsOf tracksOf

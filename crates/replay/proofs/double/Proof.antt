@@ -15,8 +15,7 @@ returns c = of-nan-pattern (c .before .args .p) (c .if1 .taken)
 float-from-bits-result : tie.Need-float-from-bits-result
 float-from-bits-result c = subst (λ (b : Bool). T (not b)) (sym (no-nan-pattern (c .before .args .p) (c .if1 .left))) tt
 
-returns-2 : tie.Need-returns-2
-returns-2 c = search needs
-
 pub double-spec : {M : Type 1} → statement M
-double-spec = tie.close (tie.spec returns float-from-bits-result returns-2)
+double-spec =
+    tie.close
+    (tie.spec returns float-from-bits-result (λ c. search needs))

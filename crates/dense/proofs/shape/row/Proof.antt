@@ -1,6 +1,6 @@
 -- `row` meets its contract: the part that it gives has n entries.
 use mathlib.Core.Path.{ap, _∙_}
-use Prim.Native.Nat.{ℕ, _*_, _-_}
+use Prim.Native.Nat.{ℕ, _*_}
 use native.Mathlib.Omega.{arith}
 use native.Mathlib.Nat.{add-sub-cancel-left}
 use lib.ListN.{length, take, drop}

@@ -1,9 +1,9 @@
 -- `are_finite` meets its contract: before turn j the entries before j are finite.
 use Prim.Native.Nat.{_-_, _≤_}
-use native.Mathlib.Nat.{le-antisymm}
 use native.Mathlib.Omega.{arith}
 use mathlib.Core.Bool.{true}
-use mathlib.Core.Path.{_≡_, refl, sym, ap, _∙_}
+use mathlib.Core.Path.{_≡_, refl, sym}
+use Rattle.kernel.proofs.Loops.{at-end}
 use Rattle.dense.specs.Matrix.{finiteEntries}
 use Rattle.dense.proofs.Tests.{met, unmet}
 use Rattle.dense.proofs.Finite.{finite-more, finite-never}
@@ -30,7 +30,7 @@ loop-again : tie.Need-loop-again Inv-loop μ-loop
 loop-again c = (omega arith, finite-more _ _ (c .before .before .before .before .loop .inv .1) (met (c .before .is-finite .ensures) (c .if1 .left)))
 
 returns-2 : tie.Need-returns-2 Inv-loop μ-loop
-returns-2 c = sym (c .before .loop .inv .1) ∙ ap (finiteEntries (c .before .before .before .args .x .now)) (le-antisymm (c .before .loop .inv .0) (c .loop-test .left))
+returns-2 c = at-end (finiteEntries (c .before .before .before .args .x .now)) (c .before .loop .inv .0) (c .loop-test .left) (sym (c .before .loop .inv .1))
 
 pub are-finite-spec : {M : Type 1} → statement M
 are-finite-spec = tie.close (tie.spec Inv-loop μ-loop loop-holds (λ c. omega arith) (λ c. omega arith) (λ c κs. search needs) returns (λ c. omega arith) (λ c. omega arith) loop-again returns-2)

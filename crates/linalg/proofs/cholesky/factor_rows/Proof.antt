@@ -1,80 +1,76 @@
 -- `factor_rows` meets its contract: before turn i the slice holds the rows above row i, whose pivots are met.
-use mathlib.Core.Bool.{true, false}
+use mathlib.Core.Bool.{true}
 use mathlib.Core.List.{List, []}
 use mathlib.Core.Path.{_≡_, refl, sym, ap, _∙_, subst}
 use Prim.Native.Nat.{ℕ, _+_, _*_, _-_, _≤_}
 use native.Mathlib.Omega.{arith}
 use native.Mathlib.Nat.{le-antisymm}
-use borrow.Author.Tests.{not-false}
+use borrow.Author.Tests.{not-true, not-false}
 use lib.Ieee.{Float}
 use lib.ListN.{length, length-replicate}
 use Rattle.dense.specs.Fill.{Padded}
 use Rattle.linalg.specs.Cholesky.{factor, definite}
-use Rattle.dense.proofs.Tests.{met, unmet, never}
+use Rattle.dense.proofs.Tests.{never}
 use Rattle.linalg.proofs.Padding.{padded-none, padded-all}
 use Rattle.linalg.proofs.Factor.{length-factor, definite-suc, definite-never}
 use Rattle.linalg.proofs.cholesky.factor_rows.Statement.{statement}
 use Rattle.linalg.proofs.cholesky.factor_rows.Tie as tie
 
 abbrev Inv-loop : tie.InvT-loop
-Inv-loop a n l₀ i₀ l i = (i ≤ n) × (length l ≡ n * n) × (definite a n i ≡ true) × Padded (factor a n i) l
+Inv-loop a n l₀ i₀ l i = (i ≤ n) × (length l ≡ length l₀) × (definite a n i ≡ true) × Padded (factor a n i) l
 
 abbrev μ-loop : tie.MeasureT-loop
 μ-loop a n l₀ i₀ l i = n - i
+
+-- from the call for a row to its turn, and to the start
+abbrev turn : tie.After-factor-row Inv-loop μ-loop → tie.At-loop Inv-loop μ-loop
+turn c = c .before .before .before
+
+abbrev start : tie.At-loop Inv-loop μ-loop → tie.Start Inv-loop μ-loop
+start c = c .before .before .before
+
+whole : (c : tie.Start Inv-loop μ-loop) → length (c .args .l .now) ≡ c .args .n * c .args .n
+whole c = ap length (c .pre .1) ∙ length-replicate _ _
+
+-- what is known of the pivots after the row
+pivots : (c : tie.After-factor-row Inv-loop μ-loop) → let x = start (turn c) .args in definite (x .a .now) (x .n) (turn c .loop .i + 1) ≡ c .factor-row .result
+pivots c = let x = start (turn c) .args in definite-suc (x .a .now) (x .n) (turn c .loop .i) ∙ rw (turn c .loop .inv .2) (sym (c .factor-row .ensures .0))
 
 loop-holds : tie.Need-loop-holds Inv-loop μ-loop
 unfolding definite factor
 loop-holds c =
     let start = c .before .before in
-    (omega arith, ap length (start .pre .1) ∙ length-replicate _ _, refl, subst (λ (z : List Float). Padded [] z) (sym (start .pre .1)) (padded-none (start .args .n * start .args .n)))
+    (omega arith, refl, refl, subst (λ (z : List Float). Padded [] z) (sym (start .pre .1)) (padded-none (start .args .n * start .args .n)))
 
 factor-row-requires : tie.Need-factor-row-requires Inv-loop μ-loop
-factor-row-requires c κs = (omega arith, c .before .before .before .before .before .pre .0, c .before .before .loop .inv .1, c .before .before .loop .inv .3)
+factor-row-requires c κs = let l = c .before .before in (omega arith, start l .pre .0, l .loop .inv .1 ∙ whole (start l), l .loop .inv .3)
 
 same-length : tie.Need-same-length Inv-loop μ-loop
-same-length c =
-    let after-factor-row = c .before .before .before in
-    let at-loop = after-factor-row .before .before .before in
-    let start = at-loop .before .before .before in
-    after-factor-row .factor-row .kept .1 .1 .1 .0 ∙ at-loop .loop .inv .1 ∙ sym (ap length (start .pre .1) ∙ length-replicate _ _)
+same-length c = let row = c .before .before .before in row .factor-row .kept .1 .1 .1 .0 ∙ turn row .loop .inv .1
 
 returns : tie.Need-returns Inv-loop μ-loop
 returns c =
-    let after-factor-row = c .before .before .before in
-    let at-loop = after-factor-row .before .before .before in
-    let start = at-loop .before .before .before in
-    let x = start .args in
-    let turn = at-loop .loop in
-    let fails : definite (x .a .now) (x .n) (turn .i + 1) ≡ false = definite-suc (x .a .now) (x .n) (turn .i) ∙ rw (turn .inv .2, unmet (after-factor-row .factor-row .ensures .0) (c .if1 .taken)) in
-    let end : x .n ≡ x .n - (turn .i + 1) + (turn .i + 1) = omega arith in
-    (sym (ap (definite (x .a .now) (x .n)) end ∙ definite-never (x .a .now) (x .n) (turn .i + 1) (x .n - (turn .i + 1)) fails), λ e. never e)
+    let row = c .before .before .before in
+    let x = start (turn row) .args in
+    (sym (definite-never (x .a .now) (x .n) (turn row .loop .i + 1) (omega arith) (pivots row ∙ not-true _ (c .if1 .taken))), λ e. never e)
 
 loop-again : tie.Need-loop-again Inv-loop μ-loop
 loop-again c =
-    let after-factor-row = c .before .before .before in
-    let at-loop = after-factor-row .before .before .before in
-    let start = at-loop .before .before .before in
-    let x = start .args in
-    let turn = at-loop .loop in (
-      omega arith,
-      after-factor-row .factor-row .kept .1 .1 .1 .0 ∙ turn .inv .1,
-      definite-suc (x .a .now) (x .n) (turn .i) ∙ rw (turn .inv .2, met (after-factor-row .factor-row .ensures .0) (c .if1 .left)),
-      after-factor-row .factor-row .ensures .1 (not-false _ (c .if1 .left)),
-    )
-
-same-length-2 : tie.Need-same-length-2 Inv-loop μ-loop
-same-length-2 c = c .before .loop .inv .1 ∙ sym (ap length (c .before .before .before .before .pre .1) ∙ length-replicate _ _)
+    let row = c .before .before .before in
+    let taken : row .factor-row .result ≡ true = not-false _ (c .if1 .left) in
+    (omega arith, row .factor-row .kept .1 .1 .1 .0 ∙ turn row .loop .inv .1, pivots row ∙ taken, row .factor-row .ensures .1 taken)
 
 returns-2 : tie.Need-returns-2 Inv-loop μ-loop
 returns-2 c =
-    let start = c .before .before .before .before in
-    let x = start .args in
-    let turn = c .before .loop in
-    let end : turn .i ≡ x .n = le-antisymm (turn .inv .0) (c .loop-test .left) in
-    let whole = padded-all (factor (x .a .now) (x .n) (turn .i)) (turn .l) (omega (arith, length-factor (x .a .now) (x .n) (turn .i) (turn .inv .0), ap (λ (k : ℕ). k * x .n) end)) (turn .inv .3) in
-    (sym (ap (definite (x .a .now) (x .n)) (sym end) ∙ turn .inv .2), λ _. whole ∙ ap (factor (x .a .now) (x .n)) end)
+    let s = start (c .before) in
+    let x = s .args in
+    let l = c .before .loop in
+    let end : l .i ≡ x .n = le-antisymm (l .inv .0) (c .loop-test .left) in
+    let long : length (factor (x .a .now) (x .n) (l .i)) ≡ length (l .l) =
+    omega (arith, length-factor (x .a .now) (x .n) (l .i) (l .inv .0), ap (λ (k : ℕ). k * x .n) end, l .inv .1, whole s) in
+    (sym (ap (definite (x .a .now) (x .n)) (sym end) ∙ l .inv .2), λ _. padded-all (factor (x .a .now) (x .n) (l .i)) (l .l) long (l .inv .3) ∙ ap (factor (x .a .now) (x .n)) end)
 
 pub factor-rows-spec : {M : Type 1} → statement M
 factor-rows-spec =
     tie.close
-    (tie.spec Inv-loop μ-loop loop-holds factor-row-requires same-length returns (λ c. omega arith) (λ c. omega arith) loop-again same-length-2 returns-2)
+    (tie.spec Inv-loop μ-loop loop-holds factor-row-requires same-length returns (λ c. omega arith) (λ c. omega arith) loop-again (λ c. c .before .loop .inv .1) returns-2)

@@ -1,59 +1,31 @@
--- `ata` meets its contract: before turn i the rows above row i are written.
-use Prim.Native.Nat.{_+_, _*_, _-_, _≤_}
+-- `ata` meets its contract: it is written row by row.
+use Prim.Native.Nat.{_-_}
 use native.Mathlib.Omega.{arith}
-use lib.ListN.{length}
 use Rattle.linalg.specs.Products.{ataEntry}
-use Rattle.dense.specs.Fill.{FilledRows}
-use Rattle.dense.proofs.Laws.{row-within, length-part, rows-none, rows-more, rows-all}
+use Rattle.dense.proofs.Rows.{RowByRow, RowFits, no-row, row-fits, row-lent, row-written, every-row}
 use Rattle.linalg.proofs.product.ata.Statement.{statement}
 use Rattle.linalg.proofs.product.ata.Tie as tie
 
 abbrev Inv-loop : tie.InvT-loop
-Inv-loop a m n out₀ i₀ out i = (i ≤ n) × FilledRows (ataEntry a m n) n out₀ i out
+Inv-loop a m n out₀ i₀ out i = RowByRow (ataEntry a m n) n n out₀ i out
 
 abbrev μ-loop : tie.MeasureT-loop
 μ-loop a m n out₀ i₀ out i = n - i
 
--- row i lies within the slice
-within : (c : tie.In-loop Inv-loop μ-loop) → c .before .loop .i * c .before .before .before .before .args .n + c .before .before .before .before .args .n ≤ length (c .before .loop .out)
-within c = omega (arith, row-within (c .before .before .before .before .args .n) (c .before .before .before .before .args .n) {i = c .before .loop .i} (omega arith))
-
-loop-holds : tie.Need-loop-holds Inv-loop μ-loop
-loop-holds c = (omega arith, rows-none _ _ _)
-
-mul-start : tie.Need-mul-start Inv-loop μ-loop
-mul-start c = omega (arith, within c)
-
-add-ata-row : tie.Need-add-ata-row Inv-loop μ-loop
-add-ata-row c = omega (arith, within c)
-
-mul-ata-row : tie.Need-mul-ata-row Inv-loop μ-loop
-mul-ata-row c = omega (arith, within c)
-
-part-ata-row-end : tie.Need-part-ata-row-end Inv-loop μ-loop
-part-ata-row-end c = omega (arith, within c)
+fits : (c : tie.In-loop Inv-loop μ-loop) → RowFits (c .before .loop .inv)
+fits c = row-fits (c .before .loop .inv) (c .loop-test .taken)
 
 ata-row-requires : tie.Need-ata-row-requires Inv-loop μ-loop
-ata-row-requires c κs =
-    let at-loop = c .before .before in
-    let start = at-loop .before .before .before in
-    (omega arith, omega arith, omega arith, length-part (at-loop .loop .out) (start .args .n) (at-loop .loop .i) (within (c .before)))
+ata-row-requires c κs = (omega arith, omega arith, omega arith, row-lent (c .before .before .loop .inv) (c .before .loop-test .taken))
 
 loop-again : tie.Need-loop-again Inv-loop μ-loop
-loop-again c =
-    let after-ata-row = c .before .before in
-    let in-loop = after-ata-row .before .before in
-    let start = in-loop .before .before .before .before in
-    (omega arith, rows-more _ (start .args .n) (in-loop .before .loop .i) (within (in-loop)) (after-ata-row .ata-row .ensures) (in-loop .before .loop .inv .1))
-
-same-length : tie.Need-same-length Inv-loop μ-loop
-same-length c = c .before .loop .inv .1 .size
+loop-again c = let turn = c .before .before .before .before in row-written (turn .before .loop .inv) (turn .loop-test .taken) (c .before .before .ata-row .ensures)
 
 returns : tie.Need-returns Inv-loop μ-loop
-returns c = rows-all _ _ _ (omega arith) (c .before .loop .inv .0) (c .loop-test .left) (c .before .loop .inv .1)
+returns c = every-row (c .before .loop .inv) (c .loop-test .left)
 
 pub ata-spec : {M : Type 1} → statement M
 ata-spec =
     tie.close
-    (tie.spec Inv-loop μ-loop loop-holds mul-start add-ata-row mul-ata-row (λ c. omega arith) (λ c. omega arith) part-ata-row-end ata-row-requires
-    (λ c. omega arith) (λ c. omega arith) loop-again same-length returns)
+    (tie.spec Inv-loop μ-loop (λ c. no-row (omega arith)) (λ c. omega (arith, fits c)) (λ c. omega (arith, fits c)) (λ c. omega (arith, fits c)) (λ c. omega arith)
+    (λ c. omega arith) (λ c. omega (arith, fits c)) ata-row-requires (λ c. omega arith) (λ c. omega arith) loop-again (λ c. c .before .loop .inv .rows .size) returns)

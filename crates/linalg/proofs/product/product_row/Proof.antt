@@ -1,102 +1,44 @@
 -- `product_row` meets its contract: before turn l the first n sums are those of their first l terms.
-use mathlib.Core.Path.{_≡_, refl, sym, _∙_, ap}
-use mathlib.Core.List.{List}
-use Prim.Native.Nat.{ℕ, _-_, _≤_}
+use Prim.Native.Nat.{_-_}
 use native.Mathlib.Omega.{arith}
 use borrow.Author.Needs.{needs}
-use native.Mathlib.Nat.{le-antisymm}
-use lib.ListN.{length, take}
-use lib.Seq.{length-take-le, take-at}
-use lib.Ieee.{Float}
+use mathlib.Core.Path.{sym, _∙_}
 use Rattle.kernel.specs.Number.{mul}
-use Rattle.dense.specs.Matrix.{total, sumFrom, at}
-use Rattle.kernel.specs.Lists.{tabulate}
-use Rattle.kernel.specs.Constants.{nought}
-use Rattle.dense.proofs.Laws.{row-within, scaled, sums-more, front-zeros, front-size}
-use Rattle.kernel.proofs.Lists.{length-tabulate}
+use Rattle.dense.specs.Matrix.{at}
+use Rattle.dense.proofs.Laws.{row-within, scaled}
+use Rattle.dense.proofs.Sums.{SumsInFront, no-term, sums-lent, term-added, every-term}
 use Rattle.linalg.proofs.product.product_row.Statement.{statement}
 use Rattle.linalg.proofs.product.product_row.Tie as tie
 
-abbrev term : List Float → List Float → ℕ → ℕ → ℕ → ℕ → ℕ → Float
-term a b k n i j l = mul (at a k i l) (at b n l j)
-
-abbrev sumsTo : List Float → List Float → ℕ → ℕ → ℕ → ℕ → List Float
-sumsTo a b k n i l = tabulate n (λ j. total l (term a b k n i j))
-
 abbrev Inv-loop : tie.InvT-loop
-Inv-loop a b k n i y sums₀ l₀ sums l = (l ≤ k) × (length sums ≡ 16) × (take n sums ≡ sumsTo a b k n i l)
+Inv-loop a b k n i y sums₀ l₀ sums l = SumsInFront (λ j q. mul (at a k i q) (at b n q j)) k n l sums
 
 abbrev μ-loop : tie.MeasureT-loop
 μ-loop a b k n i y sums₀ l₀ sums l = k - l
 
-loop-holds : tie.Need-loop-holds Inv-loop μ-loop
-unfolding sumFrom
-loop-holds c = (omega arith, refl, front-zeros (c .before .before .before .args .n) nought (c .before .before .before .pre .0))
-
 row-requires : tie.Need-row-requires Inv-loop μ-loop
-row-requires c κs =
-    let at-loop = c .before .before in
-    let start = at-loop .before .before .before .before in
-    let x = start .args in
-    omega (arith, row-within (x .k) (x .n) {i = at-loop .loop .l} (omega arith))
-
--- the front that is lent has n sums
-lent : (n : ℕ) (l : List Float) → n ≤ 16 → length l ≡ 16 → length (take n l) ≡ n
-lent n l h e = length-take-le n l (omega arith)
-
-slice-aggregate-add-scaled : tie.Need-slice-aggregate-add-scaled Inv-loop μ-loop
-slice-aggregate-add-scaled c =
-    let at-loop = c .before .before .before .before in
-    let start = at-loop .before .before .before .before in
-    sym (lent (start .args .n) (at-loop .loop .sums) (start .pre .0) (at-loop .loop .inv .1))
+row-requires c κs = let x = c .before .before .before .before .before .before .args in omega (arith, row-within (x .k) (x .n) (c .before .loop-test .taken))
 
 add-scaled-requires : tie.Need-add-scaled-requires Inv-loop μ-loop
-add-scaled-requires c κs =
-    let at-loop = c .before .before .before .before in
-    let start = at-loop .before .before .before .before in
-    (c .before .row .ensures .0, lent (start .args .n) (at-loop .loop .sums) (start .pre .0) (at-loop .loop .inv .1))
+add-scaled-requires c κs = (c .before .row .ensures .0, sums-lent (c .before .before .before .before .loop .inv))
 
 loop-again : tie.Need-loop-again Inv-loop μ-loop
 loop-again c =
     let after-row = c .before .before .before in
-    let at-loop = after-row .before .before .before in
-    let start = at-loop .before .before .before .before in
-    let x = start .args in
-    let turn = at-loop .loop in
-    let step =
-    sums-more nought (x .n) (turn .l) (term (x .a .now) (x .b .now) (x .k) (x .n) (x .i)) _ (take (x .n) (turn .sums)) (turn .inv .2)
-    (λ j h. scaled (x .b .now) (x .n) (turn .l) j (after-row .before .entry .ensures) (after-row .row .ensures .1) h) in
-    let new = c .before .add-scaled .ensures ∙ step in
-    let size = ap length new ∙ length-tabulate _ _ in (
-      omega arith,
-      front-size (x .n) (c .before .add-scaled .last .1 .1 .1 .0) (turn .sums) size (omega (arith, turn .inv .1)) ∙ turn .inv .1,
-      take-at (c .before .add-scaled .last .1 .1 .1 .0) _ (x .n) size ∙ new,
-    )
-
-slice-aggregate-copy : tie.Need-slice-aggregate-copy Inv-loop μ-loop
-slice-aggregate-copy c =
-    let at-loop = c .before .before in
-    let start = at-loop .before .before .before .before in
-    sym (lent (start .args .n) (at-loop .loop .sums) (start .pre .0) (at-loop .loop .inv .1))
+    let turn = after-row .before .before in
+    let x = turn .before .before .before .before .before .args in
+    term-added (turn .before .loop .inv) _ (turn .loop-test .taken) (c .before .add-scaled .ensures)
+    (λ j h. scaled (x .b .now) (x .n) (turn .before .loop .l) j (after-row .before .entry .ensures) (after-row .row .ensures .1) h)
 
 copy-requires : tie.Need-copy-requires Inv-loop μ-loop
-copy-requires c κs =
-    let at-loop = c .before .before .before in
-    let start = at-loop .before .before .before .before in
-    (lent (start .args .n) (at-loop .loop .sums) (start .pre .0) (at-loop .loop .inv .1), start .pre .3)
+copy-requires c κs = let at-loop = c .before .before .before in (sums-lent (at-loop .loop .inv), at-loop .before .before .before .before .pre .3)
 
 returns : tie.Need-returns Inv-loop μ-loop
-returns c =
-    let after-copy = c .before .before in
-    let after-loop = after-copy .before .before .before in
-    let start = after-loop .before .before .before .before .before in
-    let x = start .args in
-    after-copy .copy .ensures
-    ∙ after-loop .before .loop .inv .2
-    ∙ ap (sumsTo (x .a .now) (x .b .now) (x .k) (x .n) (x .i)) (le-antisymm (after-loop .before .loop .inv .0) (after-loop .loop-test .left))
+returns c = let end = c .before .before .before .before .before in c .before .before .copy .ensures ∙ every-term (end .before .loop .inv) (end .loop-test .left)
 
 pub product-row-spec : {M : Type 1} → statement M
 product-row-spec =
     tie.close
-    (tie.spec Inv-loop μ-loop loop-holds (λ c κs. omega arith) row-requires (λ c. omega arith) slice-aggregate-add-scaled add-scaled-requires (λ c. omega arith)
-    (λ c. omega arith) loop-again (λ c. omega arith) slice-aggregate-copy copy-requires (λ c. search needs) returns)
+    (tie.spec Inv-loop μ-loop (λ c. no-term (omega arith)) (λ c κs. omega arith) row-requires (λ c. omega arith)
+    (λ c. sym (sums-lent (c .before .before .before .before .loop .inv))) add-scaled-requires (λ c. omega arith) (λ c. omega arith) loop-again
+    (λ c. omega arith) (λ c. sym (sums-lent (c .before .before .loop .inv))) copy-requires (λ c. search needs) returns)

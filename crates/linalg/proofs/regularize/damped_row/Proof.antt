@@ -27,22 +27,11 @@ on-diagonal a n i alpha y h e r = by-entries n _ _ (length-set y i _ ∙ e) (λ 
     go q k (no s) = getD-set-other y i q (add (nth y i) alpha) nan (λ w. s (sym w)) ∙ rw (ne-eqb i q s, entry q k)
 
 row-requires : tie.Need-row-requires
-row-requires c κs = omega (arith, row-within (c .before .before .args .n) (c .before .before .args .n) {i = c .before .before .args .i} (omega arith))
+row-requires c κs = let start = c .before .before in omega (arith, row-within (start .args .n) (start .args .n) (start .pre .0))
 
-mul-y : tie.Need-mul-y
-mul-y c = omega (arith, c .before .before .copy .kept .1 .1 .0)
-
-slice-read-y : tie.Need-slice-read-y
-slice-read-y c = omega (arith, c .before .before .before .copy .kept .1 .1 .0)
-
-mul-y-2 : tie.Need-mul-y-2
-mul-y-2 c = omega (arith, c .before .before .before .copy .kept .1 .1 .0)
-
-slice-write-y : tie.Need-slice-write-y
-slice-write-y c = omega (arith, c .before .before .before .copy .kept .1 .1 .0)
-
-same-length : tie.Need-same-length
-same-length c = simp length-set (c .before .before .before .copy .kept .1 .1 .0)
+-- the row that is copied has n entries
+size : (c : tie.After-copy) → length (c .copy .last .1 .1 .0) ≡ c .before .before .before .before .before .args .n
+size c = c .copy .kept .1 .1 .0 ∙ c .before .before .before .before .before .pre .2
 
 returns : tie.Need-returns
 returns c =
@@ -50,7 +39,11 @@ returns c =
     let after-row = after-copy .before .before in
     let start = after-row .before .before .before in
     let x = start .args in
-    on-diagonal (x .a .now) (x .n) (x .i) (x .alpha) _ (start .pre .0) (after-copy .copy .kept .1 .1 .0 ∙ start .pre .2) (after-copy .copy .ensures ∙ after-row .row .ensures .1)
+    on-diagonal (x .a .now) (x .n) (x .i) (x .alpha) _ (start .pre .0) (size after-copy) (after-copy .copy .ensures ∙ after-row .row .ensures .1)
 
 pub damped-row-spec : {M : Type 1} → statement M
-damped-row-spec = tie.close (tie.spec row-requires (λ c κs. omega arith) mul-y slice-read-y mul-y-2 slice-write-y same-length returns)
+damped-row-spec =
+    tie.close
+    (tie.spec row-requires (λ c κs. omega arith) (λ c. omega (arith, size (c .before .before))) (λ c. omega (arith, size (c .before .before .before)))
+    (λ c. omega (arith, size (c .before .before .before))) (λ c. omega (arith, size (c .before .before .before)))
+    (λ c. simp length-set (c .before .before .before .copy .kept .1 .1 .0)) returns)

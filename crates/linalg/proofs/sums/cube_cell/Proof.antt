@@ -1,49 +1,42 @@
 -- `cube_cell` meets its contract: before turn k the sum has the first k terms of m_ij.
-use mathlib.Core.Path.{_≡_, refl}
-use Prim.Native.Nat.{_-_, _≤_}
+use mathlib.Core.Path.{refl}
+use Prim.Native.Nat.{_-_}
 use native.Mathlib.Omega.{arith}
 use Rattle.kernel.specs.Number.{mul}
 use Rattle.dense.specs.Matrix.{at, sumFrom}
-use Rattle.dense.proofs.Laws.{cell, sum-more, sum-all}
+use Rattle.kernel.proofs.Loops.{Turned, turned-none, turned-more, turned-all}
+use Rattle.dense.proofs.Laws.{inside}
 use Rattle.linalg.proofs.sums.cube_cell.Statement.{statement}
 use Rattle.linalg.proofs.sums.cube_cell.Tie as tie
 
 abbrev Inv-loop : tie.InvT-loop
-Inv-loop start m n i j s₀ k₀ s k = (k ≤ n) × (s ≡ sumFrom start k (λ q. mul (mul (at m n i j) (at m n j q)) (at m n q i)))
+Inv-loop start m n i j s₀ k₀ s k = Turned (λ l. sumFrom start l (λ q. mul (mul (at m n i j) (at m n j q)) (at m n q i))) n k s
 
 abbrev μ-loop : tie.MeasureT-loop
 μ-loop start m n i j s₀ k₀ s k = n - k
 
 loop-holds : tie.Need-loop-holds Inv-loop μ-loop
 unfolding sumFrom
-loop-holds c = (omega arith, refl)
+loop-holds c = turned-none refl
 
 entry-requires : tie.Need-entry-requires Inv-loop μ-loop
-entry-requires c κs =
-    let start = c .before .before .before in
-    omega (arith, cell (start .args .n) (start .args .n) {i = start .args .i} {j = start .args .j} (omega arith) (omega arith))
+entry-requires c κs = let start = c .before .before .before in inside (start .args .n) (start .pre .2) (start .pre .0) (start .pre .1)
 
 entry-requires-2 : tie.Need-entry-requires-2 Inv-loop μ-loop
-entry-requires-2 c κs =
-    let at-loop = c .before .before in
-    let start = at-loop .before .before in
-    omega (arith, cell (start .args .n) (start .args .n) {i = start .args .j} {j = at-loop .loop .k} (omega arith) (omega arith))
+entry-requires-2 c κs = let start = c .before .before .before .before in inside (start .args .n) (start .pre .2) (start .pre .1) (c .before .loop-test .taken)
 
 entry-requires-3 : tie.Need-entry-requires-3 Inv-loop μ-loop
-entry-requires-3 c κs =
-    let at-loop = c .before .before .before in
-    let start = at-loop .before .before in
-    omega (arith, cell (start .args .n) (start .args .n) {i = at-loop .loop .k} {j = start .args .i} (omega arith) (omega arith))
+entry-requires-3 c κs = let start = c .before .before .before .before .before in inside (start .args .n) (start .pre .2) (c .before .before .loop-test .taken) (start .pre .0)
 
 loop-again : tie.Need-loop-again Inv-loop μ-loop
+unfolding sumFrom
 loop-again c =
     let after-entry = c .before .before in
-    let at-loop = after-entry .before .before in
-    let start = at-loop .before .before in
-    (omega arith, sum-more (start .args .start) _ (at-loop .loop .k) (at-loop .loop .inv .1) (rw (after-entry .entry .ensures, c .before .entry2 .ensures, c .entry3 .ensures)))
+    let turn = after-entry .before in
+    turned-more (turn .before .loop .inv) (turn .loop-test .taken) (λ e. rw (e, after-entry .entry .ensures, c .before .entry2 .ensures, c .entry3 .ensures))
 
 returns : tie.Need-returns Inv-loop μ-loop
-returns c = sum-all (c .before .before .before .args .start) _ (c .before .loop .inv .0) (c .loop-test .left) (c .before .loop .inv .1)
+returns c = turned-all (c .before .loop .inv) (c .loop-test .left)
 
 pub cube-cell-spec : {M : Type 1} → statement M
 cube-cell-spec =

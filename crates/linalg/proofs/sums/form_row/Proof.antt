@@ -1,37 +1,33 @@
 -- `form_row` meets its contract: before turn j the sum has the first j terms of the row.
-use mathlib.Core.Path.{_≡_, refl}
-use Prim.Native.Nat.{_-_, _≤_}
+use mathlib.Core.Path.{refl}
+use Prim.Native.Nat.{_-_}
 use native.Mathlib.Omega.{arith}
 use Rattle.kernel.specs.Number.{mul}
 use Rattle.dense.specs.Matrix.{at, nth, sumFrom}
-use Rattle.dense.proofs.Laws.{cell, sum-more, sum-all}
+use Rattle.kernel.proofs.Loops.{Turned, turned-none, turned-more, turned-all}
+use Rattle.dense.proofs.Laws.{inside}
 use Rattle.linalg.proofs.sums.form_row.Statement.{statement}
 use Rattle.linalg.proofs.sums.form_row.Tie as tie
 
 abbrev Inv-loop : tie.InvT-loop
-Inv-loop start x a n i s₀ j₀ s j = (j ≤ n) × (s ≡ sumFrom start j (λ q. mul (mul (nth x i) (at a n i q)) (nth x q)))
+Inv-loop start x a n i s₀ j₀ s j = Turned (λ l. sumFrom start l (λ q. mul (mul (nth x i) (at a n i q)) (nth x q))) n j s
 
 abbrev μ-loop : tie.MeasureT-loop
 μ-loop start x a n i s₀ j₀ s j = n - j
 
 loop-holds : tie.Need-loop-holds Inv-loop μ-loop
 unfolding sumFrom
-loop-holds c = (omega arith, refl)
+loop-holds c = turned-none refl
 
 entry-requires : tie.Need-entry-requires Inv-loop μ-loop
-entry-requires c κs =
-    let at-loop = c .before .before in
-    let start = at-loop .before .before .before in
-    omega (arith, cell (start .args .n) (start .args .n) {i = start .args .i} {j = at-loop .loop .j} (omega arith) (omega arith))
+entry-requires c κs = let start = c .before .before .before .before .before in inside (start .args .n) (start .pre .2) (start .pre .0) (c .before .loop-test .taken)
 
 loop-again : tie.Need-loop-again Inv-loop μ-loop
-loop-again c =
-    let at-loop = c .before .before .before .before in
-    let start = at-loop .before .before .before in
-    (omega arith, sum-more (start .args .start) _ (at-loop .loop .j) (at-loop .loop .inv .1) (rw (c .before .entry .ensures)))
+unfolding sumFrom
+loop-again c = turned-more (c .before .before .before .before .loop .inv) (c .before .before .before .loop-test .taken) (λ e. rw (e, c .before .entry .ensures))
 
 returns : tie.Need-returns Inv-loop μ-loop
-returns c = sum-all (c .before .before .before .before .args .start) _ (c .before .loop .inv .0) (c .loop-test .left) (c .before .loop .inv .1)
+returns c = turned-all (c .before .loop .inv) (c .loop-test .left)
 
 pub form-row-spec : {M : Type 1} → statement M
 form-row-spec =

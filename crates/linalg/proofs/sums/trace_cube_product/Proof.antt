@@ -1,10 +1,10 @@
 -- `trace_cube_product` meets its contract: the product stands in the first n * n entries of a local array.
-use mathlib.Core.Path.{_≡_, sym, ap, _∙_}
+use mathlib.Core.Path.{sym, ap, _∙_}
 use mathlib.Core.List.{List}
 use Prim.Native.Nat.{_*_}
 use native.Mathlib.Omega.{arith}
 use lib.Ieee.{Float}
-use lib.ListN.{length, length-replicate}
+use lib.ListN.{length}
 use lib.Seq.{length-take-le, length-front}
 use Rattle.linalg.specs.Sums.{traceCube}
 use Rattle.dense.proofs.Laws.{length-matrix, front}

@@ -1,22 +1,23 @@
 -- `trace_row` meets its contract: before turn j the sum has the first j terms of the row.
-use mathlib.Core.Path.{_≡_, refl}
-use Prim.Native.Nat.{_-_, _≤_}
+use mathlib.Core.Path.{refl}
+use Prim.Native.Nat.{_-_}
 use native.Mathlib.Omega.{arith}
 use Rattle.kernel.specs.Number.{mul}
 use Rattle.dense.specs.Matrix.{at, sumFrom}
-use Rattle.dense.proofs.Laws.{inside, sum-more, sum-all}
+use Rattle.kernel.proofs.Loops.{Turned, turned-none, turned-more, turned-all}
+use Rattle.dense.proofs.Laws.{inside}
 use Rattle.linalg.proofs.sums.trace_row.Statement.{statement}
 use Rattle.linalg.proofs.sums.trace_row.Tie as tie
 
 abbrev Inv-loop : tie.InvT-loop
-Inv-loop start a b n i s₀ j₀ s j = (j ≤ n) × (s ≡ sumFrom start j (λ q. mul (at a n i q) (at b n q i)))
+Inv-loop start a b n i s₀ j₀ s j = Turned (λ l. sumFrom start l (λ q. mul (at a n i q) (at b n q i))) n j s
 
 abbrev μ-loop : tie.MeasureT-loop
 μ-loop start a b n i s₀ j₀ s j = n - j
 
 loop-holds : tie.Need-loop-holds Inv-loop μ-loop
 unfolding sumFrom
-loop-holds c = (omega arith, refl)
+loop-holds c = turned-none refl
 
 entry-requires : tie.Need-entry-requires Inv-loop μ-loop
 entry-requires c κs = let start = c .before .before .before .before in inside (start .args .n) (start .pre .1) (start .pre .0) (c .loop-test .taken)
@@ -29,13 +30,11 @@ entry-requires-2 c κs =
     omega (arith, inside n (start .pre .2) taken (start .pre .0), inside n (start .pre .2) (start .pre .0) taken)
 
 loop-again : tie.Need-loop-again Inv-loop μ-loop
-loop-again c =
-    let at-loop = c .before .before .before in
-    let start = at-loop .before .before .before in
-    (omega arith, sum-more (start .args .start) _ (at-loop .loop .j) (at-loop .loop .inv .1) (rw (c .before .entry .ensures, c .entry2 .ensures)))
+unfolding sumFrom
+loop-again c = turned-more (c .before .before .before .loop .inv) (c .before .before .loop-test .taken) (λ e. rw (e, c .before .entry .ensures, c .entry2 .ensures))
 
 returns : tie.Need-returns Inv-loop μ-loop
-returns c = sum-all (c .before .before .before .before .args .start) _ (c .before .loop .inv .0) (c .loop-test .left) (c .before .loop .inv .1)
+returns c = turned-all (c .before .loop .inv) (c .loop-test .left)
 
 pub trace-row-spec : {M : Type 1} → statement M
 trace-row-spec = tie.close (tie.spec Inv-loop μ-loop loop-holds entry-requires entry-requires-2 (λ c. omega arith) (λ c. omega arith) loop-again returns)

@@ -1,5 +1,5 @@
 -- `lower_entries` meets its contract: before turn j the entries before j have lost their part.
-use Prim.Native.Nat.{ℕ, _+_, _-_, _<_, _≤_}
+use Prim.Native.Nat.{ℕ, _+_, _-_, _<_}
 use mathlib.Core.Bool.{cond}
 use mathlib.Core.List.{List}
 use mathlib.Core.Path.{_≡_, refl}
@@ -8,9 +8,7 @@ use lib.Dec.{ltb}
 use lib.Ieee.{Float}
 use Rattle.kernel.specs.Number.{sub, mul, div}
 use Rattle.dense.specs.Matrix.{nth}
-use Rattle.dense.specs.Fill.{Filled}
-use Rattle.dense.proofs.Laws.{filled-next, filled-more, filled-all}
-use Rattle.dense.proofs.Matrices.{filled-from}
+use Rattle.dense.proofs.Entries.{EntryByEntry, entries-there, entry-old, entry-written, every-entry}
 use native.Mathlib.Omega.{arith}
 use Rattle.pivoting.proofs.det.lower_entries.Statement.{statement}
 use Rattle.pivoting.proofs.det.lower_entries.Tie as tie
@@ -26,36 +24,30 @@ part : (x y l : List Float) (k j : ℕ) {factor : Float} → k < j → factor �
 part x y l k j h e f = rw (lt-ltb k j h, e, f)
 
 abbrev Inv-loop : tie.InvT-loop
-Inv-loop x n k y₀ factor j₀ y j = (k < j) × (j ≤ n) × (factor ≡ div (nth y₀ k) (nth x k)) × Filled (lost x y₀ k) y₀ j y
+Inv-loop x n k y₀ factor j₀ y j = (k < j) × (factor ≡ div (nth y₀ k) (nth x k)) × EntryByEntry (lost x y₀ k) n y₀ j y
 
 abbrev μ-loop : tie.MeasureT-loop
 μ-loop x n k y₀ factor j₀ y j = n - j
 
 loop-holds : tie.Need-loop-holds Inv-loop μ-loop
-loop-holds c = let start = c .before .before in (omega arith, omega arith, refl, filled-from _ _ _ (λ q h. kept (start .args .x .now) (start .args .y .now) (start .args .k) q h))
+loop-holds c = let start = c .before .before in (omega arith, refl, entries-there (start .pre .2) (omega arith) (λ q h. kept (start .args .x .now) (start .args .y .now) (start .args .k) q h))
 
 loop-again : tie.Need-loop-again Inv-loop μ-loop
 loop-again c =
-    let at-loop = c .before .before .before in
-    let start = at-loop .before .before .before in
-    let turn = at-loop .loop in (
+    let turn = c .before .before in
+    let l = turn .before .loop in
+    let x = turn .before .before .before .before .args in (
       omega arith,
-      omega arith,
-      turn .inv .2,
-      filled-more _ (turn .j) (omega arith)
-          (part (start .args .x .now) (start .args .y .now) (turn .y) (start .args .k) (turn .j) (turn .inv .0) (turn .inv .2) (filled-next (turn .inv .3)))
-          (turn .inv .3),
+      l .inv .1,
+      entry-written (l .inv .2) (turn .loop-test .taken) (part (x .x .now) (x .y .now) (l .y) (x .k) (l .j) (l .inv .0) (l .inv .1) (entry-old (l .inv .2))),
     )
 
-same-length : tie.Need-same-length Inv-loop μ-loop
-same-length c = c .before .loop .inv .3 .size
-
 returns : tie.Need-returns Inv-loop μ-loop
-returns c = filled-all _ (c .before .before .before .before .pre .2) (c .loop-test .left) (c .before .loop .inv .3)
+returns c = every-entry (c .before .loop .inv .2) (c .loop-test .left)
 
 pub lower-entries-spec : {M : Type 1} → statement M
 lower-entries-spec =
     tie.close
     (tie.spec Inv-loop μ-loop (λ c. omega arith) (λ c. omega arith) (λ c. omega arith) (λ c. omega arith) (λ c. omega arith) loop-holds (λ c. omega arith)
-    (λ c. omega arith) (λ c. omega arith) (λ c. omega arith) (λ c. omega arith) (λ c. omega arith) (λ c. omega arith) (λ c. omega arith) loop-again same-length
-    returns)
+    (λ c. omega arith) (λ c. omega arith) (λ c. omega arith) (λ c. omega arith) (λ c. omega arith) (λ c. omega arith) (λ c. omega arith) loop-again
+    (λ c. c .before .loop .inv .2 .entries .size) returns)

@@ -1,117 +1,97 @@
 -- `product` meets its contract: before turn k the first k columns are reduced, each with a pivot, and sign and product are those of their pivots.
-use Prim.Native.Nat.{_-_, _≤_}
+use Prim.Native.Nat.{_-_, _<_}
 use native.Mathlib.Nat.{le-antisymm}
-use mathlib.Core.Bool.{true}
-use mathlib.Core.Path.{_≡_, refl, sym, ap, _∙_}
+use native.Mathlib.Omega.{arith}
+use mathlib.Core.Path.{_≡_, refl, ap, _∙_}
+use borrow.Author.Needs.{needs}
 use borrow.Author.Tests.{not-true, not-false}
-use lib.ListN.{length}
 use Rattle.dense.proofs.Laws.{cell}
-use Rattle.pivoting.specs.Pivot.{taken, stage, pivoted}
+use Rattle.pivoting.specs.Pivot.{taken, pivot, stage, pivoted}
 use Rattle.pivoting.specs.Det.{lowered, swapSign, pivotProduct, product}
 use Rattle.pivoting.proofs.Pivots.{pivot-row}
-use Rattle.pivoting.proofs.Stages.{pivoted-more, pivoted-never}
+use Rattle.pivoting.proofs.Stages.{Columns, columns-more, columns-never, columns-all, SameLengths, lengths-kept}
 use Rattle.pivoting.proofs.Determinants.{sign-more, product-more, lowered-more}
-use borrow.Author.Needs.{needs}
-use native.Mathlib.Omega.{arith}
 use Rattle.pivoting.proofs.det.product.Statement.{statement}
 use Rattle.pivoting.proofs.det.product.Tie as tie
 
 abbrev Inv-loop : tie.InvT-loop
 Inv-loop m₀ s₀ x₀ n sign₀ det₀ k₀ m s x sign det k =
     let f = lowered n (stage m₀ s₀) in
-    (k ≤ n) × (length m ≡ length m₀) × (length s ≡ length s₀) × (length x ≡ length x₀) × (pivoted n n f k ≡ true) × (stage m s ≡ f k) × (sign ≡ swapSign n f k) × (det ≡ pivotProduct n f k)
+    Columns n n f k m s × SameLengths m₀ s₀ x₀ m s x × (sign ≡ swapSign n f k) × (det ≡ pivotProduct n f k)
 
 abbrev μ-loop : tie.MeasureT-loop
 μ-loop m₀ s₀ x₀ n sign₀ det₀ k₀ m s x sign det k = n - k
 
+-- from the call that swaps the norms to the choice, and from there to the turn and to the start
+abbrev choice : tie.After-swap-norms-arg Inv-loop μ-loop → tie.After-choose Inv-loop μ-loop
+choice c = c .before .before .before .before .before .before
+
+abbrev turn : tie.After-choose Inv-loop μ-loop → tie.In-loop Inv-loop μ-loop
+turn c = c .before .before .before
+
+abbrev start : tie.After-choose Inv-loop μ-loop → tie.Start Inv-loop μ-loop
+start c = turn c .before .before .before .before .before
+
+-- the pivot stands in one of the rows
+chosen : (c : tie.After-choose Inv-loop μ-loop) → c .choose .result .row < start c .args .n
+chosen c = let t = turn c in let l = t .before .loop in pivot-row (l .m) (l .s) (start c .args .n) (start c .args .n) (l .k) (t .loop-test .taken) (c .choose .ensures)
+
+-- whether it is taken
+decided : (c : tie.After-is-taken Inv-loop μ-loop) → let l = turn (c .before) .before .loop in let n = start (c .before) .args .n in c .is-taken .result ≡ taken (pivot (l .m) (l .s) n n (l .k))
+decided c = c .is-taken .ensures ∙ ap taken (c .before .choose .ensures)
+
 loop-holds : tie.Need-loop-holds Inv-loop μ-loop
 unfolding pivoted lowered swapSign pivotProduct
-loop-holds c = (omega arith, refl, refl, refl, refl, refl, refl, refl)
-
-same-length : tie.Need-same-length Inv-loop μ-loop
-same-length c = let at-loop = c .before .before .before .before .before .before in at-loop .loop .inv .1
-
-same-length-2 : tie.Need-same-length-2 Inv-loop μ-loop
-same-length-2 c = let at-loop = c .before .before .before .before .before .before in at-loop .loop .inv .2
-
-same-length-3 : tie.Need-same-length-3 Inv-loop μ-loop
-same-length-3 c = let at-loop = c .before .before .before .before .before .before in at-loop .loop .inv .3
+loop-holds c = (record { turns = omega arith; pivots = refl; here = refl }, record { rows = refl; norms = refl; row = refl }, refl, refl)
 
 returns : tie.Need-returns Inv-loop μ-loop
 unfolding product
-returns c =
-    let after-choose = c .before .before in
-    let in-loop = after-choose .before .before .before in
-    let start = in-loop .before .before .before .before .before in
-    let turn = in-loop .before .loop in
-    let x = start .args in
-    rw
-    (pivoted-never _ _ (lowered (x .n) (stage (x .m .now) (x .s .now))) (turn .k) (in-loop .loop-test .taken) (turn .inv .4) (turn .inv .5)
-    (c .before .is-taken .ensures ∙ ap taken (after-choose .choose .ensures)) (not-true _ (c .if1 .taken)))
+returns c = let t = turn (c .before .before) in rw (columns-never (t .before .loop .inv .0) (t .loop-test .taken) (decided (c .before)) (not-true _ (c .if1 .taken)))
 
 entry-requires : tie.Need-entry-requires Inv-loop μ-loop
 entry-requires c κs =
-    let after-choose = c .before .before .before .before in
-    let in-loop = after-choose .before .before .before in
-    let start = in-loop .before .before .before .before .before in
-    let turn = in-loop .before .loop in
-    let x = start .args in
-    let h = pivot-row (turn .m) (turn .s) (x .n) (x .n) (turn .k) (in-loop .loop-test .taken) (after-choose .choose .ensures) in
-    omega (arith, cell (x .n) (x .n) {i = after-choose .choose .result .row} {j = turn .k} h (in-loop .loop-test .taken))
+    let b = c .before .before .before .before in
+    let n = start b .args .n in
+    omega (arith, cell n n (chosen b) (turn b .loop-test .taken), turn b .before .loop .inv .1 .rows)
 
 swap-norms-requires : tie.Need-swap-norms-requires Inv-loop μ-loop
-swap-norms-requires c κs =
-    let after-choose = c .before .before .before .before .before .before in
-    let in-loop = after-choose .before .before .before in
-    let start = in-loop .before .before .before .before .before in
-    let turn = in-loop .before .loop in
-    let x = start .args in
-    (in-loop .loop-test .taken, pivot-row (turn .m) (turn .s) (x .n) (x .n) (turn .k) (in-loop .loop-test .taken) (after-choose .choose .ensures), omega arith)
+swap-norms-requires c κs = (turn (choice c) .loop-test .taken, chosen (choice c), omega arith)
 
 lower-requires : tie.Need-lower-requires Inv-loop μ-loop
-lower-requires c κs =
-    let after-choose = c .before .before .before .before .before .before .before .before .before .before .before in
-    let in-loop = after-choose .before .before .before in
-    let start = in-loop .before .before .before .before .before in
-    let turn = in-loop .before .loop in
-    let x = start .args in
-    (in-loop .loop-test .taken, pivot-row (turn .m) (turn .s) (x .n) (x .n) (turn .k) (in-loop .loop-test .taken) (after-choose .choose .ensures), omega arith, omega arith)
+lower-requires c κs = let b = choice (c .before .before .before .before .before) in (turn b .loop-test .taken, chosen b, omega arith, omega arith)
 
 loop-again : tie.Need-loop-again Inv-loop μ-loop
 loop-again c =
-    let after-lower = c .before .before .before .before in
-    let after-swap-norms = after-lower .before .before .before .before .before in
-    let after-entry = after-swap-norms .before .before in
-    let after-flipped = after-entry .before .before in
-    let after-is-taken = after-flipped .before .before in
-    let in-loop = after-is-taken .before .before .before .before in
-    let start = in-loop .before .before .before .before .before in
-    let turn = in-loop .before .loop in
-    let x = start .args in
-    let f = lowered (x .n) (stage (x .m .now) (x .s .now)) in (
-      omega (arith, in-loop .loop-test .taken),
-      after-lower .lower .kept .0 ∙ turn .inv .1,
-      after-swap-norms .swap-norms .kept .0 ∙ turn .inv .2,
-      after-lower .lower .kept .1 .0 ∙ turn .inv .3,
-      sym (pivoted-more _ _ f (turn .k) (turn .inv .4) (turn .inv .5) (after-is-taken .is-taken .ensures ∙ ap taken (after-is-taken .before .choose .ensures)))
-          ∙ not-false _ (after-flipped .before .if1 .left),
-      lowered-more _ _ (turn .k) _ _ _ _ _ (turn .inv .5) (after-is-taken .before .choose .ensures) (after-lower .lower .ensures) (after-swap-norms .swap-norms .ensures),
-      sign-more _ f (turn .k) (turn .inv .5) (after-is-taken .before .choose .ensures) (turn .inv .6) (after-flipped .flipped .ensures),
-      product-more _ f (turn .k) (turn .inv .5) (after-is-taken .before .choose .ensures) (turn .inv .7) (after-entry .entry .ensures),
+    let lowered-here = c .before .before .before .before in
+    let swapped = lowered-here .before .before .before .before .before in
+    let entry = swapped .before .before in
+    let flipped = entry .before .before in
+    let b = choice (swapped .before) in
+    let x = start b .args in
+    let f = lowered (x .n) (stage (x .m .now) (x .s .now)) in
+    let l = turn b .before .loop in
+    let here = l .inv .0 .here in
+    let kept = lowered-here .lower .kept in
+    let next = lowered-more _ _ (l .k) _ _ _ _ _ here (b .choose .ensures) (lowered-here .lower .ensures) (swapped .swap-norms .ensures) in (
+      columns-more (l .inv .0) (turn b .loop-test .taken) (decided (flipped .before .before)) (not-false _ (flipped .before .if1 .left)) next,
+      lengths-kept (l .inv .1) (kept .0) (swapped .swap-norms .kept .0) (kept .1 .0),
+      sign-more _ f (l .k) here (b .choose .ensures) (l .inv .2) (flipped .flipped .ensures),
+      product-more _ f (l .k) here (b .choose .ensures) (l .inv .3) (entry .entry .ensures),
     )
 
 returns-2 : tie.Need-returns-2 Inv-loop μ-loop
 unfolding product
 returns-2 c =
-    let turn = c .before .loop in
+    let l = c .before .loop in
     let x = c .before .before .before .before .before .args in
     let f = lowered (x .n) (stage (x .m .now) (x .s .now)) in
-    let e = le-antisymm (turn .inv .0) (c .loop-test .left) in
-    rw (sym (ap (pivoted (x .n) (x .n) f) e) ∙ turn .inv .4, turn .inv .6 ∙ ap (swapSign (x .n) f) e, turn .inv .7 ∙ ap (pivotProduct (x .n) f) e)
+    let e = le-antisymm (l .inv .0 .turns) (c .loop-test .left) in
+    rw (columns-all (l .inv .0) (c .loop-test .left) .pivots, l .inv .2 ∙ ap (swapSign (x .n) f) e, l .inv .3 ∙ ap (pivotProduct (x .n) f) e)
 
 pub product-spec : {M : Type 1} → statement M
 product-spec =
     tie.close
-    (tie.spec Inv-loop μ-loop loop-holds (λ c κs. omega arith) (λ c κs. search needs) same-length same-length-2 same-length-3 returns (λ c κs. search needs)
-    entry-requires swap-norms-requires lower-requires (λ c. omega arith) (λ c. omega arith) loop-again (λ c. c .before .loop .inv .1)
-    (λ c. c .before .loop .inv .2) (λ c. c .before .loop .inv .3) returns-2)
+    (tie.spec Inv-loop μ-loop loop-holds (λ c κs. omega arith) (λ c κs. search needs) (λ c. turn (c .before .before) .before .loop .inv .1 .rows)
+    (λ c. turn (c .before .before) .before .loop .inv .1 .norms) (λ c. turn (c .before .before) .before .loop .inv .1 .row) returns (λ c κs. search needs)
+    entry-requires swap-norms-requires lower-requires (λ c. omega arith) (λ c. omega arith) loop-again (λ c. c .before .loop .inv .1 .rows)
+    (λ c. c .before .loop .inv .1 .norms) (λ c. c .before .loop .inv .1 .row) returns-2)

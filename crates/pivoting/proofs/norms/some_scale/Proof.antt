@@ -1,28 +1,29 @@
 -- `some_scale` meets its contract: before turn i the flag says whether one of the first i norms is not too small.
-use Prim.Native.Nat.{_-_, _≤_}
-use mathlib.Core.Path.{_≡_, refl}
+use Prim.Native.Nat.{_-_}
+use mathlib.Core.Path.{refl, _∙_}
 use Rattle.pivoting.specs.Pivot.{someScale}
-use Rattle.pivoting.proofs.Pivots.{some-scale-more, some-scale-all}
+use Rattle.kernel.proofs.Loops.{Turned, turned-none, turned-more, turned-all}
 use borrow.Author.Needs.{needs}
 use native.Mathlib.Omega.{arith}
 use Rattle.pivoting.proofs.norms.some_scale.Statement.{statement}
 use Rattle.pivoting.proofs.norms.some_scale.Tie as tie
 
 abbrev Inv-loop : tie.InvT-loop
-Inv-loop s n some₀ i₀ some i = (i ≤ n) × (some ≡ someScale i s)
+Inv-loop s n some₀ i₀ some i = Turned (λ l. someScale l s) n i some
 
 abbrev μ-loop : tie.MeasureT-loop
 μ-loop s n some₀ i₀ some i = n - i
 
 loop-holds : tie.Need-loop-holds Inv-loop μ-loop
 unfolding someScale
-loop-holds c = (omega arith, refl)
+loop-holds c = turned-none refl
 
 loop-again : tie.Need-loop-again Inv-loop μ-loop
-loop-again c = (omega arith, some-scale-more _ _ (c .before .before .before .loop .inv .1) (c .or-scale .ensures))
+unfolding someScale
+loop-again c = turned-more (c .before .before .before .loop .inv) (c .before .before .loop-test .taken) (λ e. c .or-scale .ensures ∙ rw e)
 
 returns : tie.Need-returns Inv-loop μ-loop
-returns c = some-scale-all _ (c .before .loop .inv .0) (c .loop-test .left) (c .before .loop .inv .1)
+returns c = turned-all (c .before .loop .inv) (c .loop-test .left)
 
 pub some-scale-spec : {M : Type 1} → statement M
 some-scale-spec =

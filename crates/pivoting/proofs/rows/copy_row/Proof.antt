@@ -51,45 +51,21 @@ abbrev μ-loop : tie.MeasureT-loop
 loop-holds : tie.Need-loop-holds Inv-loop μ-loop
 loop-holds c = (omega arith, copied-none _ _ _ _)
 
+-- entry j of row p lies within the matrix
+place : (c : tie.After-entry Inv-loop μ-loop) → let at-loop = c .before .before .before in let x = at-loop .before .before .args in x .p * x .w + at-loop .loop .j < length (at-loop .loop .m)
+place c =
+    let turn = c .before .before in
+    let x = turn .before .before .before .args in
+    omega (arith, turn .before .loop .inv .1 .size, cell (x .n) (x .w) {i = x .p} (omega arith) (turn .loop-test .taken))
+
 entry-requires : tie.Need-entry-requires Inv-loop μ-loop
 entry-requires c κs =
-    let at-loop = c .before .before in
-    let start = at-loop .before .before in
-    omega (arith, at-loop .loop .inv .1 .size, cell (start .args .n) (start .args .w) {i = start .args .k} {j = at-loop .loop .j} (omega arith) (omega arith))
-
-mul-m : tie.Need-mul-m Inv-loop μ-loop
-mul-m c =
-    let at-loop = c .before .before .before in
-    let start = at-loop .before .before in
-    omega (arith, at-loop .loop .inv .1 .size, cell (start .args .n) (start .args .w) {i = start .args .p} {j = at-loop .loop .j} (omega arith) (omega arith))
-
-add-m : tie.Need-add-m Inv-loop μ-loop
-add-m c =
-    let at-loop = c .before .before .before in
-    let start = at-loop .before .before in
-    omega (arith, at-loop .loop .inv .1 .size, cell (start .args .n) (start .args .w) {i = start .args .p} {j = at-loop .loop .j} (omega arith) (omega arith))
-
-mul-m-2 : tie.Need-mul-m-2 Inv-loop μ-loop
-mul-m-2 c =
-    let at-loop = c .before .before .before in
-    let start = at-loop .before .before in
-    omega (arith, at-loop .loop .inv .1 .size, cell (start .args .n) (start .args .w) {i = start .args .p} {j = at-loop .loop .j} (omega arith) (omega arith))
-
-slice-write-m : tie.Need-slice-write-m Inv-loop μ-loop
-slice-write-m c =
-    let at-loop = c .before .before .before in
-    let start = at-loop .before .before in
-    omega (arith, at-loop .loop .inv .1 .size, cell (start .args .n) (start .args .w) {i = start .args .p} {j = at-loop .loop .j} (omega arith) (omega arith))
+    let turn = c .before in
+    let x = turn .before .before .before .args in
+    omega (arith, turn .before .loop .inv .1 .size, cell (x .n) (x .w) {i = x .k} (omega arith) (turn .loop-test .taken))
 
 loop-again : tie.Need-loop-again Inv-loop μ-loop
-loop-again c =
-    let at-loop = c .before .before .before in
-    let start = at-loop .before .before in (
-      omega arith,
-      copied-more _ _ _ (at-loop .loop .j) (omega arith)
-          (omega (arith, at-loop .loop .inv .1 .size, cell (start .args .n) (start .args .w) {i = start .args .p} {j = at-loop .loop .j} (omega arith) (omega arith)))
-          (c .entry .ensures) (at-loop .loop .inv .1),
-    )
+loop-again c = let turn = c .before .before in (omega arith, copied-more _ _ _ (turn .before .loop .j) (turn .loop-test .taken) (place c) (c .entry .ensures) (turn .before .loop .inv .1))
 
 same-length : tie.Need-same-length Inv-loop μ-loop
 same-length c = c .before .loop .inv .1 .size
@@ -100,4 +76,5 @@ returns c = copied-all _ _ _ _ (c .loop-test .left) (c .before .before .before .
 pub copy-row-spec : {M : Type 1} → statement M
 copy-row-spec =
     tie.close
-    (tie.spec Inv-loop μ-loop loop-holds entry-requires mul-m add-m mul-m-2 slice-write-m (λ c. omega arith) (λ c. omega arith) loop-again same-length returns)
+    (tie.spec Inv-loop μ-loop loop-holds entry-requires (λ c. omega (arith, place c)) (λ c. omega (arith, place c)) (λ c. omega (arith, place c))
+    (λ c. omega (arith, place c)) (λ c. omega arith) (λ c. omega arith) loop-again same-length returns)

@@ -1,33 +1,26 @@
 -- `augmented_row` meets its contract: before turn j the entries before j are written.
-use Prim.Native.Nat.{_-_, _≤_}
-use Rattle.dense.specs.Fill.{Filled}
+use Prim.Native.Nat.{_-_}
+use Rattle.dense.proofs.Entries.{EntryByEntry, no-entry, entry-written, every-entry}
 use Rattle.pivoting.specs.Solve.{augmentedEntry}
-use Rattle.dense.proofs.Laws.{filled-none, filled-more, filled-all}
 use borrow.Author.Needs.{needs}
 use native.Mathlib.Omega.{arith}
 use Rattle.pivoting.proofs.solve.augmented_row.Statement.{statement}
 use Rattle.pivoting.proofs.solve.augmented_row.Tie as tie
 
 abbrev Inv-loop : tie.InvT-loop
-Inv-loop a b n r i w y₀ j₀ y j = (j ≤ w) × Filled (augmentedEntry a b n r i) y₀ j y
+Inv-loop a b n r i w y₀ j₀ y j = EntryByEntry (augmentedEntry a b n r i) w y₀ j y
 
 abbrev μ-loop : tie.MeasureT-loop
 μ-loop a b n r i w y₀ j₀ y j = w - j
 
-loop-holds : tie.Need-loop-holds Inv-loop μ-loop
-loop-holds c = (omega arith, filled-none _ _)
-
 loop-again : tie.Need-loop-again Inv-loop μ-loop
-loop-again c = (omega arith, filled-more _ (c .before .before .loop .j) (omega arith) (c .augmented-entry .ensures) (c .before .before .loop .inv .1))
-
-same-length : tie.Need-same-length Inv-loop μ-loop
-same-length c = c .before .loop .inv .1 .size
+loop-again c = entry-written (c .before .before .loop .inv) (c .before .loop-test .taken) (c .augmented-entry .ensures)
 
 returns : tie.Need-returns Inv-loop μ-loop
-returns c = filled-all _ (c .before .before .before .before .before .pre .4) (c .loop-test .left) (c .before .loop .inv .1)
+returns c = every-entry (c .before .loop .inv) (c .loop-test .left)
 
 pub augmented-row-spec : {M : Type 1} → statement M
 augmented-row-spec =
     tie.close
-    (tie.spec Inv-loop μ-loop loop-holds (λ c κs. search needs) (λ c. omega arith) (λ c. omega arith) (λ c. omega arith) (λ c. omega arith) loop-again
-    same-length returns)
+    (tie.spec Inv-loop μ-loop (λ c. no-entry (c .before .before .before .pre .4)) (λ c κs. search needs) (λ c. omega arith) (λ c. omega arith)
+    (λ c. omega arith) (λ c. omega arith) loop-again (λ c. c .before .loop .inv .entries .size) returns)

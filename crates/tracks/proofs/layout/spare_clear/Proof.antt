@@ -42,17 +42,5 @@ returns-2 c =
 pub spare-clear-spec : {M : Type 1} → statement M
 spare-clear-spec =
     tie.close
-    (tie.spec
-    Inv-loop
-    μ-loop
-    (λ c. omega arith)
-    (λ c. omega arith)
-    (λ c. omega arith)
-    loop-holds
-    (λ c. omega arith)
-    (λ c κs. omega arith)
-    returns
-    (λ c. omega arith)
-    (λ c. omega arith)
-    loop-again
-    returns-2)
+    (tie.spec Inv-loop μ-loop (λ c. omega arith) (λ c. omega arith) (λ c. omega arith) loop-holds (λ c. omega arith) (λ c κs. omega arith) returns
+    (λ c. omega arith) (λ c. omega arith) loop-again returns-2)

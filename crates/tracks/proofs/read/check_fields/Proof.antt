@@ -1,11 +1,11 @@
 -- `check_fields` meets its contract: before turn k the first k fields are accepted, and end at `at`.
-use mathlib.Core.Path.{_≡_, refl, sym, ap, _∙_}
+use mathlib.Core.Path.{_≡_, refl, sym, _∙_}
 use Prim.Native.Nat.{ℕ, _+_, _-_, _≤_}
 use denote.Ref.{now}
-use native.Mathlib.Nat.{le-antisymm}
 use native.Mathlib.Omega.{arith}
 use borrow.Author.Needs.{needs}
 use lib.ListN.{length}
+use Rattle.kernel.proofs.Loops.{at-end}
 use Rattle.tracks.specs.Layout.{mapBytes}
 use Rattle.tracks.specs.Read.{field, items}
 use Rattle.tracks.specs.Steps.{ends}
@@ -40,22 +40,10 @@ returns-2 : tie.Need-returns-2 Inv-loop μ-loop
 returns-2 c =
     let x = c .before .before .before .args in
     let i = c .before .loop in
-    sym (i .inv .2) ∙ ap (λ (n : ℕ). ends (items (field (now (x .list)) (x .map)) (x .map + mapBytes (x .f)) n)) (le-antisymm (i .inv .0) (c .loop-test .left))
+    at-end (λ (n : ℕ). ends (items (field (now (x .list)) (x .map)) (x .map + mapBytes (x .f)) n)) (i .inv .0) (c .loop-test .left) (sym (i .inv .2))
 
 pub check-fields-spec : {M : Type 1} → statement M
 check-fields-spec =
     tie.close
-    (tie.spec
-    Inv-loop
-    μ-loop
-    (λ c. omega arith)
-    (λ c. omega arith)
-    loop-holds
-    (λ c κs. omega arith)
-    (λ c. search needs)
-    (λ c. search needs)
-    returns
-    (λ c. omega arith)
-    (λ c. omega arith)
-    loop-again
-    returns-2)
+    (tie.spec Inv-loop μ-loop (λ c. omega arith) (λ c. omega arith) loop-holds (λ c κs. omega arith) (λ c. search needs) (λ c. search needs) returns
+    (λ c. omega arith) (λ c. omega arith) loop-again returns-2)

@@ -1,5 +1,5 @@
 -- `check_offsets` meets its contract: each way out answers the first question of `contents` that is not met, and the tracks' offsets are those that `check_tracks` stores.
-use mathlib.Core.Path.{_≡_, refl, sym, ap, _∙_}
+use mathlib.Core.Path.{_≡_, sym, ap, _∙_}
 use Prim.Native.Nat.{ℕ, _+_}
 use native.Mathlib.Omega.{arith}
 use borrow.Author.Tests.{leb-true, le-leb, lt-leb, not-true, not-false}
@@ -7,14 +7,13 @@ use denote.Ref.{now}
 use lib.ListN.{length}
 use mathlib.Core.Bool.{true}
 use mathlib.Core.List.{List}
-use Rattle.kernel.specs.Answer.{answered, andThen}
+use Rattle.kernel.specs.Answer.{andThen}
 use Rattle.kernel.specs.Lists.{over, tabulate}
 use Rattle.kernel.proofs.Answers.{never-both}
-use Rattle.kernel.proofs.Lists.{length-tabulate, length-over}
 use Rattle.tracks.specs.declared.read.ReadList.{ReadList}
 use Rattle.tracks.specs.declared.read.ReadList.the-variants as ReadList
 use Rattle.tracks.specs.Layout.{fields, countMet}
-use Rattle.tracks.specs.Read.{TrackList, tracks, count, dimension, nothingAfter, contents}
+use Rattle.tracks.specs.Read.{tracks, count, dimension, nothingAfter, contents}
 use Rattle.tracks.specs.Record.{endOf, offset}
 use Rattle.tracks.specs.Calls.{readAnswer}
 use Rattle.tracks.specs.Steps.{ends, Offsets}
@@ -119,23 +118,6 @@ returns-6 c =
 pub check-offsets-spec : {M : Type 1} → statement M
 check-offsets-spec =
     tie.close
-    (tie.spec
-    returns
-    (λ c. search needs)
-    cast-n
-    (λ c. search needs)
-    cast-d
-    (λ c κs. search needs)
-    returns-2
-    (λ c κs. search needs)
-    returns-3
-    fields-requires
-    check-tracks-requires
-    (λ c. search needs)
-    (λ c. search needs)
-    (λ c. search needs)
-    returns-4
-    (λ c. search needs)
-    returns-5
-    (λ c. search needs)
-    returns-6)
+    (tie.spec returns (λ c. search needs) cast-n (λ c. search needs) cast-d (λ c κs. search needs) returns-2 (λ c κs. search needs) returns-3
+    fields-requires check-tracks-requires (λ c. search needs) (λ c. search needs) (λ c. search needs) returns-4 (λ c. search needs) returns-5
+    (λ c. search needs) returns-6)

@@ -30,11 +30,4 @@ returns-3 c =
 pub check-track-spec : {M : Type 1} → statement M
 check-track-spec =
     tie.close
-    (tie.spec
-    (λ c. search needs)
-    (λ c. search needs)
-    returns
-    (λ c κs. search needs)
-    returns-2
-    (λ c κs. search needs)
-    returns-3)
+    (tie.spec (λ c. search needs) (λ c. search needs) returns (λ c κs. search needs) returns-2 (λ c κs. search needs) returns-3)

@@ -3,11 +3,12 @@ use mathlib.Core.Path.{_≡_, refl, sym, ap, _∙_}
 use Prim.Native.Nat.{ℕ, _+_, _-_, _<_, _≤_}
 use native.Mathlib.Nat.{le-antisymm}
 use native.Mathlib.Omega.{arith}
-use mathlib.Core.List.{List, [], _∷_, _++_}
+use mathlib.Core.List.{List}
 use denote.Ref.{now}
 use lib.ListN.{length, set, length-set}
-use Rattle.kernel.specs.Lists.{over, tabulate}
-use Rattle.kernel.proofs.Lists.{length-tabulate, tabulate-more, over-none, over-more}
+use Rattle.kernel.specs.Lists.{tabulate}
+use Rattle.kernel.proofs.Lists.{length-tabulate, tabulate-more}
+use Rattle.tracks.proofs.Laid.{Laid, laid-none, laid-set, laid-all}
 use Rattle.tracks.specs.Read.{items, track, tracks}
 use Rattle.tracks.specs.Record.{endOf}
 use Rattle.tracks.specs.Steps.{ends, continued, checkedEnd}
@@ -22,29 +23,27 @@ abbrev at : List ℕ → ℕ → ℕ → ℕ
 at list f j = endOf (tracks list f j)
 
 abbrev Inv-loop : tie.InvT-loop
-Inv-loop list f n offsets₀ c₀ j₀ offsets c j = (j ≤ n) × (length offsets ≡ length offsets₀) × (c ≡ ends (tracks list f j)) × (offsets ≡ over offsets₀ 0 (tabulate j (at list f)))
+Inv-loop list f n offsets₀ c₀ j₀ offsets c j = (j ≤ n) × (c ≡ ends (tracks list f j)) × Laid offsets₀ 0 (tabulate j (at list f)) j offsets
 
 abbrev μ-loop : tie.MeasureT-loop
 μ-loop list f n offsets₀ c₀ j₀ offsets c j = n - j
 
 loop-holds : tie.Need-loop-holds Inv-loop μ-loop
 unfolding tracks items tabulate
-loop-holds c = (omega arith, refl, refl, sym (over-none _ _))
+loop-holds c = (omega arith, refl, laid-none)
 
 -- one more offset after the first j
-one-more : (list : List ℕ) (f j : ℕ) (old offsets : List ℕ) (c : Checked) {v : ℕ} → j < length old → c ≡ ends (tracks list f j) → offsets ≡ over old 0 (tabulate j (at list f)) → v ≡ checkedEnd c
-    → set offsets j v ≡ over old 0 (tabulate (j + 1) (at list f))
-one-more list f j old offsets c {v} h e o w =
+one-more : (list : List ℕ) (f j : ℕ) {old offsets : List ℕ} {c : Checked} {v : ℕ} → j < length old → c ≡ ends (tracks list f j) → Laid old 0 (tabulate j (at list f)) j offsets → v ≡ checkedEnd c
+    → Laid old 0 (tabulate (j + 1) (at list f)) (j + 1) (set offsets j v)
+one-more list f j {v = v} h e l w =
     let stored : v ≡ at list f j = w ∙ ap checkedEnd e ∙ checked-end (tracks list f j) in
-    ap (λ (l : List ℕ). set l j v) o
-    ∙ over-more old 0 j (tabulate j (at list f)) v (omega (arith, length-tabulate j (at list f))) h
-    ∙ ap (over old 0) (ap (λ (x : ℕ). tabulate j (at list f) ++ (x ∷ [])) stored ∙ sym (tabulate-more j (at list f)))
+    laid-set l v (rw stored (tabulate-more j (at list f))) (omega (arith, length-tabulate (j + 1) (at list f))) refl
 
 next-track-requires : tie.Need-next-track-requires Inv-loop μ-loop
 next-track-requires c κs =
     let x = c .before .before .before .before .before .args in
     let i = c .before .before .loop in
-    (omega arith, λ at e. tracks-within (now (x .list)) (x .f) (i .j) (omega arith) at (sym (i .inv .2) ∙ e))
+    (omega arith, λ at e. tracks-within (now (x .list)) (x .f) (i .j) (omega arith) at (sym (i .inv .1) ∙ e))
 
 loop-again : tie.Need-loop-again Inv-loop μ-loop
 unfolding tracks
@@ -53,40 +52,23 @@ loop-again c =
     let i = c .before .before .before .loop in
     let read = track (now (x .list)) (x .f) in (
       omega arith,
-      length-set (i .offsets) (i .j) _ ∙ i .inv .1,
-      c .next-track .ensures ∙ ap (λ (b : Checked). continued b (λ at. ends (read at))) (i .inv .2) ∙ sym (ends-next (λ _. read) 2 (i .j)),
-      one-more (now (x .list)) (x .f) (i .j) (now (x .offsets)) (i .offsets) (i .c) (omega arith) (i .inv .2) (i .inv .3) (c .before .end-of .ensures),
+      c .next-track .ensures ∙ ap (λ (b : Checked). continued b (λ at. ends (read at))) (i .inv .1) ∙ sym (ends-next (λ _. read) 2 (i .j)),
+      one-more (now (x .list)) (x .f) (i .j) (omega arith) (i .inv .1) (i .inv .2) (c .before .end-of .ensures),
     )
 
 same-length : tie.Need-same-length Inv-loop μ-loop
-same-length c = let i = c .before .before .loop in length-set (i .offsets) _ _ ∙ i .inv .1
+same-length c = let i = c .before .before .loop in length-set (i .offsets) _ _ ∙ i .inv .2 .size
 
 returns : tie.Need-returns Inv-loop μ-loop
 returns c =
     let x = c .before .before .before .before .before .args in
     let i = c .before .before .loop in
     let n : i .j ≡ x .n = le-antisymm (i .inv .0) (c .before .loop-test .left) in
-    let stored = one-more (now (x .list)) (x .f) (i .j) (now (x .offsets)) (i .offsets) (i .c) (omega arith) (i .inv .2) (i .inv .3) (c .end-of2 .ensures) in (
-      i .inv .2 ∙ ap (λ (k : ℕ). ends (tracks (now (x .list)) (x .f) k)) n,
-      ap (λ (k : ℕ). set (i .offsets) k (c .end-of2 .result)) (sym n) ∙ stored ∙ ap (λ (k : ℕ). over (now (x .offsets)) 0 (tabulate (k + 1) (at (now (x .list)) (x .f)))) n,
-    )
+    let all = laid-all (one-more (now (x .list)) (x .f) (i .j) (omega arith) (i .inv .1) (i .inv .2) (c .end-of2 .ensures)) (ap (λ (k : ℕ). tabulate (k + 1) (at (now (x .list)) (x .f))) n) in
+    (i .inv .1 ∙ ap (λ (k : ℕ). ends (tracks (now (x .list)) (x .f) k)) n, ap (λ (k : ℕ). set (i .offsets) k (c .end-of2 .result)) (sym n) ∙ all .1)
 
 pub check-tracks-spec : {M : Type 1} → statement M
 check-tracks-spec =
     tie.close
-    (tie.spec
-    Inv-loop
-    μ-loop
-    loop-holds
-    (λ c κs. tt)
-    (λ c. omega arith)
-    (λ c. omega arith)
-    next-track-requires
-    (λ c. omega arith)
-    (λ c. omega arith)
-    loop-again
-    (λ c κs. tt)
-    (λ c. omega arith)
-    (λ c. omega arith)
-    same-length
-    returns)
+    (tie.spec Inv-loop μ-loop loop-holds (λ c κs. tt) (λ c. omega arith) (λ c. omega arith) next-track-requires (λ c. omega arith) (λ c. omega arith)
+    loop-again (λ c κs. tt) (λ c. omega arith) (λ c. omega arith) same-length returns)

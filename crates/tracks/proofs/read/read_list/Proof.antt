@@ -75,14 +75,5 @@ returns-3 c =
 pub read-list-spec : {M : Type 1} → statement M
 read-list-spec =
     tie.close
-    (tie.spec
-    (λ c κs. search needs)
-    (λ c. search needs)
-    fields-requires
-    mul-if1
-    returns
-    put-tracks-requires
-    (λ c. search needs)
-    (λ c. search needs)
-    returns-2
-    returns-3)
+    (tie.spec (λ c κs. search needs) (λ c. search needs) fields-requires mul-if1 returns put-tracks-requires (λ c. search needs) (λ c. search needs)
+    returns-2 returns-3)

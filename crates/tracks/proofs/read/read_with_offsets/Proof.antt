@@ -1,21 +1,20 @@
 -- `read_with_offsets` meets its contract: the list's questions, question 2, and then the values and the offsets.
 use mathlib.Core.Path.{_≡_, refl, sym, ap, _∙_}
-use Prim.Native.Nat.{ℕ, _+_, _*_}
+use Prim.Native.Nat.{ℕ, _*_}
 use native.Mathlib.Nat.{mul-le-mul-right}
 use native.Mathlib.Omega.{arith}
 use mathlib.Core.List.{List}
 use denote.Ref.{now}
-use lib.ListN.{length, take}
+use lib.ListN.{length}
 use lib.Ieee.{Float}
 use Rattle.kernel.specs.Answer.{Outcome, refused, answered}
-use Rattle.kernel.specs.Lists.{over, tabulate}
+use Rattle.kernel.specs.Lists.{over}
 use Rattle.tracks.specs.Layout.{fields}
 use Rattle.tracks.specs.Read.{TrackList, contents}
-use Rattle.tracks.specs.Record.{offset}
 use Rattle.tracks.specs.Calls.{readAnswer, readValues, offsetsLeft, readingPlaced, placedLeft, readWithOffsets}
 use Rattle.tracks.specs.declared.read.ReadList.{ReadList}
 use Rattle.tracks.proofs.Known.{Known, known-list, known-fields, known-tracks, read-refused}
-use Rattle.tracks.proofs.Offsets.{placed-fits, placed-short, placed-few, placed-refused, offsets-long, offsets-front}
+use Rattle.tracks.proofs.Offsets.{placed-fits, placed-short, placed-few, placed-refused, offsets-long, known-front}
 use borrow.Author.Needs.{needs}
 use Rattle.tracks.proofs.read.read_with_offsets.Statement.{statement}
 use Rattle.tracks.proofs.read.read_with_offsets.Tie as tie
@@ -90,13 +89,6 @@ copy-offsets-requires c κs =
     let a = told t in
     (omega (arith, a .few, offsets-long (list-of t) _ _ (checked t .check-offsets .ensures .1) (a .accepted) refl), omega arith)
 
--- the offsets that are copied
-front : (c : tie.After-known-told) → take (c .before .c .given .0 .0 + 1) (checked c .check-offsets .last .1 .0) ≡ tabulate (length (told c .held .tracks) + 1) (offset (list-of c))
-front c =
-    let a = told c in
-    let found = checked c .check-offsets .last .1 .0 in
-    ap (λ (n : ℕ). take (n + 1) found) (a .count) ∙ offsets-front (list-of c) _ found (checked c .check-offsets .ensures .1) (a .accepted)
-
 returns-3 : tie.Need-returns-3
 returns-3 c =
     let f = sized (stored c) in
@@ -106,7 +98,7 @@ returns-3 c =
     let answer = sym (t .before .c .given .1) ∙ checked t .check-offsets .ensures .0 ∙ ap readAnswer (a .accepted) in
     all-three s (answered (a .held)) (placed-fits _ _ _ (a .accepted) (omega (arith, needed f, asked (stored c) .before .if1 .left)) (omega (arith, a .count, asked (stored c) .if2 .left))) answer
     (stored c .before .before .before .put-tracks .ensures _ (known-tracks a (f .fields .ensures .0)) .1)
-    (c .before .before .copy-offsets .ensures ∙ ap (over (now (s .args .offsets)) 0) (front t))
+    (c .before .before .copy-offsets .ensures ∙ ap (over (now (s .args .offsets)) 0) (known-front a _ _ (checked t .check-offsets .ensures .1)))
 
 returns-4 : tie.Need-returns-4
 returns-4 c =
@@ -118,20 +110,5 @@ returns-4 c =
 pub read-with-offsets-spec : {M : Type 1} → statement M
 read-with-offsets-spec =
     tie.close
-    (tie.spec
-    (λ c. search needs)
-    (λ c κs. search needs)
-    (λ c. search needs)
-    fields-requires
-    mul-if1
-    returns
-    returns-2
-    put-tracks-requires
-    (λ c. search needs)
-    add-copy-offsets
-    copy-offsets-requires
-    (λ c. search needs)
-    (λ c. search needs)
-    (λ c. search needs)
-    returns-3
-    returns-4)
+    (tie.spec (λ c. search needs) (λ c κs. search needs) (λ c. search needs) fields-requires mul-if1 returns returns-2 put-tracks-requires
+    (λ c. search needs) add-copy-offsets copy-offsets-requires (λ c. search needs) (λ c. search needs) (λ c. search needs) returns-3 returns-4)

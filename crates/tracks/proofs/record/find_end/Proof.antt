@@ -58,16 +58,5 @@ returns-3 c =
 pub find-end-spec : {M : Type 1} → statement M
 find-end-spec =
     tie.close
-    (tie.spec
-    Inv-loop
-    μ-loop
-    loop-holds
-    (λ c κs. omega arith)
-    (λ c. search needs)
-    returns
-    (λ c. search needs)
-    returns-2
-    (λ c. omega arith)
-    (λ c. omega arith)
-    loop-again
-    returns-3)
+    (tie.spec Inv-loop μ-loop loop-holds (λ c κs. omega arith) (λ c. search needs) returns (λ c. search needs) returns-2 (λ c. omega arith)
+    (λ c. omega arith) loop-again returns-3)

@@ -67,16 +67,5 @@ returns-3 c =
 pub record-spec : {M : Type 1} → statement M
 record-spec =
     tie.close
-    (tie.spec
-    (λ c κs. search needs)
-    (λ c. search needs)
-    fields-requires
-    find-end-requires
-    (λ c. search needs)
-    returns
-    (λ c. search needs)
-    (λ c. search needs)
-    (λ c. search needs)
-    (λ c. search needs)
-    returns-2
-    returns-3)
+    (tie.spec (λ c κs. search needs) (λ c. search needs) fields-requires find-end-requires (λ c. search needs) returns (λ c. search needs)
+    (λ c. search needs) (λ c. search needs) (λ c. search needs) returns-2 returns-3)

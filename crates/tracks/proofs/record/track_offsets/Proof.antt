@@ -1,20 +1,18 @@
 -- `track_offsets` meets its contract: the list's questions, question 2, and then the offsets.
 use mathlib.Core.Path.{_≡_, refl, sym, ap, _∙_}
-use Prim.Native.Nat.{ℕ, _+_}
+use Prim.Native.Nat.{ℕ}
 use native.Mathlib.Omega.{arith}
 use mathlib.Core.List.{List}
 use denote.Ref.{now}
-use lib.ListN.{length, take}
+use lib.ListN.{length}
 use Rattle.kernel.specs.Answer.{Outcome, refused, answered}
-use Rattle.kernel.specs.Lists.{over, tabulate}
-use Rattle.tracks.specs.Layout.{fields}
-use Rattle.tracks.specs.Read.{TrackList, tracks, dimension, contents}
-use Rattle.tracks.specs.Record.{endOf, offset, placing}
+use Rattle.kernel.specs.Lists.{over}
+use Rattle.tracks.specs.Read.{TrackList, contents}
+use Rattle.tracks.specs.Record.{placing}
 use Rattle.tracks.specs.Calls.{readAnswer, offsetsLeft, trackOffsets}
 use Rattle.tracks.specs.declared.read.ReadList.{ReadList}
-use Rattle.tracks.proofs.Accepted.{contents-met}
 use Rattle.tracks.proofs.Known.{Known, known-list, read-refused}
-use Rattle.tracks.proofs.Offsets.{placing-fits, placing-short, placing-refused, offsets-long, offsets-front}
+use Rattle.tracks.proofs.Offsets.{placing-fits, placing-short, placing-refused, offsets-long, known-front}
 use borrow.Author.Needs.{needs}
 use Rattle.tracks.proofs.record.track_offsets.Statement.{statement}
 use Rattle.tracks.proofs.record.track_offsets.Tie as tie
@@ -56,13 +54,6 @@ copy-offsets-requires c κs =
     let a = told t in
     (omega (arith, a .few, offsets-long (list-of t) _ _ (checked t .check-offsets .ensures .1) (a .accepted) refl), omega (arith, c .before .before .if1 .left))
 
--- the offsets that are copied
-front : (c : tie.After-known-told) → take (c .before .c .given .0 .0 + 1) (checked c .check-offsets .last .1 .0) ≡ tabulate (length (told c .held .tracks) + 1) (offset (list-of c))
-front c =
-    let a = told c in
-    let found = checked c .check-offsets .last .1 .0 in
-    ap (λ (n : ℕ). take (n + 1) found) (a .count) ∙ offsets-front (list-of c) _ found (checked c .check-offsets .ensures .1) (a .accepted)
-
 returns-2 : tie.Need-returns-2
 returns-2 c =
     let t = c .before .before .before .before .before .before in
@@ -70,7 +61,7 @@ returns-2 c =
     let a = told t in
     let answer = sym (t .before .c .given .1) ∙ checked t .check-offsets .ensures .0 ∙ ap readAnswer (a .accepted) in
     both s (answered (a .held)) (placing-fits _ _ (a .accepted) (omega (arith, a .count, c .before .before .before .before .before .if1 .left))) answer
-    (c .before .before .copy-offsets .ensures ∙ ap (over (now (s .args .offsets)) 0) (front t))
+    (c .before .before .copy-offsets .ensures ∙ ap (over (now (s .args .offsets)) 0) (known-front a _ _ (checked t .check-offsets .ensures .1)))
 
 returns-3 : tie.Need-returns-3
 returns-3 c =
@@ -81,15 +72,5 @@ returns-3 c =
 pub track-offsets-spec : {M : Type 1} → statement M
 track-offsets-spec =
     tie.close
-    (tie.spec
-    (λ c. search needs)
-    (λ c κs. search needs)
-    (λ c. search needs)
-    returns
-    (λ c. search needs)
-    add-copy-offsets
-    copy-offsets-requires
-    (λ c. search needs)
-    (λ c. search needs)
-    returns-2
-    returns-3)
+    (tie.spec (λ c. search needs) (λ c κs. search needs) (λ c. search needs) returns (λ c. search needs) add-copy-offsets copy-offsets-requires
+    (λ c. search needs) (λ c. search needs) returns-2 returns-3)

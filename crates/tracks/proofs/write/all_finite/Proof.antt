@@ -11,7 +11,7 @@ use Rattle.tracks.specs.Layout.{finiteBits}
 use Rattle.tracks.specs.Write.{allFinite}
 use Rattle.tracks.specs.Calls.{patterns}
 use Rattle.tracks.proofs.Lists.{take-more}
-use Rattle.tracks.proofs.Written.{length-patterns, all-more, all-not}
+use Rattle.tracks.proofs.Values.{length-patterns, all-more, all-not}
 use Rattle.tracks.proofs.write.all_finite.Statement.{statement}
 use Rattle.tracks.proofs.write.all_finite.Tie as tie
 
@@ -50,14 +50,4 @@ returns-2 c =
 pub all-finite-spec : {M : Type 1} → statement M
 all-finite-spec =
     tie.close
-    (tie.spec
-    Inv-loop
-    μ-loop
-    loop-holds
-    (λ c κs. omega arith)
-    (λ c κs. tt)
-    returns
-    (λ c. omega arith)
-    (λ c. omega arith)
-    loop-again
-    returns-2)
+    (tie.spec Inv-loop μ-loop loop-holds (λ c κs. omega arith) (λ c κs. tt) returns (λ c. omega arith) (λ c. omega arith) loop-again returns-2)

@@ -3,7 +3,7 @@ use mathlib.Core.Path.{sym, _∙_}
 use denote.Ref.{now}
 use lib.ListN.{getD}
 use lib.Ieee.{nan}
-use Rattle.tracks.proofs.Written.{pattern-at, same-no-nan, nan-bits}
+use Rattle.tracks.proofs.Values.{pattern-at, same-no-nan, nan-bits}
 use borrow.Author.Needs.{needs}
 use Rattle.tracks.proofs.write.bits_at.Statement.{statement}
 use Rattle.tracks.proofs.write.bits_at.Tie as tie

@@ -15,7 +15,8 @@ use Rattle.tracks.specs.Write.{allFinite, listOf, trackList, written}
 use Rattle.tracks.specs.Calls.{patterns, writeAnswer}
 use Rattle.tracks.specs.declared.write.WrittenList.the-variants as WrittenList
 use Rattle.tracks.proofs.Accepted.{dimension-small}
-use Rattle.tracks.proofs.Written.{length-patterns, list-length}
+use Rattle.tracks.proofs.Written.{list-length}
+use Rattle.tracks.proofs.Values.{length-patterns}
 use borrow.Author.Needs.{needs}
 use Rattle.tracks.proofs.write.check_write.Statement.{statement}
 use Rattle.tracks.proofs.write.check_write.Tie as tie
@@ -144,20 +145,5 @@ returns-6 c = ap WrittenList.Length (whole (c .before)) ∙ sym (ap writeAnswer 
 pub check-write-spec : {M : Type 1} → statement M
 check-write-spec =
     tie.close
-    (tie.spec
-    (λ c κs. search needs)
-    returns
-    (λ c κs. search needs)
-    returns-2
-    fields-requires
-    (λ c. omega (arith, small c))
-    returns-3
-    (λ c κs. search needs)
-    returns-4
-    (λ c. search needs)
-    mul-length
-    add-length-2
-    stored-length-requires
-    add-length-3
-    returns-5
-    returns-6)
+    (tie.spec (λ c κs. search needs) returns (λ c κs. search needs) returns-2 fields-requires (λ c. omega (arith, small c)) returns-3 (λ c κs. search needs)
+    returns-4 (λ c. search needs) mul-length add-length-2 stored-length-requires add-length-3 returns-5 returns-6)

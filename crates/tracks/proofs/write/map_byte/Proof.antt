@@ -3,13 +3,14 @@ use mathlib.Core.Path.{_≡_, refl, sym, ap, _∙_}
 use mathlib.Core.Bool.{Bool, true, false}
 use mathlib.Core.Logic.{⊎-elim}
 use Prim.Native.Nat.{ℕ, _+_, _*_, _^_, _-_, _≤_, _<_}
-use native.Mathlib.Nat.{pow-suc, le-antisymm}
+use native.Mathlib.Nat.{pow-suc}
 use native.Mathlib.Numerals.{add-one}
 use native.Mathlib.Omega.{arith}
 use mathlib.Core.List.{List}
 use denote.Ref.{now}
 use lib.ListN.{getD}
 use lib.Pow.{pow-mono}
+use Rattle.kernel.proofs.Loops.{at-end}
 use Rattle.tracks.specs.Write.{nonzero, packed, mapByte}
 use Rattle.tracks.specs.Calls.{patterns}
 use Rattle.tracks.proofs.Written.{packed-more, packed-lt}
@@ -36,12 +37,6 @@ small c =
     let i = c .loop in
     (rw (i .inv .2) (packed-lt (test (patterns (now (x .v))) (x .b)) (i .i)), pow-mono (i .inv .0))
 
-add-byte : tie.Need-add-byte Inv-loop μ-loop
-add-byte c = omega (arith, small (c .before .before .before), c .before .before .before .loop .inv .1)
-
-mul-weight : tie.Need-mul-weight Inv-loop μ-loop
-mul-weight c = omega (arith, small (c .before .before .before), c .before .before .before .loop .inv .1)
-
 loop-again : tie.Need-loop-again Inv-loop μ-loop
 loop-again c =
     let x = c .before .before .before .before .before .args in
@@ -56,30 +51,15 @@ loop-again c =
           (c .if1 .came),
     )
 
-cast-result : tie.Need-cast-result Inv-loop μ-loop
-cast-result c = omega (arith, small (c .before))
-
 returns : tie.Need-returns Inv-loop μ-loop
 unfolding mapByte
 returns c =
     let x = c .before .before .before .args in
     let i = c .before .loop in
-    i .inv .2 ∙ ap (packed (test (patterns (now (x .v))) (x .b))) (le-antisymm (i .inv .0) (c .loop-test .left))
+    at-end (packed (test (patterns (now (x .v))) (x .b))) (i .inv .0) (c .loop-test .left) (i .inv .2)
 
 pub map-byte-spec : {M : Type 1} → statement M
 map-byte-spec =
     tie.close
-    (tie.spec
-    Inv-loop
-    μ-loop
-    loop-holds
-    (λ c. omega arith)
-    (λ c. omega arith)
-    (λ c κs. tt)
-    add-byte
-    mul-weight
-    (λ c. omega arith)
-    (λ c. omega arith)
-    loop-again
-    cast-result
-    returns)
+    (tie.spec Inv-loop μ-loop loop-holds (λ c. omega arith) (λ c. omega arith) (λ c κs. tt) (λ c. omega (arith, small (c .before .before .before)))
+    (λ c. omega (arith, small (c .before .before .before))) (λ c. omega arith) (λ c. omega arith) loop-again (λ c. omega (arith, small (c .before))) returns)

@@ -8,7 +8,8 @@ use lib.ListN.{length, take, length-append, getD}
 use lib.Seq.{take-all}
 use Rattle.tracks.specs.Write.{fieldBytes, storedBytes}
 use Rattle.tracks.specs.Calls.{patterns}
-use Rattle.tracks.proofs.Written.{length-patterns, stored-more}
+use Rattle.tracks.proofs.Written.{stored-more}
+use Rattle.tracks.proofs.Values.{length-patterns}
 use Rattle.tracks.proofs.write.stored_length.Statement.{statement}
 use Rattle.tracks.proofs.write.stored_length.Tie as tie
 
@@ -45,14 +46,4 @@ returns c =
 pub stored-length-spec : {M : Type 1} → statement M
 stored-length-spec =
     tie.close
-    (tie.spec
-    Inv-loop
-    μ-loop
-    loop-holds
-    (λ c κs. omega arith)
-    (λ c κs. tt)
-    add-n
-    (λ c. omega arith)
-    (λ c. omega arith)
-    loop-again
-    returns)
+    (tie.spec Inv-loop μ-loop loop-holds (λ c κs. omega arith) (λ c κs. tt) add-n (λ c. omega arith) (λ c. omega arith) loop-again returns)

@@ -15,7 +15,8 @@ use Rattle.tracks.specs.declared.write.WrittenList.the-variants as Writt
 use Rattle.tracks.proofs.Accepted.{dimension-small}
 use Rattle.tracks.proofs.Lists.{over-two}
 use Rattle.kernel.proofs.Lists.{length-tabulate}
-use Rattle.tracks.proofs.Written.{Listed, written-met, write-accepted, write-refused, length-patterns}
+use Rattle.tracks.proofs.Written.{Listed, written-met, write-accepted, write-refused}
+use Rattle.tracks.proofs.Values.{length-patterns}
 use borrow.Author.Needs.{needs}
 use Rattle.tracks.proofs.write.write_list.Statement.{statement}
 use Rattle.tracks.proofs.write.write_list.Tie as tie
@@ -106,16 +107,5 @@ returns-2 c =
 pub write-list-spec : {M : Type 1} → statement M
 write-list-spec =
     tie.close
-    (tie.spec
-    (λ c κs. search needs)
-    (λ c. search needs)
-    cast-out
-    slice-write-out
-    cast-out-2
-    slice-write-out-2
-    fields-requires
-    write-tracks-requires
-    (λ c. search needs)
-    same-length
-    returns
-    returns-2)
+    (tie.spec (λ c κs. search needs) (λ c. search needs) cast-out slice-write-out cast-out-2 slice-write-out-2 fields-requires write-tracks-requires
+    (λ c. search needs) same-length returns returns-2)

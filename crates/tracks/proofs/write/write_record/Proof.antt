@@ -1,5 +1,5 @@
 -- `write_record` meets its contract: the map, and then the fields.
-use mathlib.Core.Path.{ap, _∙_}
+use mathlib.Core.Path.{refl}
 use Prim.Native.Nat.{ℕ}
 use native.Mathlib.Omega.{arith}
 use mathlib.Core.List.{List}
@@ -7,35 +7,41 @@ use denote.Ref.{now}
 use lib.ListN.{length-append}
 use Rattle.tracks.specs.Write.{mapOf, storedBytes, recordOf}
 use Rattle.tracks.specs.Calls.{patterns}
-use Rattle.kernel.specs.Lists.{over}
-use Rattle.kernel.proofs.Lists.{over-over}
-use Rattle.tracks.proofs.Written.{length-patterns, record-length}
+use Rattle.tracks.proofs.Laid.{Laid, laid-none, laid-room, laid-more, laid-all}
+use Rattle.tracks.proofs.Written.{record-length}
+use Rattle.tracks.proofs.Values.{length-patterns}
 use borrow.Author.Needs.{needs}
 use Rattle.tracks.proofs.write.write_record.Statement.{statement}
 use Rattle.tracks.proofs.write.write_record.Tie as tie
 
+-- where the call began, from the call that writes the map
+abbrev start-of : tie.After-write-map → tie.Start
+start-of c = c .before .before .before .before
+
+abbrev bits-of : tie.After-write-map → List ℕ
+bits-of c = patterns (now (start-of c .args .v))
+
+-- the map is written
+mapped : (c : tie.After-write-map) → let x = start-of c .args in Laid (now (x .out)) (x .at) (mapOf (bits-of c)) (c .write-map .result) (c .write-map .last .1 .0)
+unfolding recordOf
+mapped c =
+    let p = bits-of c in
+    laid-more laid-none (mapOf p) refl (omega (arith, start-of c .pre, length-append (mapOf p) (storedBytes p))) (c .write-map .ensures .0) (c .write-map .ensures .1)
+
 write-map-requires : tie.Need-write-map-requires
-write-map-requires c κs = let p = patterns (now (c .before .before .before .args .v)) in omega (arith, record-length p, length-patterns (now (c .before .before .before .args .v)))
+write-map-requires c κs = let v = now (c .before .before .before .args .v) in omega (arith, record-length (patterns v), length-patterns v)
 
 write-fields-requires : tie.Need-write-fields-requires
 unfolding recordOf
-write-fields-requires c κs =
-    let p = patterns (now (c .before .before .before .before .before .before .before .args .v)) in
-    let w = c .before .before .before .write-map in
-    omega (arith, w .ensures .0, w .kept .1 .0, length-append (mapOf p) (storedBytes p), c .before .before .before .before .before .before .before .pre)
+write-fields-requires c κs = let m = c .before .before .before in laid-room (mapped m) (storedBytes (bits-of m)) refl (start-of m .pre .1)
 
 returns : tie.Need-returns
 unfolding recordOf
 returns c =
-    let s = c .before .before .before .before .before .before .before .before .before .before in
-    let x = s .args in
-    let p = patterns (now (x .v)) in
-    let m = c .before .before .before .before .before .before .write-map .ensures in
-    let w = c .before .before .write-fields .ensures in (
-      omega (arith, m .0, w .0, length-append (mapOf p) (storedBytes p)),
-      w .1 ∙ ap (λ (l : List ℕ). over l (c .before .before .before .before .before .before .write-map .result) (storedBytes p)) (m .1)
-          ∙ over-over (now (x .out)) (x .at) _ (mapOf p) (storedBytes p) (m .0) (omega (arith, length-append (mapOf p) (storedBytes p), s .pre)),
-    )
+    let written = c .before .before in
+    let m = written .before .before .before .before in
+    let w = written .write-fields .ensures in
+    laid-all (laid-more (mapped m) (storedBytes (bits-of m)) refl (start-of m .pre .1) (w .0) (w .1)) refl
 
 pub write-record-spec : {M : Type 1} → statement M
 write-record-spec =
