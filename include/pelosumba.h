@@ -61,10 +61,9 @@ uint32_t pel_mat_symmetric_eigen(const double *a, size_t a_len, size_t n, double
 /* The nearest matrix whose eigenvalues are not below min_eig; bit k of clipped_indices is for eigenvalue k. */
 uint32_t pel_nearest_psd(const double *cov, size_t cov_len, double min_eig, size_t n, double *out, size_t out_len,
                          size_t *n_clipped, double *max_clip_magnitude, uint32_t *clipped_indices);
-/* The same by its other name. */
+/* The same by its other name: the clip count, the largest clip and the mask. */
 uint32_t pel_eigenvalue_floor(const double *cov, size_t cov_len, double min_eig, size_t n, double *out,
-                              size_t out_len, size_t *n_clipped, double *max_clip_magnitude,
-                              uint32_t *clipped_indices);
+                              size_t out_len, size_t *count, double *clip, uint32_t *mask);
 /* Power iteration: the eigenvalue that is greatest in size, and its vector; at most max_iter rounds. */
 uint32_t pel_mat_eigenvector_max(const double *a, size_t a_len, size_t n, uint32_t max_iter, double tol, double *v,
                                  size_t v_len, double *lambda);
@@ -97,7 +96,7 @@ void pel_record(const uint8_t *list, size_t list_len, size_t offset, size_t *sta
    and the verdict, 0 keep, 1 take ours, 2 take theirs, 3 deleted, 4 conflict. The bytes past them stay. full, half and single
    count the rows with three, two and one track. */
 uint32_t pel_merge(const uint8_t *base, size_t base_len, const uint8_t *ours, size_t ours_len, const uint8_t *theirs,
-                   size_t theirs_len, double floor, double gate, uint8_t *rows, size_t rows_len, size_t *full,
+                   size_t theirs_len, double floor, double gate, uint8_t *buffer, size_t buffer_len, size_t *full,
                    size_t *half, size_t *single);
 /* The winning record of a row of four bytes, by its start and length in a list: 1 for ours, 2 for theirs. All three are 0 where
    there is none: another verdict, no such track, a list that is refused, a row of another length. */

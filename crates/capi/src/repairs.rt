@@ -62,20 +62,20 @@ pub extern "C" fn pel_nearest_psd(
     enter_report(repaired, n_clipped, max_clip_magnitude, clipped_indices)
 }
 
-// The same by its other name.
+// The same by its other name, and document 01's words for the report: the clip count, the largest clip and the mask.
 #[no_mangle]
 pub extern "C" fn pel_eigenvalue_floor(
     cov: &[f64],
     min_eig: f64,
     n: usize,
     out: &mut [f64],
-    n_clipped: &mut usize,
-    max_clip_magnitude: &mut f64,
-    clipped_indices: &mut u32,
+    count: &mut usize,
+    clip: &mut f64,
+    mask: &mut u32,
 ) -> u32
-    ensures { λ r. ⌜ (r, (now («n_clipped» .exit), (now («max_clip_magnitude» .exit), now («clipped_indices» .exit)))) ≡ toldRepair (Repair.nearestPsd (now (cov .entry)) «min_eig» n (now (out .entry))) (now («n_clipped» .entry)) (now («max_clip_magnitude» .entry)) (now («clipped_indices» .entry)) ⌝ }
+    ensures { λ r. ⌜ (r, (now (count .exit), (now (clip .exit), now (mask .exit)))) ≡ toldRepair (Repair.nearestPsd (now (cov .entry)) «min_eig» n (now (out .entry))) (now (count .entry)) (now (clip .entry)) (now (mask .entry)) ⌝ }
     ensures { λ _. ⌜ now (out .exit) ≡ rebuiltLeft (Repair.nearestPsd (now (cov .entry)) «min_eig» n (now (out .entry))) (now (out .entry)) ⌝ }
 {
     let repaired = regularize::eigenvalue_floor(cov, min_eig, n, out);
-    enter_report(repaired, n_clipped, max_clip_magnitude, clipped_indices)
+    enter_report(repaired, count, clip, mask)
 }
