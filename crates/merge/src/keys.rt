@@ -126,7 +126,7 @@ pub(crate) fn keys_between(
     terms: Terms,
 ) -> [f64; 1024]
     requires { ⌜ Compares terms × Sizes (now us) m (terms .f) × Sizes (now vs) n (terms .f) ⌝ }
-    ensures { λ r. ⌜ take (m * n) r ≡ keysBetween terms (now (us .entry)) «us_partners» m (now (vs .entry)) «vs_partners» n ⌝ }
+    ensures { λ r. ⌜ (length r ≡ 1024) × (take (m * n) r ≡ keysBetween terms (now (us .entry)) «us_partners» m (now (vs .entry)) «vs_partners» n) ⌝ }
 {
     let mut keys = [0.0f64; 1024];
     let f = terms.f;

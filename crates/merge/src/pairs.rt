@@ -1,7 +1,7 @@
 // The partners of the tracks of two lists, and the three pairings of a merge.
 ghost use mathlib.Core.Path.{_≡_};
 ghost use Prim.Native.Nat.{_*_, _≤_};
-ghost use lib.ListN.{take};
+ghost use lib.ListN.{length, take};
 ghost use Rattle.pairing.specs.Keys.{fromKeys};
 ghost use Rattle.merge.specs.Merge.{partnersIn};
 ghost use Rattle.merge.specs.Steps.{Compares, Sizes, partnersOf, pairingsIn, pairedValues};
@@ -23,10 +23,10 @@ pub(crate) struct Pairings {
     pub(crate) ours_theirs: Partners,
 }
 
-// The partners of m first and n second tracks, by the keys in front of an array.
-fn partners_by(keys: [f64; 1024], m: usize, n: usize) -> Partners
-    requires { ⌜ (m ≤ 32) × (n ≤ 32) ⌝ }
-    ensures { λ r. ⌜ partnersOf r m n ≡ partnersIn (fromKeys (take (m * n) keys) m n) ⌝ }
+// The partners of m first and n second tracks, by the keys in front of a slice.
+fn partners_by(keys: &[f64], m: usize, n: usize) -> Partners
+    requires { ⌜ (m ≤ 32) × (n ≤ 32) × (m * n ≤ length (now keys)) ⌝ }
+    ensures { λ r. ⌜ partnersOf r m n ≡ partnersIn (fromKeys (take (m * n) (now (keys .entry))) m n) ⌝ }
 {
     let mut firsts = [NOBODY; 32];
     let mut seconds = [NOBODY; 32];
@@ -50,9 +50,9 @@ pub(crate) fn pair_all(
 {
     let free = [NOBODY; 32];
     let keys = keys_between(base_values, free, m, ours_values, free, n, terms);
-    let base_ours = partners_by(keys, m, n);
+    let base_ours = partners_by(&keys, m, n);
     let keys = keys_between(base_values, free, m, theirs_values, free, l, terms);
-    let base_theirs = partners_by(keys, m, l);
+    let base_theirs = partners_by(&keys, m, l);
     let ours_base = base_ours.seconds;
     let theirs_base = base_theirs.seconds;
     let keys = keys_between(
@@ -64,7 +64,7 @@ pub(crate) fn pair_all(
         l,
         terms,
     );
-    let ours_theirs = partners_by(keys, n, l);
+    let ours_theirs = partners_by(&keys, n, l);
     Pairings {
         base_ours,
         base_theirs,

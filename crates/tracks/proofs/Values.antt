@@ -10,7 +10,7 @@ use lib.Dec.{T}
 use lib.ListN.{length, getD, take, drop, length-map, List·getD-map}
 use lib.Seq.{take-add, take-all, take-at, drop-at, drop-drop, ext-getD, getD-drop}
 use lib.Ieee.{Float, nan, inf, fin, binary64, ne, isNan, ofBits, toBits}
-use lib.Ieee.Compare.{differs-from-itself, nan-differs}
+use lib.Ieee.Compare.{differs-from-itself}
 use lib.Ieee.Bits.{ofBits-toBits, toBits-ofBits, toBits-lt, nanBits-is}
 use Rattle.tracks.specs.Layout.{Words, finiteBits}
 use Rattle.tracks.specs.Write.{allFinite, tracksOf}
@@ -28,14 +28,7 @@ length-patterns v = length-map v (toBits binary64)
 pub pattern-at : (v : List Float) (i : ℕ) → i < length v → getD (patterns v) i 0 ≡ toBits binary64 (getD v i nan)
 pattern-at v i h = getD-any (patterns v) i 0 (toBits binary64 nan) (rw length-patterns h) ∙ List·getD-map (toBits binary64) v i nan
 
--- a value that equals itself is no NaN
-pub same-no-nan : (x : Float) → ne x x ≡ false → T (not (isNan x))
-unfolding isNan
-same-no-nan nan e = let z : true ≡ false = sym nan-differs ∙ e in let y : _≡_ {A = ℕ} 0 1 = cc in absurd (omega arith)
-same-no-nan (inf s) e = tt
-same-no-nan (fin s m n) e = tt
-
--- one that does not is written as `toBits` writes a NaN
+-- a value that does not equal itself is written as `toBits` writes a NaN
 pub nan-bits : (x : Float) → ne x x ≡ true → toBits binary64 x ≡ 0x7FF8_0000_0000_0000
 unfolding toBits
 nan-bits x e = ap (toBits binary64) (differs-from-itself x (rw e tt))

@@ -71,7 +71,7 @@ returns c =
     let s = turn .before .before .before in
     let x = s .args in
     let whole : ℕ → Type 0 = λ k. take (k * x .n) (turn .loop .keys) ≡ matrix k (x .n) (λ i. key-at s (rowOf (x .us .now) (x .terms .f) i) i) in
-    subst whole (le-antisymm (turn .loop .inv .0) (c .loop-test .left)) (turn .loop .inv .2 .done)
+    (turn .loop .inv .2 .size ∙ turn .loop .inv .1, subst whole (le-antisymm (turn .loop .inv .0) (c .loop-test .left)) (turn .loop .inv .2 .done))
 
 pub keys-between-spec : {M : Type 1} → statement M
 keys-between-spec =

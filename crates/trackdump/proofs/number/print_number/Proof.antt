@@ -1,5 +1,5 @@
 -- `print_number` is safe: bits are taken of no NaN.
-use Rattle.tracks.proofs.Written.{same-no-nan}
+use Rattle.kernel.proofs.Doubles.{equals-itself}
 use borrow.Author.Needs.{needs}
 use Rattle.trackdump.proofs.number.print_number.Statement.{statement}
 use Rattle.trackdump.proofs.number.print_number.Tie as tie
@@ -7,4 +7,4 @@ use Rattle.trackdump.proofs.number.print_number.Tie as tie
 pub print-number-spec : {M : Type 1} → statement M
 print-number-spec =
     tie.close
-    (tie.spec (λ c. search needs) (λ c. same-no-nan _ (c .if1 .left)) (λ c. search needs) (λ c κs. search needs) (λ c κs. search needs) (λ c. search needs))
+    (tie.spec (λ c. search needs) (λ c. equals-itself _ (c .if1 .left)) (λ c. search needs) (λ c κs. search needs) (λ c κs. search needs) (λ c. search needs))

@@ -3,7 +3,8 @@ use mathlib.Core.Path.{sym, _∙_}
 use denote.Ref.{now}
 use lib.ListN.{getD}
 use lib.Ieee.{nan}
-use Rattle.tracks.proofs.Values.{pattern-at, same-no-nan, nan-bits}
+use Rattle.kernel.proofs.Doubles.{equals-itself}
+use Rattle.tracks.proofs.Values.{pattern-at, nan-bits}
 use borrow.Author.Needs.{needs}
 use Rattle.tracks.proofs.write.bits_at.Statement.{statement}
 use Rattle.tracks.proofs.write.bits_at.Tie as tie
@@ -12,7 +13,7 @@ returns : tie.Need-returns
 returns c = let x = c .before .before .args in sym (pattern-at (now (x .v)) (x .i) (c .before .before .pre) ∙ nan-bits (getD (now (x .v)) (x .i) nan) (c .if1 .taken))
 
 float-to-bits-result : tie.Need-float-to-bits-result
-float-to-bits-result c = same-no-nan _ (c .if1 .left)
+float-to-bits-result c = equals-itself _ (c .if1 .left)
 
 returns-2 : tie.Need-returns-2
 returns-2 c = let x = c .before .before .args in sym (pattern-at (now (x .v)) (x .i) (c .before .before .pre))
