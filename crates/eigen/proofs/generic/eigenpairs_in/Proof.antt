@@ -18,11 +18,12 @@ settle-requires : tie.Need-settle-requires
 settle-requires c κs =
     let after-identity = c .before .before .before .before .before .before in
     let made = symmetric c in
-    let x = entered made in (
-      made .symmetrize .kept .1 .1 .0 ∙ x .pre .2 ∙ x .pre .0,
-      after-identity .identity .kept .1 .0 ∙ x .pre .3 ∙ x .pre .0,
-      subst (Symmetric (x .args .n)) (sym (made .symmetrize .ensures)) (symmetrized-symmetric (x .args .a .now) (x .args .n)),
-    )
+    let x = entered made in
+    record {
+      matrix-size = made .symmetrize .kept .1 .1 .0 ∙ x .pre .2 ∙ x .pre .0;
+      vectors-size = after-identity .identity .kept .1 .0 ∙ x .pre .3 ∙ x .pre .0;
+      symmetric = subst (Symmetric (x .args .n)) (sym (made .symmetrize .ensures)) (symmetrized-symmetric (x .args .a .now) (x .args .n));
+    }
 
 returns : tie.Need-returns
 returns c =
