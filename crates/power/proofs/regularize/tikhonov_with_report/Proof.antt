@@ -52,7 +52,7 @@ condition-requires : tie.Need-condition-requires
 condition-requires c κs = (sided (c .before .before .before), lengths c .0)
 
 damp-requires : tie.Need-damp-requires
-damp-requires c κs = let else2 = c .before .before in (sided (else2 .before .before .before), lengths else2 .0, lengths else2 .1)
+damp-requires c κs = let else2 = c .before .before in record { order = sided (else2 .before .before .before); matrix = lengths else2 .0; room = lengths else2 .1 }
 
 condition-requires-2 : tie.Need-condition-requires-2
 condition-requires-2 c κs =
