@@ -1,7 +1,7 @@
 -- Laws of the sums above the diagonal, of one pair, row or sweep more, and of the sweep at which the test stops. `row-symmetric` and `rows-symmetric`: the states of a
 -- matrix that is symmetric bit by bit are, so that the slices stay what a sweep asks for (`slices-rotated`, `slices-row`, `slices-swept`). `Sweeping` is what a loop
 -- of sweeps holds: `first-sweep`, `next-sweep`, and `stops-now` and `stops-never` where it ends.
-use Prim.Native.Nat.{ℕ, zero, suc, _+_, _*_, _-_, _<_, _≤_}
+use Prim.Native.Nat.{ℕ, zero, suc, _+_, _-_, _<_, _≤_}
 use native.Mathlib.Omega.{arith}
 use native.Mathlib.Numerals.{add-one}
 use native.Mathlib.Nat.{le-antisymm}
@@ -11,7 +11,6 @@ use mathlib.Core.Path.{_≡_, refl, sym, ap, _∙_, subst}
 use lib.Ieee.{Float}
 use lib.ListN.{length}
 use Rattle.kernel.specs.Number.{add, mul}
-use Rattle.kernel.specs.Constants.{nought}
 use Rattle.kernel.proofs.First.{Standing, stands-first, stands-next, stopped, unstopped}
 use Rattle.dense.specs.Matrix.{sumFrom, at}
 use Rattle.dense.proofs.Laws.{sum-more}

@@ -1,8 +1,7 @@
 // Sweeps of rotations, and the test that stops them.
 ghost use mathlib.Core.Path.{_≡_};
-ghost use Prim.Native.Nat.{suc, _+_, _*_, _-_, _<_, _≤_};
+ghost use Prim.Native.Nat.{suc, _+_, _*_, _-_, _<_};
 ghost use lib.ListN.{length};
-ghost use lib.Ieee.{Float};
 ghost use Rattle.kernel.specs.Number.{mul};
 ghost use Rattle.dense.specs.Matrix.{at, sumFrom};
 ghost use Rattle.eigen.specs.Eigen.{aboveRows, tolerance, sweptRow, sweep, settled};

@@ -1,5 +1,4 @@
 -- `pairs` meets its contract: the diagonal decides, and then its order arranges the answer.
-use native.Mathlib.Omega.{arith}
 use mathlib.Core.Path.{_∙_}
 use borrow.Author.Needs.{needs}
 use Rattle.eigen.proofs.Pairs.{sorted-below, pairs-refused, pairs-made}

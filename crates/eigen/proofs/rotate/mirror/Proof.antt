@@ -1,8 +1,7 @@
 -- `mirror` meets its contract: before turn i the rows above row i have the copy.
-use Prim.Native.Nat.{_+_, _*_, _-_, _<_, _≤_}
+use Prim.Native.Nat.{_-_, _≤_}
 use native.Mathlib.Omega.{arith}
 use mathlib.Core.Path.{sym, _∙_}
-use lib.ListN.{length}
 use Rattle.dense.proofs.Laws.{cell}
 use Rattle.eigen.proofs.Cells.{Cells}
 use Rattle.eigen.proofs.Stores.{mirroredTo, mirror-none, mirror-next, mirror-more, mirror-all}

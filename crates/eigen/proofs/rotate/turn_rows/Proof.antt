@@ -1,8 +1,7 @@
 -- `turn_rows` meets its contract: before turn j the entries before column j are turned.
-use Prim.Native.Nat.{_+_, _*_, _-_, _<_, _≤_}
+use Prim.Native.Nat.{_-_, _≤_}
 use native.Mathlib.Omega.{arith}
 use mathlib.Core.Path.{sym, _∙_}
-use lib.ListN.{length}
 use Rattle.dense.proofs.Laws.{cell}
 use Rattle.eigen.proofs.Cells.{Cells}
 use Rattle.eigen.proofs.Stores.{turnedTo, turn-none, turn-next, turn-more, turn-all}
