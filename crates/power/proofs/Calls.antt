@@ -13,7 +13,7 @@ use Rattle.kernel.proofs.Answers.{answered-inj, ask-met}
 use Rattle.dense.specs.declared.Written.{Written}
 use Rattle.dense.specs.declared.Written.the-variants.{Done, Refused}
 use Rattle.dense.specs.Answer.{after, Leaves}
-use Rattle.dense.specs.Matrix.{matrix, side, long}
+use Rattle.dense.specs.Matrix.{matrix, long}
 use Rattle.dense.proofs.Tests.{never}
 use Rattle.linalg.specs.Products.{matVecMul, matAta}
 use Rattle.linalg.specs.Regularize.{dampedEntry, tikhonov}
