@@ -1,5 +1,5 @@
 -- `rebuild` meets its contract: before turn i the rows above row i are written.
-use Prim.Native.Nat.{ℕ, _+_, _*_, _-_, _≤_}
+use Prim.Native.Nat.{_+_, _*_, _-_, _≤_}
 use native.Mathlib.Omega.{arith}
 use lib.ListN.{length}
 use Rattle.dense.specs.Fill.{FilledRows}
@@ -14,16 +14,13 @@ Inv-loop v e n out₀ i₀ out i = (i ≤ n) × FilledRows (rebuiltEntry v e n) 
 abbrev μ-loop : tie.MeasureT-loop
 μ-loop v e n out₀ i₀ out i = n - i
 
--- the place where the function begins, and the order
-abbrev entered : tie.At-loop Inv-loop μ-loop → tie.Start Inv-loop μ-loop
-entered c = c .before .before .before .before
-
-abbrev order : tie.In-loop Inv-loop μ-loop → ℕ
-order c = entered (c .before) .args .n
+-- the place where the function begins
+abbrev entered : tie.In-loop Inv-loop μ-loop → tie.Start Inv-loop μ-loop
+entered c = c .before .before .before .before .before
 
 -- row i lies within the slice
-within : (c : tie.In-loop Inv-loop μ-loop) → c .before .loop .i * order c + order c ≤ length (c .before .loop .out)
-within c = omega (arith, row-within (order c) (order c) {i = c .before .loop .i} (omega arith))
+within : (c : tie.In-loop Inv-loop μ-loop) → let n = entered c .args .n in c .before .loop .i * n + n ≤ length (c .before .loop .out)
+within c = let n = entered c .args .n in omega (arith, row-within n n {i = c .before .loop .i} (omega arith))
 
 loop-holds : tie.Need-loop-holds Inv-loop μ-loop
 loop-holds c = (omega arith, rows-none _ _ _)
@@ -32,21 +29,21 @@ rebuilt-row-requires : tie.Need-rebuilt-row-requires Inv-loop μ-loop
 rebuilt-row-requires c κs =
     let in-loop = c .before in
     let turn = in-loop .before .loop in
-    let pre = entered (in-loop .before) .pre in
-    (omega arith, pre .0, pre .1, length-part (turn .out) (order in-loop) (turn .i) (within in-loop))
+    let start = entered in-loop in
+    (omega arith, start .pre .0, start .pre .1, length-part (turn .out) (start .args .n) (turn .i) (within in-loop))
 
 loop-again : tie.Need-loop-again Inv-loop μ-loop
 loop-again c =
     let after-rebuilt-row = c .before .before in
     let in-loop = after-rebuilt-row .before .before in
     let turn = in-loop .before .loop in
-    (omega arith, rows-more _ (order in-loop) (turn .i) (within in-loop) (after-rebuilt-row .rebuilt-row .ensures) (turn .inv .1))
+    (omega arith, rows-more _ (entered in-loop .args .n) (turn .i) (within in-loop) (after-rebuilt-row .rebuilt-row .ensures) (turn .inv .1))
 
 same-length : tie.Need-same-length Inv-loop μ-loop
 same-length c = c .before .loop .inv .1 .size
 
 returns : tie.Need-returns Inv-loop μ-loop
-returns c = rows-all _ _ _ (entered (c .before) .pre .2) (c .before .loop .inv .0) (c .loop-test .left) (c .before .loop .inv .1)
+returns c = rows-all _ _ _ (c .before .before .before .before .before .pre .2) (c .before .loop .inv .0) (c .loop-test .left) (c .before .loop .inv .1)
 
 pub rebuild-spec : {M : Type 1} → statement M
 rebuild-spec =
