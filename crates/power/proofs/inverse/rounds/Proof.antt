@@ -33,7 +33,7 @@ solved-at c = c .before .before .before .before .before
 abbrev normed : tie.After-dot Inv-loop μ-loop → tie.After-norm Inv-loop μ-loop
 normed c = c .before .before .before .before
 
--- the turn at which the solution was made, and what it holds of the arguments
+-- the turn at which the solution was made
 abbrev turn-of : tie.After-norm Inv-loop μ-loop → tie.At-loop Inv-loop μ-loop
 turn-of c = turned (solved-at c)
 
