@@ -1,4 +1,5 @@
--- What C is told follows from what the call promises.
+-- What C is told follows from what the call promises: `leaves-tells` of a call that writes a slice, `pairs-tell` of one that writes eigenpairs, `gives-tells` of one that
+-- gives a number, `reads-tells` and `writes-tells` of a list that is read and of one that is written.
 use Prim.Native.Nat.{ℕ}
 use mathlib.Core.Path.{_≡_, refl, ap, _∙_}
 use mathlib.Core.List.{List}

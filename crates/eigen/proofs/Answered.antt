@@ -8,7 +8,7 @@ use mathlib.Core.List.{List}
 use mathlib.Core.Path.{_≡_, refl, sym, ap, _∙_}
 use lib.Dec.{T}
 use lib.Ieee.{Float, lt}
-use Rattle.kernel.specs.Answer.{answered, ask}
+use Rattle.kernel.specs.Answer.{answered}
 use Rattle.kernel.specs.Lists.{tabulate}
 use Rattle.kernel.specs.Number.{finite}
 use Rattle.kernel.proofs.Answers.{ask-met, answered-inj}
@@ -20,7 +20,7 @@ use Rattle.eigen.specs.Rotation.{State}
 use Rattle.eigen.specs.Rows.{Below}
 use Rattle.eigen.specs.Eigen.{place, order, diagonal, arranged, Eigenpairs, pairsOf, begun, tolerance, settled, eigenpairs, matSymmetricEigen}
 use Rattle.eigen.proofs.Orders.{order-below}
-use Rattle.eigen.proofs.Sorting.{Descends, order-descends, Once, order-once, order-holds}
+use Rattle.eigen.proofs.Sorting.{Descends, order-descends, Once, order-once}
 use Rattle.eigen.proofs.Stability.{Numbers, Stable, order-stable}
 
 -- the state in which the sweeps end

@@ -9,14 +9,11 @@ use mathlib.Core.List.{List}
 use mathlib.Core.Path.{_≡_, refl, sym, ap, _∙_, subst}
 use borrow.Author.Tests.{eq-eqb, ne-eqb, lt-ltb, le-ltb}
 use lib.Dec.{eqb, ltb}
-use lib.Ieee.{Float, lt}
+use lib.Ieee.{Float}
 use lib.ListN.{length, take, set, length-set}
 use lib.Seq.{getD-set-same, getD-set-other, getD-take, length-take-le}
-use Rattle.kernel.specs.First.{firstBelow}
-use Rattle.kernel.specs.Lists.{tabulate}
 use Rattle.kernel.proofs.First.{first-ext, first-within}
 use Rattle.kernel.proofs.Lists.{length-tabulate, getD-tabulate, by-elements, tabulate-ext}
-use Rattle.dense.specs.Matrix.{nth}
 use Rattle.eigen.specs.Eigen.{place, spot, insertedAt, order}
 use Rattle.eigen.specs.Rows.{Below}
 

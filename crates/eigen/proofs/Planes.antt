@@ -1,17 +1,16 @@
 -- Order 2. `plane-begun` and `plane-tolerance`: where the sweeps start. `plane-rotated`: what a rotation makes of the seven numbers, and
 -- `plane-sweep`: a sweep is one. `plane-stops`: the test is on one square. `plane-pairs`: what is answered.
-use Prim.Native.Nat.{ℕ}
 use native.Mathlib.Omega.{arith}
 use mathlib.Core.Bool.{Bool, true, false, cond, _&&_}
 use mathlib.Core.List.{List, [], _∷_}
-use mathlib.Core.Path.{_≡_, refl, ap, _∙_}
+use mathlib.Core.Path.{_≡_, refl, ap}
 use lib.Ieee.{Float, lt}
 use lib.ListN.{length, set}
-use Rattle.kernel.specs.Answer.{Outcome, answered, ask}
+use Rattle.kernel.specs.Answer.{answered, ask}
 use Rattle.kernel.specs.Constants.{nought, half, one, relTol, minPositive}
 use Rattle.kernel.specs.First.{firstBelow}
 use Rattle.kernel.specs.Lists.{tabulate}
-use Rattle.kernel.specs.Number.{add, sub, mul, max, finite}
+use Rattle.kernel.specs.Number.{add, mul, max, finite}
 use Rattle.dense.specs.Matrix.{sumFrom, nth, matrix, finiteEntries}
 use Rattle.eigen.specs.declared.Plane.{Plane}
 use Rattle.eigen.specs.declared.Rotation.{Rotation}

@@ -1,22 +1,21 @@
--- Laws of the sums above the diagonal, of one pair, row or sweep more, and of the sweep at which the test stops. `row-symmetric`, `sweep-symmetric` and
--- `after-symmetric`: all states of a matrix that is symmetric bit by bit are.
-use Prim.Native.Nat.{ℕ, zero, suc, _+_, _*_, _-_, _<_, _≤_}
+-- Laws of the sums above the diagonal, of one pair, row or sweep more, and of the sweep at which the test stops. `row-symmetric` and `rows-symmetric`: the states of a
+-- matrix that is symmetric bit by bit are, so that the slices stay what a sweep asks for (`slices-rotated`, `slices-row`, `slices-swept`). `Sweeping` is what a loop
+-- of sweeps holds: `first-sweep`, `next-sweep`, and `stops-now` and `stops-never` where it ends.
+use Prim.Native.Nat.{ℕ, zero, suc, _+_, _-_, _<_, _≤_}
 use native.Mathlib.Omega.{arith}
 use native.Mathlib.Numerals.{add-one}
 use native.Mathlib.Nat.{le-antisymm}
-use mathlib.Core.Bool.{Bool, true, false}
+use mathlib.Core.Bool.{true, false}
 use mathlib.Core.List.{List}
 use mathlib.Core.Path.{_≡_, refl, sym, ap, _∙_, subst}
-use lib.Ieee.{Float, lt}
+use lib.Ieee.{Float}
 use lib.ListN.{length}
 use Rattle.kernel.specs.Number.{add, mul}
-use Rattle.kernel.specs.Constants.{nought}
-use Rattle.kernel.specs.First.{firstBelow}
-use Rattle.kernel.proofs.First.{first-more, first-found}
+use Rattle.kernel.proofs.First.{Standing, stands-first, stands-next, stopped, unstopped}
 use Rattle.dense.specs.Matrix.{sumFrom, at}
 use Rattle.dense.proofs.Laws.{sum-more}
 use Rattle.eigen.specs.Rotation.{State, rotated}
-use Rattle.eigen.specs.Rows.{Symmetric, stateOf}
+use Rattle.eigen.specs.Rows.{Symmetric, Slices, stateOf}
 use Rattle.eigen.specs.Eigen.{aboveRows, stops, sweptRow, sweptRows, sweep, afterSweeps, sweeps, settled}
 use Rattle.eigen.proofs.Rotations.{rotated-symmetric}
 
@@ -80,45 +79,47 @@ unfolding sweptRows
 rows-symmetric n s zero h = h
 rows-symmetric n s (suc p) h = row-symmetric n p (sweptRows n s p) (n - suc p) (rows-symmetric n s p h)
 
--- ---- sweeps
+-- ---- the slices that hold a state
 
-pub after-more : (n k : ℕ) (s : State) {t u : State} → t ≡ afterSweeps n s k → u ≡ sweep n t → u ≡ afterSweeps n s (k + 1)
-unfolding afterSweeps
-after-more n k s e f = f ∙ rw (add-one, e)
+-- after a call that keeps their lengths
+module _ {n : ℕ} {m v m₁ v₁ : List Float} (held : Slices n m v) (e : length m₁ ≡ length m) (f : length v₁ ≡ length v) where
+  next : {t : State} → stateOf n m₁ v₁ ≡ t → Symmetric n (t .entries) → Slices n m₁ v₁
+  next g h =
+      record {
+        matrix-size = e ∙ held .matrix-size;
+        vectors-size = f ∙ held .vectors-size;
+        symmetric = subst (λ (t : State). Symmetric n (t .entries)) (sym g) h;
+      }
 
-pub after-symmetric : (n : ℕ) (s : State) (k : ℕ) → Symmetric n (s .entries) → Symmetric n (afterSweeps n s k .entries)
-unfolding afterSweeps
-after-symmetric n s zero h = h
-after-symmetric n s (suc k) h = rows-symmetric n (afterSweeps n s k) n (after-symmetric n s k h)
+  pub slices-rotated : (p q : ℕ) → stateOf n m₁ v₁ ≡ rotated n p q (stateOf n m v) → Slices n m₁ v₁
+  slices-rotated p q g = next g (rotated-symmetric n p q (stateOf n m v) (held .symmetric))
 
--- the slices m and v hold the state s
-pub record Held (n : ℕ) (s : State) (m v : List Float) : Type 0 where
-  pub matrix-size : length m ≡ n * n
-  pub vectors-size : length v ≡ n * n
-  pub same : stateOf n m v ≡ s
+  pub slices-row : (p d : ℕ) → stateOf n m₁ v₁ ≡ sweptRow n p (stateOf n m v) d → Slices n m₁ v₁
+  slices-row p d g = next g (row-symmetric n p (stateOf n m v) d (held .symmetric))
 
-pub held-symmetric : {n : ℕ} {s : State} {m v : List Float} → Symmetric n (s .entries) → Held n s m v → Symmetric n m
-held-symmetric {n} h w = subst (λ (t : State). Symmetric n (t .entries)) (sym (w .same)) h
+  pub slices-swept : stateOf n m₁ v₁ ≡ sweep n (stateOf n m v) → Slices n m₁ v₁
+  slices-swept g = next g (rows-symmetric n (stateOf n m v) n (held .symmetric))
 
--- and after a call that keeps their lengths, what it has made of it
-pub held-next : {n : ℕ} {s t : State} {m v m₁ v₁ : List Float} → length m₁ ≡ length m → length v₁ ≡ length v → stateOf n m₁ v₁ ≡ t → Held n s m v → Held n t m₁ v₁
-held-next e f g w = record { matrix-size = e ∙ w .matrix-size; vectors-size = f ∙ w .vectors-size; same = g }
+-- ---- sweeps until the test stops them
 
--- ---- the sweep at which the test stops
+-- before sweep k from s no state has met the test, and t is the state
+pub record Sweeping (n : ℕ) (tol : Float) (s : State) (k : ℕ) (t : State) : Type 0 where
+  pub at : Standing (afterSweeps n s) (stops n tol) 64 k t
 
-module _ (n : ℕ) (tol : Float) (s : State) where
-  -- whether the test stops the state after k sweeps
-  abbrev pub stopsAt : ℕ → Bool
-  stopsAt k = stops n tol (afterSweeps n s k)
+module _ {n : ℕ} {tol : Float} {s : State} where
+  pub first-sweep : Sweeping n tol s 0 s
+  unfolding afterSweeps
+  first-sweep = record { at = stands-first refl }
 
-  pub test-at : (k : ℕ) (m v : List Float) {a : Float} → stateOf n m v ≡ afterSweeps n s k → a ≡ aboveRows m n n → lt a tol ≡ stopsAt k
-  unfolding stops
-  test-at k m v e f = rw (← e, f)
+  module _ {k : ℕ} {t : State} (b : Sweeping n tol s k t) where
+    pub next-sweep : {u : State} → k < 64 → stops n tol t ≡ false → u ≡ sweep n t → Sweeping n tol s (k + 1) u
+    unfolding afterSweeps
+    next-sweep h e f = record { at = stands-next (b .at) h e (f ∙ rw (add-one, b .at .reached)) }
 
-  pub stops-now : (k : ℕ) {t : State} → k < 64 → firstBelow k stopsAt ≡ k → stopsAt k ≡ true → t ≡ afterSweeps n s k → t ≡ settled n tol s
-  unfolding settled sweeps
-  stops-now k h p e f = f ∙ ap (afterSweeps n s) (sym (first-found stopsAt 64 k h p e))
+    pub stops-now : k < 64 → stops n tol t ≡ true → t ≡ settled n tol s
+    unfolding settled sweeps
+    stops-now h e = b .at .reached ∙ ap (afterSweeps n s) (sym (stopped (b .at) h e))
 
-  pub stops-never : (k : ℕ) {t : State} → k ≤ 64 → 64 ≤ k → firstBelow k stopsAt ≡ k → t ≡ afterSweeps n s k → t ≡ settled n tol s
-  unfolding settled sweeps
-  stops-never k h l p f = f ∙ ap (afterSweeps n s) (sym (ap (λ (j : ℕ). firstBelow j stopsAt) (le-antisymm l h) ∙ p))
+    pub stops-never : 64 ≤ k → t ≡ settled n tol s
+    unfolding settled sweeps
+    stops-never h = b .at .reached ∙ ap (afterSweeps n s) (sym (unstopped (b .at) h))

@@ -3,14 +3,13 @@
 use Prim.Native.Nat as Nat
 use Prim.Native.Nat.{ℕ, zero, suc, _+_, _*_, _-_, _<_, _≤_}
 use native.Mathlib.Omega.{arith}
-use native.Mathlib.Numerals.{add-one}
 use native.Mathlib.Decide.{ℕ-discrete}
-use mathlib.Core.Bool.{Bool, true, false, cond}
+use mathlib.Core.Bool.{Bool, true, false}
 use mathlib.Core.List.{List}
 use mathlib.Core.Path.{_≡_, refl, sym, ap, _∙_}
 use borrow.Author.Tests.{eq-eqb, ne-eqb, lt-ltb, le-ltb}
 use lib.Ieee as Ieee
-use lib.Ieee.{Float, lt, ofBits, binary64}
+use lib.Ieee.{Float, lt, ofBits}
 use Rattle.kernel.specs.Answer.{answered}
 use Rattle.kernel.specs.Constants.{nought, half, relTol, minPositive}
 use Rattle.kernel.specs.First.{firstBelow}
@@ -19,8 +18,8 @@ use Rattle.kernel.specs.Number.{add, mul, max, abs}
 use Rattle.dense.specs.Matrix.{sumFrom, nth, at, matrix, unitEntry, identity, finiteEntries}
 use Rattle.dense.proofs.Laws.{cell, nth-tabulate, at-matrix, matrix-ext, matrix-by-entries}
 use Rattle.kernel.proofs.Lists.{length-tabulate, tabulate-ext}
-use Rattle.eigen.specs.Eigen.{symmetrizedEntry, symmetrized, begun, aboveRows, tolerance, stops, sweptRow, sweptRows, afterSweeps, sweeps, settled}
-use Rattle.eigen.specs.Eigen.{place, spot, insertedAt, order, diagonal, arranged, pairsOf, eigenpairs}
+use Rattle.eigen.specs.Eigen.{symmetrizedEntry, begun, aboveRows, tolerance, stops, sweptRow, sweptRows, afterSweeps, sweeps, settled}
+use Rattle.eigen.specs.Eigen.{place, spot, order, diagonal, arranged, pairsOf, eigenpairs}
 use Rattle.eigen.proofs.Orders.{place-inserted, insertedElement, order-below}
 use Rattle.eigen.proofs.Answered.{eigenpairs-final}
 use Rattle.eigen.proofs.Sorting.{order-suc}

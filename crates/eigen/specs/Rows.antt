@@ -1,10 +1,11 @@
 -- What the code holds: the vectors as rows, and a rotation as it goes through rows.
-use Prim.Native.Nat.{ℕ, _<_}
+use Prim.Native.Nat.{ℕ, _*_, _<_}
 use mathlib.Core.Bool.{cond}
 use mathlib.Core.List.{List}
 use mathlib.Core.Path.{_≡_}
 use lib.Dec.{eqb}
 use lib.Ieee.{Float}
+use lib.ListN.{length}
 use Rattle.kernel.specs.Constants.{nought}
 use Rattle.dense.specs.Matrix.{at, matrix}
 use Rattle.eigen.specs.declared.Rotation.{Rotation}
@@ -18,6 +19,12 @@ Symmetric n m = (i j : ℕ) → i < n → j < n → at m n i j ≡ at m n j i
 -- the first k of l are below n
 unfoldable pub Below : ℕ → ℕ → List ℕ → Type 0
 Below n k l = (j : ℕ) → j < k → place l j < n
+
+-- what the sweeps ask of their slices: a symmetric matrix m, n by n, and the vectors v
+pub record Slices (n : ℕ) (m v : List Float) : Type 0 where
+  pub matrix-size : length m ≡ n * n
+  pub vectors-size : length v ≡ n * n
+  pub symmetric : Symmetric n m
 
 -- the state that m and the vectors, as the rows of v, stand for
 abbrev pub stateOf : ℕ → List Float → List Float → State

@@ -3,7 +3,7 @@ ghost use mathlib.Core.Path.{_≡_};
 ghost use Prim.Native.Nat.{_+_, _*_, _<_};
 ghost use lib.ListN.{length, set};
 ghost use Rattle.eigen.specs.Rotation.{rotated};
-ghost use Rattle.eigen.specs.Rows.{Symmetric, turnedRows, withCorners, mirrored, stateOf};
+ghost use Rattle.eigen.specs.Rows.{Slices, turnedRows, withCorners, mirrored, stateOf};
 use crate::Rotation;
 use crate::angle::is_negligible;
 use crate::angle::rotation;
@@ -54,7 +54,7 @@ fn mirror(m: &mut [f64], n: usize, p: usize)
 
 // Rotates the pair (p, q) of m, n by n, and of the vectors v, or skips it.
 pub(crate) fn rotate(m: &mut [f64], v: &mut [f64], n: usize, p: usize, q: usize)
-    requires { ⌜ (p < q) × (q < n) × (length (now m) ≡ n * n) × (length (now v) ≡ n * n) × Symmetric n (now m) ⌝ }
+    requires { ⌜ (p < q) × (q < n) × Slices n (now m) (now v) ⌝ }
     ensures { λ _. ⌜ stateOf n (now (m .exit)) (now (v .exit)) ≡ rotated n p q (stateOf n (now (m .entry)) (now (v .entry))) ⌝ }
 {
     let app = entry(m, n, p, p);

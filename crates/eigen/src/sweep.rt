@@ -1,12 +1,11 @@
 // Sweeps of rotations, and the test that stops them.
 ghost use mathlib.Core.Path.{_≡_};
-ghost use Prim.Native.Nat.{suc, _+_, _*_, _-_, _<_, _≤_};
+ghost use Prim.Native.Nat.{suc, _+_, _*_, _-_, _<_};
 ghost use lib.ListN.{length};
-ghost use lib.Ieee.{Float};
 ghost use Rattle.kernel.specs.Number.{mul};
 ghost use Rattle.dense.specs.Matrix.{at, sumFrom};
 ghost use Rattle.eigen.specs.Eigen.{aboveRows, tolerance, sweptRow, sweep, settled};
-ghost use Rattle.eigen.specs.Rows.{Symmetric, stateOf};
+ghost use Rattle.eigen.specs.Rows.{Slices, stateOf};
 use crate::rotate::rotate;
 use dense::shape::entry;
 use dense::vector::dot;
@@ -52,7 +51,7 @@ pub(crate) fn tolerance(m: &[f64], n: usize, size: usize) -> f64
 
 // Rotates the pairs of row p.
 fn sweep_row(m: &mut [f64], v: &mut [f64], n: usize, p: usize)
-    requires { ⌜ (p < n) × (length (now m) ≡ n * n) × (length (now v) ≡ n * n) × Symmetric n (now m) ⌝ }
+    requires { ⌜ (p < n) × Slices n (now m) (now v) ⌝ }
     ensures { λ _. ⌜ stateOf n (now (m .exit)) (now (v .exit)) ≡ sweptRow n p (stateOf n (now (m .entry)) (now (v .entry))) (n - suc p) ⌝ }
 {
     for q in p + 1..n {
@@ -62,7 +61,7 @@ fn sweep_row(m: &mut [f64], v: &mut [f64], n: usize, p: usize)
 
 // Rotates all pairs.
 fn sweep(m: &mut [f64], v: &mut [f64], n: usize)
-    requires { ⌜ (length (now m) ≡ n * n) × (length (now v) ≡ n * n) × Symmetric n (now m) ⌝ }
+    requires { ⌜ Slices n (now m) (now v) ⌝ }
     ensures { λ _. ⌜ stateOf n (now (m .exit)) (now (v .exit)) ≡ sweep n (stateOf n (now (m .entry)) (now (v .entry))) ⌝ }
 {
     for p in 0..n {
@@ -72,7 +71,7 @@ fn sweep(m: &mut [f64], v: &mut [f64], n: usize)
 
 // Sweeps until the squares above the diagonal fall below tol, and 64 times at most.
 pub(crate) fn settle(m: &mut [f64], v: &mut [f64], n: usize, tol: f64)
-    requires { ⌜ (length (now m) ≡ n * n) × (length (now v) ≡ n * n) × Symmetric n (now m) ⌝ }
+    requires { ⌜ Slices n (now m) (now v) ⌝ }
     ensures { λ _. ⌜ stateOf n (now (m .exit)) (now (v .exit)) ≡ settled n tol (stateOf n (now (m .entry)) (now (v .entry))) ⌝ }
 {
     for k in 0..SWEEPS {

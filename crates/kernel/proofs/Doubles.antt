@@ -1,4 +1,6 @@
--- Laws of doubles and their bit patterns.
+-- Laws of doubles and their bit patterns. What is no NaN: what equals itself (`equals-itself`), what is above 0 (`positive-no-nan`), what has a pattern up to that of
+-- +infinity (`no-nan-pattern`). `pattern-value`: a pattern below those of the infinities has the sign and the size of its fields; `positive-pattern`: the pattern of a
+-- finite double above 0 lies between 0 and infinity's, and shows its size. `pattern-size` and `pattern-positive`: the same from the pattern to the double.
 use Prim.Native.Nat.{ℕ, zero, suc, _+_, _*_, _/_, _%_, _^_, _≤_, _<_}
 use native.Mathlib.Nat.{pos-of-ne-zero, mod-eq-of-lt, mod-lt, mul-div-cancel, mul-one, zero-add, eq-or-lt-of-le}
 use native.Mathlib.Omega.{arith}

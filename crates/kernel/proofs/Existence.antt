@@ -1,4 +1,4 @@
--- Every finite double above 0 has a rounded root: what `rootPattern` finds is there.
+-- Every finite double above 0 has a rounded root. `root-found`: what `rootPattern` finds for its size is a pattern above 0 and below infinity's, and rounds the root.
 use Prim.Native.Nat.{ℕ, zero, suc, _+_, _-_, _*_, _/_, _%_, _^_, _≤_, _<_}
 use native.Mathlib.Nat.{pos-of-ne-zero, mul-le-mul-right, mul-lt-mul-of-pos-right}
 use native.Mathlib.Omega.{arith}

@@ -1,9 +1,11 @@
 -- Laws of the first number at which a test holds. `firstBelow k test ≡ k` says that the test holds at none below k; `first-more` takes one more such
 -- number, `first-found` ends the search at the first that holds. `first-at`: the test holds there, if that is below the limit; `first-before`: at none before.
+-- `Standing` is what a loop holds that goes from state to state until a test holds: `stands-first` begins it, `stands-next` makes a turn, and `stopped` and `unstopped`
+-- say where the test first holds, once it does or all turns are made.
 use Prim.Native.Nat.{ℕ, zero, suc, _+_, _<_, _≤_}
 use native.Mathlib.Omega.{arith}
 use native.Mathlib.Numerals.{add-one}
-use native.Mathlib.Nat.{eq-or-lt-of-le, le-of-suc-le-suc}
+use native.Mathlib.Nat.{eq-or-lt-of-le, le-of-suc-le-suc, le-antisymm}
 use mathlib.Core.Bool.{Bool, true, false, cond}
 use mathlib.Core.Logic.{⊎-elim}
 use mathlib.Core.Path.{_≡_, refl, sym, ap, _∙_}
@@ -61,3 +63,25 @@ first-ext zero test other h = refl
 first-ext (suc n) test other h =
     let w = first-within other n in
     rw (first-ext n test other (λ j l. h j (omega arith)), h (firstBelow n other) (omega arith))
+
+-- ---- a loop that goes from state to state until a test holds, max times at most
+
+-- before turn k no state has met the test, and the loop has come to the state u
+pub record Standing {S : Type 0} (state : ℕ → S) (test : S → Bool) (max k : ℕ) (u : S) : Type 0 where
+  pub low : k ≤ max
+  pub none : firstBelow k (λ j. test (state j)) ≡ k
+  pub reached : u ≡ state k
+
+module _ {S : Type 0} {state : ℕ → S} {test : S → Bool} {max : ℕ} where
+  pub stands-first : {u : S} → u ≡ state 0 → Standing state test max 0 u
+  stands-first e = record { low = omega arith; none = first-none (λ j. test (state j)); reached = e }
+
+  module _ {k : ℕ} {u : S} (at : Standing state test max k u) where
+    pub stands-next : {v : S} → k < max → test u ≡ false → v ≡ state (k + 1) → Standing state test max (k + 1) v
+    stands-next h e f = record { low = omega arith; none = first-more (λ j. test (state j)) k (at .none) (ap test (sym (at .reached)) ∙ e); reached = f }
+
+    pub stopped : k < max → test u ≡ true → firstBelow max (λ j. test (state j)) ≡ k
+    stopped h e = first-found (λ j. test (state j)) max k h (at .none) (ap test (sym (at .reached)) ∙ e)
+
+    pub unstopped : max ≤ k → firstBelow max (λ j. test (state j)) ≡ k
+    unstopped h = ap (λ (j : ℕ). firstBelow j (λ i. test (state i))) (le-antisymm h (at .low)) ∙ at .none

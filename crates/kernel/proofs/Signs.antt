@@ -1,4 +1,5 @@
--- What the comparisons with 0.0 tell of a number.
+-- What the comparisons with 0.0 tell of a number. `below-zero`: -infinity and the finite numbers with the sign - that are no zero are below it; `equals-zero`: the
+-- zeros of both signs equal it. A NaN passes neither test.
 use Prim.Native.Nat.{zero, suc, _+_, _*_}
 use native.Mathlib.Omega.{arith}
 use mathlib.Core.Path.{_≡_, refl}

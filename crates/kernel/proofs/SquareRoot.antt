@@ -1,4 +1,6 @@
--- The theorems of the square root: the doubles next to a double, what `sqrt` meets, that only one double meets it, and the special cases.
+-- The theorems of the square root. `sqrt-root`: the root of a finite number above 0 meets the condition `Root`; `root-unique`: only one double does; `sqrt-fits`: it
+-- fits the format. The special cases are `sqrt-nan`, `sqrt-infinity`, `sqrt-negative` and `sqrt-zero`. The doubles next to a double: `above-is-greater` and
+-- `below-is-less`, with none between (`next-above`, `next-below`).
 use Prim.Native.Nat.{ℕ, zero, suc, _+_, _-_, _*_, _^_, _≤_, _<_}
 use native.Mathlib.Nat.{le-of-lt}
 use native.Mathlib.Omega.{arith}

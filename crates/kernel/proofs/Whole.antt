@@ -1,4 +1,6 @@
--- Laws of the whole number nearest to a root.
+-- Laws of the whole number nearest to a root. `nearest-test`: what the test of number/root.rt decides; `nearest-range`: the root of a significand is a significand
+-- again. The digit recurrence holds `Digits`: `no-digits` begins it, `digit-taken` and `digit-passed` make one digit more, `sizes` bounds the numbers on the way.
+-- After the last digit `nearest-same`, `nearest-next` and `nearest-second` say which of three numbers is the nearest.
 use Prim.Native.Nat.{ℕ, zero, suc, pred, _+_, _-_, _*_, _/_, _^_, _≤_, _<_}
 use native.Mathlib.Nat.{mul-le-mul, le-dest, suc-pred-eq-of-pos, mul-le-mul-left, mul-le-mul-right, lt-of-mul-lt-mul-right, pow-succ'}
 use lib.Pow.{pow-pos, pow-mono}

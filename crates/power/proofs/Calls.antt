@@ -13,7 +13,7 @@ use Rattle.kernel.proofs.Answers.{answered-inj, ask-met}
 use Rattle.dense.specs.declared.Written.{Written}
 use Rattle.dense.specs.declared.Written.the-variants.{Done, Refused}
 use Rattle.dense.specs.Answer.{after, Leaves}
-use Rattle.dense.specs.Matrix.{matrix, side, long}
+use Rattle.dense.specs.Matrix.{matrix, long}
 use Rattle.dense.proofs.Tests.{never}
 use Rattle.linalg.specs.Products.{matVecMul, matAta}
 use Rattle.linalg.specs.Regularize.{dampedEntry, tikhonov}
@@ -21,6 +21,7 @@ use Rattle.pivoting.specs.Pivot.{rowNorms, someScale, pivoted}
 use Rattle.pivoting.specs.Solve.{start, reduced, matSolve, solved}
 use Rattle.power.specs.Power.{times, gram}
 use Rattle.power.specs.Condition.{solutionOf, isRefused}
+use Rattle.power.specs.Room.{Matrices, Vectors}
 
 long-of : (a : List Float) (n : ℕ) → length a ≡ n → long a n ≡ true
 unfolding long
@@ -42,35 +43,38 @@ answered-by (answered v) old l = ap (λ (z : Written × List Float). answered (z
 value-of : (p q : ℕ) (b c : Bool) (v : List Float) {w : List Float} → ask p b (ask q c (answered v)) ≡ answered w → v ≡ w
 value-of p q b c v e = answered-inj (ask-met q c (answered v) (ask-met p b (ask q c (answered v)) e .1) .1)
 
-module _ (n : ℕ) (s : side n ≡ true) (a : List Float) (h : length a ≡ n * n) where
-  pub times-left : (x old : List Float) {r : Written} {new : List Float} → length x ≡ n → length old ≡ n → Leaves (matVecMul a x n old) old r new → new ≡ times a n x
-  unfolding matVecMul times
-  times-left x old p q l = left (matVecMul a x n old) old (rw (s, long-of a (n * n) h, long-of x n p, long-of old n q)) l
+-- ---- with room for a matrix
 
-  pub gram-left : (old : List Float) {r : Written} {new : List Float} → length old ≡ n * n → Leaves (matAta a n n old) old r new → new ≡ gram a n
+module _ {n : ℕ} {a old : List Float} (m : Matrices n a old) {r : Written} {new : List Float} where
+  pub gram-left : Leaves (matAta a n n old) old r new → new ≡ gram a n
   unfolding matAta gram
-  gram-left old q l = left (matAta a n n old) old (rw (s, long-of a (n * n) h, long-of old (n * n) q)) l
+  gram-left l = left (matAta a n n old) old (rw (m .order, long-of a (n * n) (m .matrix), long-of old (n * n) (m .room))) l
 
-  pub damped-left : (alpha : Float) (old : List Float) {r : Written} {new : List Float} → length old ≡ n * n → Leaves (tikhonov a alpha n old) old r new
-      → new ≡ matrix n n (dampedEntry a n alpha)
+  pub damped-left : (alpha : Float) → Leaves (tikhonov a alpha n old) old r new → new ≡ matrix n n (dampedEntry a n alpha)
   unfolding tikhonov
-  damped-left alpha old q l = left (tikhonov a alpha n old) old (rw (s, long-of a (n * n) h, long-of old (n * n) q)) l
+  damped-left alpha l = left (tikhonov a alpha n old) old (rw (m .order, long-of a (n * n) (m .matrix), long-of old (n * n) (m .room))) l
+
+-- ---- with a vector, and room for another
+
+-- r tells whether a solution was written
+abbrev pub Solves : List Float → ℕ → List Float → Bool → List Float → Type 0
+Solves a n x r new = (r ≡ not (isRefused (solved a x n 1))) × (r ≡ true → new ≡ solutionOf a n x)
+
+module _ {n : ℕ} {a x old : List Float} (m : Vectors n a x old) where
+  pub times-left : {r : Written} {new : List Float} → Leaves (matVecMul a x n old) old r new → new ≡ times a n x
+  unfolding matVecMul times
+  times-left l = left (matVecMul a x n old) old (rw (m .order, long-of a (n * n) (m .matrix), long-of x n (m .left), long-of old n (m .right))) l
 
   -- the questions on sides and lengths are met
-  asked : (x old : List Float) → length x ≡ n → length old ≡ n → matSolve a x n old ≡ solved a x n 1
+  asked : matSolve a x n old ≡ solved a x n 1
   unfolding matSolve
-  asked x old p q = rw (s, long-of a (n * n) h, long-of x n p, long-of old n q)
+  asked = rw (m .order, long-of a (n * n) (m .matrix), long-of x n (m .left), long-of old n (m .right))
 
-  -- r tells whether a solution was written
-  abbrev pub Solves : List Float → Bool → List Float → Type 0
-  Solves x r new = (r ≡ not (isRefused (solved a x n 1))) × (r ≡ true → new ≡ solutionOf a n x)
+  pub solve-refused : {r : Written} {new : List Float} {k : ℕ} → r ≡ Refused k → Leaves (matSolve a x n old) old r new → Solves a n x false new
+  solve-refused e l = (rw (sym asked, refused-by (matSolve a x n old) old (rw e at l)), λ t. never t)
 
-  module _ (x old : List Float) {r : Written} {new : List Float} (p : length x ≡ n) (q : length old ≡ n) where
-    pub solve-refused : {k : ℕ} → r ≡ Refused k → Leaves (matSolve a x n old) old r new → Solves x false new
-    solve-refused e l = (rw (sym (asked x old p q), refused-by (matSolve a x n old) old (rw e at l)), λ t. never t)
-
-    pub solve-done : r ≡ Done → Leaves (matSolve a x n old) old r new → Solves x true new
-    unfolding solved
-    solve-done e l =
-        let o : solved a x n 1 ≡ answered new = sym (asked x old p q) ∙ answered-by (matSolve a x n old) old (rw e at l) in
-        (rw o, λ t. sym (value-of 5 6 (someScale n (rowNorms a n)) (pivoted n (n + 1) (reduced n (n + 1) (start a x n 1)) n) (solutionOf a n x) o))
+  pub solve-done : {r : Written} {new : List Float} → r ≡ Done → Leaves (matSolve a x n old) old r new → Solves a n x true new
+  unfolding solved
+  solve-done {new = new} e l =
+      let o : solved a x n 1 ≡ answered new = sym asked ∙ answered-by (matSolve a x n old) old (rw e at l) in
+      (rw o, λ t. sym (value-of 5 6 (someScale n (rowNorms a n)) (pivoted n (n + 1) (reduced n (n + 1) (start a x n 1)) n) (solutionOf a n x) o))

@@ -1,5 +1,6 @@
--- Laws of the rounds of the power iteration. `round-made`: what a round computes is `converges` and `advanced`. `goes-on`, `ends-vanished`, `ends-converged` and
--- `ends-after-all`: the loop stands at the first round that is the last, or after all. `no-rounds`: with max_iter 0 the start is left, with its Rayleigh quotient.
+-- Laws of the rounds of the power iteration. `round-made`: what a round computes is `converges` and `advanced`. `Before` is what the loop holds before round k: `begun`
+-- at the first, `goes-on` after a round that is not the last; `ends-vanished`, `ends-converged` and `ends-after-all`: what it leaves. `stays`: a vector that a round
+-- leaves as it is. `no-rounds`: with max_iter 0 the start is left, with its Rayleigh quotient.
 use Prim.Native.Nat.{ℕ, zero, suc, _+_, _*_, _<_, _≤_}
 use native.Mathlib.Numerals.{add-one}
 use mathlib.Core.Bool.{Bool, true, false, cond, _&&_}
@@ -13,86 +14,96 @@ use Rattle.kernel.specs.Constants.{nought, vanishing}
 use Rattle.kernel.specs.First.{firstBelow}
 use Rattle.kernel.specs.Lists.{tabulate}
 use Rattle.kernel.specs.Number.{sub, mul, div}
-use Rattle.kernel.proofs.First.{first-more}
+use Rattle.kernel.proofs.First.{Standing, stands-first, stands-next}
 use Rattle.kernel.proofs.Lists.{length-tabulate}
 use Rattle.dense.specs.Matrix.{nth, side, long}
 use Rattle.linalg.specs.Norms.{norm}
 use Rattle.power.specs.Power.{times, dotProduct, rayleigh, residual, advanced, signOf, roundValue}
 use Rattle.power.specs.Power.{vanishes, isSmall, converges, afterRounds, isLast, eigenpair, refined, concluded, lastRound}
 use Rattle.power.specs.Power.{iterated, evenVector, dominant, matEigenvectorMax}
-use Rattle.power.proofs.Stops.{stopped, unstopped}
+use Rattle.power.specs.Room.{Multiplied, Rounded}
+use Rattle.power.proofs.Stops.{ends-stopped, ends-unstopped}
 
-pub length-times : (a : List Float) (n : ℕ) (x : List Float) {w : List Float} → w ≡ times a n x → length w ≡ n
+length-times : (a : List Float) (n : ℕ) (x : List Float) {w : List Float} → w ≡ times a n x → length w ≡ n
 unfolding times
 length-times a n x e = ap length e ∙ length-tabulate n _
 
-pub length-advanced : (a : List Float) (n : ℕ) (v : List Float) {w : List Float} → w ≡ advanced a n v → length w ≡ n
+length-advanced : (a : List Float) (n : ℕ) (v : List Float) {w : List Float} → w ≡ advanced a n v → length w ≡ n
 unfolding advanced
 length-advanced a n v e = ap length e ∙ length-tabulate n _
 
--- ---- one round
+-- ---- one round, from the vector v and its product w
 
-pub vanish-test : (a : List Float) (n : ℕ) (v : List Float) {w : List Float} {size : Float} → w ≡ times a n v → size ≡ norm w n → lt size vanishing ≡ vanishes a n v
-unfolding vanishes
-vanish-test a n v p s = rw (s, p)
+module _ {n : ℕ} {a v w : List Float} (m : Multiplied n a v w) where
+  pub product-size : length w ≡ n
+  product-size = length-times a n v (m .product)
 
-module _ (a : List Float) (n : ℕ) (tol : Float) (v w : List Float) (size : Float) (p : w ≡ times a n v) (s : size ≡ norm w n) where
-  -- the size is the norm of the product
-  sized : size ≡ norm (times a n v) n
-  sized = s ∙ ap (λ (x : List Float). norm x n) p
+  module _ {size : Float} (s : size ≡ norm w n) where
+    -- the size is the norm of the product
+    sized : size ≡ norm (times a n v) n
+    sized = s ∙ ap (λ (x : List Float). norm x n) (m .product)
 
-  valued : {d g : Float} → d ≡ dotProduct w v n → g ≡ signOf d → mul g size ≡ roundValue a n v
-  unfolding roundValue
-  valued d g = rw (g, d, sized, p)
+    valued : {d g : Float} → d ≡ dotProduct w v n → g ≡ signOf d → mul g size ≡ roundValue a n v
+    unfolding roundValue
+    valued d g = rw (g, d, sized, m .product)
 
-  moved : {u : List Float} → u ≡ tabulate n (λ i. div (nth w i) size) → u ≡ advanced a n v
-  unfolding advanced
-  moved e = e ∙ rw (sized, p)
+    moved : {u : List Float} → u ≡ tabulate n (λ i. div (nth w i) size) → u ≡ advanced a n v
+    unfolding advanced
+    moved e = e ∙ rw (sized, m .product)
 
-  pub round-made : {d g r : Float} {u x : List Float} {q : Bool} → d ≡ dotProduct w v n → g ≡ signOf d → u ≡ tabulate n (λ i. div (nth w i) size) → x ≡ times a n u
-      → r ≡ norm (tabulate n (λ i. sub (nth x i) (mul (mul g size) (nth u i)))) n → q ≡ isSmall tol (mul g size) r
-      → (q ≡ converges a n tol v) × (u ≡ advanced a n v) × (x ≡ times a n u)
-  unfolding converges residual
-  round-made ed eg eu ex er eq = (eq ∙ rw (er, ex, valued ed eg, moved eu), moved eu, ex)
+    pub round-made : {tol d g r : Float} {u x : List Float} {q : Bool} → d ≡ dotProduct w v n → g ≡ signOf d → u ≡ tabulate n (λ i. div (nth w i) size) → x ≡ times a n u
+        → r ≡ norm (tabulate n (λ i. sub (nth x i) (mul (mul g size) (nth u i)))) n → q ≡ isSmall tol (mul g size) r
+        → Rounded a n tol v q u x
+    unfolding converges residual
+    round-made ed eg eu ex er eq = record { converged = eq ∙ rw (er, ex, valued ed eg, moved eu); vector = moved eu; product = ex }
 
 -- ---- all rounds
 
-module _ (a : List Float) (n max : ℕ) (tol : Float) (v : List Float) where
-  -- whether round k from v is the last
-  abbrev pub lastAt : ℕ → Bool
-  lastAt k = isLast a n tol (afterRounds a n v k)
+-- before round k of at most max from v: none was the last, u is the vector, and w its product
+pub record Before (a : List Float) (n max : ℕ) (tol : Float) (v : List Float) (k : ℕ) (u w : List Float) : Type 0 where
+  pub at : Standing (afterRounds a n v) (isLast a n tol) max k u
+  pub vector : length u ≡ n
+  pub product : w ≡ times a n u
 
-  pub begun : v ≡ afterRounds a n v 0
+module _ {a : List Float} {n max : ℕ} {tol : Float} {v : List Float} where
+  pub begun : {w : List Float} → length v ≡ n → w ≡ times a n v → Before a n max tol v 0 v w
   unfolding afterRounds
-  begun = refl
+  begun l p = record { at = stands-first refl; vector = l; product = p }
 
-  -- one round more
-  pub more : (k : ℕ) {u x : List Float} → u ≡ afterRounds a n v k → x ≡ advanced a n u → x ≡ afterRounds a n v (k + 1)
-  unfolding afterRounds
-  more k e f = f ∙ rw (add-one, e)
+  module _ {k : ℕ} {u w : List Float} (b : Before a n max tol v k u w) where
+    pub wide : length w ≡ n
+    wide = length-times a n u (b .product)
 
-  module _ (k : ℕ) (u : List Float) (e : u ≡ afterRounds a n v k) (f : firstBelow k lastAt ≡ k) where
-    pub goes-on : vanishes a n u ≡ false → converges a n tol u ≡ false → firstBelow (k + 1) lastAt ≡ k + 1
-    unfolding isLast
-    goes-on p q = first-more lastAt k f (rw (sym e, p, q))
+    -- what the test of the norm says
+    pub vanish-test : {size : Float} → size ≡ norm w n → lt size vanishing ≡ vanishes a n u
+    unfolding vanishes
+    vanish-test s = rw (s, b .product)
+
+    pub goes-on : {q : Bool} {x y : List Float} → k < max → vanishes a n u ≡ false → Rounded a n tol u q x y → q ≡ false → Before a n max tol v (k + 1) x y
+    unfolding isLast afterRounds
+    goes-on h p r e =
+        let o : converges a n tol u ≡ false = sym (r .converged) ∙ e in
+        record { at = stands-next (b .at) h (rw (p, o)) (r .vector ∙ rw (add-one, b .at .reached)); vector = length-advanced a n u (r .vector); product = r .product }
+
+    -- the end at the last round
+    concludes : k < max → isLast a n tol u ≡ true → concluded a n u ≡ iterated a n max tol v
+    unfolding iterated lastRound
+    concludes h e = sym (ends-stopped (concluded a n) (refined a n) (b .at) h e)
 
     pub ends-vanished : k < max → vanishes a n u ≡ true → eigenpair u nought ≡ iterated a n max tol v
-    unfolding iterated lastRound isLast concluded
-    ends-vanished h p =
-        sym (stopped lastAt (λ j. concluded a n (afterRounds a n v j)) (λ j. refined a n (afterRounds a n v j)) max k h f (rw (sym e, p)) ∙ rw (sym e, p))
+    unfolding isLast concluded
+    ends-vanished h p = rw p at (concludes h (rw p))
 
-    pub ends-converged : {x y : List Float} {r : Float} → k < max → vanishes a n u ≡ false → converges a n tol u ≡ true → x ≡ advanced a n u → y ≡ times a n x
-        → r ≡ dotProduct x y n → eigenpair x r ≡ iterated a n max tol v
-    unfolding iterated lastRound isLast concluded refined rayleigh
-    ends-converged h p q ex ey er =
-        rw (er, ey, ex)
-        (sym (stopped lastAt (λ j. concluded a n (afterRounds a n v j)) (λ j. refined a n (afterRounds a n v j)) max k h f (rw (sym e, p, q)) ∙ rw (sym e, p)))
+    pub ends-converged : {q : Bool} {x y : List Float} {r : Float} → k < max → vanishes a n u ≡ false → Rounded a n tol u q x y → q ≡ true → r ≡ dotProduct x y n
+        → eigenpair x r ≡ iterated a n max tol v
+    unfolding isLast concluded refined rayleigh
+    ends-converged h p o e er =
+        let t : converges a n tol u ≡ true = sym (o .converged) ∙ e in
+        rw (er, o .product, o .vector) (rw p at (concludes h (rw (p, t))))
 
-    pub ends-after-all : {y : List Float} {r : Float} → k ≤ max → max ≤ k → y ≡ times a n u → r ≡ dotProduct u y n → eigenpair u r ≡ iterated a n max tol v
+    pub ends-after-all : {r : Float} → max ≤ k → r ≡ dotProduct u w n → eigenpair u r ≡ iterated a n max tol v
     unfolding iterated lastRound refined rayleigh
-    ends-after-all h l ey er =
-        rw (er, ey)
-        (sym (unstopped lastAt (λ j. concluded a n (afterRounds a n v j)) (λ j. refined a n (afterRounds a n v j)) max k h l f ∙ rw (sym e)))
+    ends-after-all h er = rw (er, b .product) (sym (ends-unstopped (concluded a n) (refined a n) (b .at) h))
 
 -- ---- a vector that a round leaves as it is
 

@@ -20,7 +20,7 @@ use Rattle.kernel.specs.Lists.{tabulate}
 use Rattle.kernel.specs.Sqrt.{scaled, sqrt}
 use Rattle.dense.specs.Matrix.{sumFrom, nth}
 use Rattle.linalg.specs.Norms.{norm}
-use Rattle.kernel.proofs.First.{first-none}
+use lib.ListN.{length}
 use Rattle.pivoting.specs.Solve.{solved}
 use Rattle.power.specs.Power.{times, advanced, vanishes, Eigenpair, eigenpair, evenVector, iterated, dominant}
 use Rattle.power.specs.Condition.{maxRounds, iterate, isRefused, normalized, deflated, startIndex, iteratedRatio, ratioFrom, ratioOf}
@@ -41,15 +41,16 @@ on-right false e = refl
 
 -- every solution is refused
 module _ (y : Float) (no : (x : List Float) → isRefused (solved (y ∷ []) x 1 1) ≡ true) where
-  refused-rounds : (sigma : Float) (x : List Float) (l : Float) → iteratedRatio (y ∷ []) 1 sigma (iterate x l) ≡ infinity
-  refused-rounds sigma x l =
-      sym
-      (inverse.ends-failed (y ∷ []) 1 sigma (iterate x l) 0 x l (inverse.begun (y ∷ []) 1 sigma (iterate x l)) (first-none _) (omega arith)
-      (inverse.fails-refused (y ∷ []) 1 x l (ap not (no x))) refl)
+  refused-rounds : (sigma : Float) (x : List Float) → length x ≡ 1 → iteratedRatio (y ∷ []) 1 sigma (iterate x nought) ≡ infinity
+  refused-rounds sigma x w =
+      let start : inverse.Before (y ∷ []) 1 (iterate x nought) 0 x nought x = inverse.begun w w in
+      sym (inverse.ends-failed start sigma (omega arith) (inverse.fails-refused start (ap not (no x))) refl)
 
   refused-from : (sigma : Float) (v : List Float) → ratioFrom (y ∷ []) 1 sigma v ≡ infinity
   unfolding ratioFrom
-  refused-from sigma v = on-right (ltb (startIndex v 1) 1) (refused-rounds sigma (normalized (deflated v 1 (startIndex v 1)) 1) nought)
+  refused-from sigma v =
+      let e = deflated v 1 (startIndex v 1) in
+      on-right (ltb (startIndex v 1) 1) (refused-rounds sigma (normalized e 1) (inverse.length-normalized e 1 refl))
 
   pub refused-ratio : (p : Eigenpair) → ratioOf (y ∷ []) 1 p ≡ infinity
   unfolding ratioOf
@@ -92,9 +93,9 @@ even-one = refl
 pub vanished-ratio : (g : List Float) → vanishes g 1 (one ∷ []) ≡ true → ratioOf g 1 (dominant g 1 maxRounds relTol) ≡ infinity
 unfolding dominant
 vanished-ratio g h =
+    let start : power.Before g 1 maxRounds relTol (one ∷ []) 0 (one ∷ []) (times g 1 (one ∷ [])) = power.begun refl refl in
     ap (λ (v : List Float). ratioOf g 1 (iterated g 1 maxRounds relTol v)) even-one
-    ∙ ap (ratioOf g 1)
-    (sym (power.ends-vanished g 1 maxRounds relTol (one ∷ []) 0 (one ∷ []) (power.begun g 1 maxRounds relTol (one ∷ [])) (first-none (power.lastAt g 1 maxRounds relTol (one ∷ []))) (omega arith) h))
+    ∙ ap (ratioOf g 1) (sym (power.ends-vanished start (omega arith) h))
     ∙ zero-ratio g (one ∷ [])
 
 -- the first vector stays

@@ -14,7 +14,6 @@ use Rattle.kernel.proofs.SquareRoot.{sqrt-infinity}
 use Rattle.dense.specs.Matrix.{sumFrom, nth}
 use Rattle.linalg.specs.Norms.{norm}
 use Rattle.kernel.specs.Lists.{tabulate}
-use Rattle.kernel.proofs.First.{first-none}
 use Rattle.power.specs.Power.{times, dotProduct, residual, advanced, signOf, roundValue, vanishes, isSmall, converges, iterated, dominant}
 use Rattle.power.specs.Condition.{maxRounds, ratioOf}
 use Rattle.power.proofs.Iteration as power
@@ -99,11 +98,10 @@ module _ (s : Float) (f : T (fits binary64 s)) (h : T (positive s)) (over : mul 
   pub over-ratio : ratioOf g 1 (dominant g 1 maxRounds relTol) ≡ infinity
   unfolding dominant
   over-ratio =
-      let start = power.begun g 1 maxRounds relTol first in
-      let none = first-none (power.lastAt g 1 maxRounds relTol first) in
+      let start : power.Before g 1 maxRounds relTol first 0 first (times g 1 first) = power.begun refl refl in
+      let after : power.Before g 1 maxRounds relTol first 1 second (times g 1 second) =
+      power.goes-on start (omega arith) stands (record { converged = refl; vector = sym stepped; product = refl }) open-round
+      in
       ap (λ (v : List Float). ratioOf g 1 (iterated g 1 maxRounds relTol v)) even-one
-      ∙ ap (ratioOf g 1)
-      (sym
-      (power.ends-vanished g 1 maxRounds relTol first 1 second (power.more g 1 maxRounds relTol first 0 start (sym stepped))
-      (power.goes-on g 1 maxRounds relTol first 0 first start none stands open-round) (omega arith) vanished))
+      ∙ ap (ratioOf g 1) (sym (power.ends-vanished after (omega arith) vanished))
       ∙ zero-ratio g second

@@ -1,23 +1,19 @@
--- Laws of an iteration that ends at the first round whose test holds, or after the last. `stopped`: at such a round; `unstopped`: after the last.
+-- What an iteration leaves that ends at the first state that meets a test, or after the last. `ends-stopped`: where a state meets it; `ends-unstopped`: where none did.
 use Prim.Native.Nat.{ℕ, _<_, _≤_}
-use native.Mathlib.Nat.{le-antisymm}
 use mathlib.Core.Bool.{Bool, true, cond}
-use mathlib.Core.Path.{_≡_, ap, _∙_}
+use mathlib.Core.Path.{_≡_}
 use borrow.Author.Tests.{lt-ltb, le-ltb}
 use lib.Dec.{ltb}
 use Rattle.kernel.specs.First.{firstBelow}
-use Rattle.kernel.proofs.First.{first-found}
+use Rattle.kernel.proofs.First.{Standing, stopped, unstopped}
 
-module _ {B : Type 0} (test : ℕ → Bool) (f g : ℕ → B) (max : ℕ) where
-  -- what is left: f of the round at which it stopped, or g of max
-  abbrev pub ending : B
-  ending = let k = firstBelow max test in cond (ltb k max) (f k) (g k)
+-- f of the state that met the test, or g of the last
+abbrev ending : {S B : Type 0} → (ℕ → S) → (S → Bool) → ℕ → (S → B) → (S → B) → B
+ending state test max f g = let k = firstBelow max (λ j. test (state j)) in cond (ltb k max) (f (state k)) (g (state k))
 
-  pub stopped : (k : ℕ) → k < max → firstBelow k test ≡ k → test k ≡ true → ending ≡ f k
-  stopped k h p e = rw (first-found test max k h p e, lt-ltb k max h)
+module _ {S B : Type 0} {state : ℕ → S} {test : S → Bool} {max k : ℕ} {u : S} (f g : S → B) (at : Standing state test max k u) where
+  pub ends-stopped : k < max → test u ≡ true → ending state test max f g ≡ f u
+  ends-stopped h e = rw (stopped at h e, lt-ltb k max h, at .reached)
 
-  pub unstopped : (k : ℕ) → k ≤ max → max ≤ k → firstBelow k test ≡ k → ending ≡ g k
-  unstopped k h l p =
-      let m : k ≡ max = le-antisymm h l in
-      let q : firstBelow max test ≡ k = ap (λ (j : ℕ). firstBelow j test) (le-antisymm l h) ∙ p in
-      rw (q, le-ltb k max l)
+  pub ends-unstopped : max ≤ k → ending state test max f g ≡ g u
+  ends-unstopped h = rw (unstopped at h, le-ltb k max h, at .reached)

@@ -7,6 +7,7 @@ ghost use Rattle.dense.specs.Answer.{given};
 ghost use Rattle.dense.specs.Matrix.{side};
 ghost use Rattle.power.specs.Power.{eigenpair, gram, dominant, singularValue, matEigenvectorMax, afterEigenpair, matLargestSingularValue};
 ghost use Rattle.power.specs.Condition.{conditionNumber};
+ghost use Rattle.power.specs.Room.{Spaces};
 use crate::inverse::condition;
 use crate::inverse::gram;
 use crate::rounds::dominant;
@@ -60,7 +61,7 @@ fn largest_in(
     v: &mut [f64],
     w: &mut [f64],
 ) -> f64
-    requires { ⌜ (side n ≡ true) × (length (now a) ≡ n * n) × (length (now g) ≡ n * n) × (length (now v) ≡ n) × (length (now w) ≡ n) ⌝ }
+    requires { ⌜ Spaces n (now a) (now g) (now v) (now w) ⌝ }
     ensures { λ r. ⌜ r ≡ singularValue (dominant (gram (now (a .entry)) n) n «max_iter» tol .value) ⌝ }
 {
     gram(a, n, g);

@@ -12,6 +12,7 @@ ghost use Rattle.linalg.specs.Norms.{norm};
 ghost use Rattle.pivoting.specs.Solve.{unitVector, solved};
 ghost use Rattle.power.specs.Power.{gram, eigenpair};
 ghost use Rattle.power.specs.Condition.{normalized, deflated, isStart, startIndex, iterate, solutionOf, isRefused, isSteady, ratio, iteratedRatio, ratioOf, condition};
+ghost use Rattle.power.specs.Room.{Matrices, Vectors, Spaces, Starting, Deflating};
 use crate::rounds::dominant;
 use crate::vector::fill;
 use crate::vector::multiply;
@@ -50,7 +51,7 @@ fn take(d: f64, v: &[f64], n: usize, y: &mut [f64])
 
 // Writes unit vector k, less its part along v.
 fn deflate(v: &[f64], n: usize, k: usize, y: &mut [f64])
-    requires { ⌜ (k < n) × (length (now v) ≡ n) × (length (now y) ≡ n) ⌝ }
+    requires { ⌜ Deflating n k (now v) (now y) ⌝ }
     ensures { λ _. ⌜ now (y .exit) ≡ deflated (now (v .entry)) n k ⌝ }
 {
     unit_vector(n, k, y);
@@ -78,7 +79,7 @@ fn normalize(x: &[f64], s: f64, n: usize, y: &mut [f64])
 
 // Writes the start that v leaves to x, where there is one; y is room for a vector.
 fn start(v: &[f64], n: usize, y: &mut [f64], x: &mut [f64]) -> bool
-    requires { ⌜ (length (now v) ≡ n) × (length (now y) ≡ n) × (length (now x) ≡ n) ⌝ }
+    requires { ⌜ Starting n (now v) (now y) (now x) ⌝ }
     ensures { λ r. ⌜ (r ≡ ltb (startIndex (now (v .entry)) n) n) × (r ≡ true → now (x .exit) ≡ normalized (deflated (now (v .entry)) n (startIndex (now (v .entry)) n)) n) ⌝ }
 {
     for k in 0..n {
@@ -94,7 +95,7 @@ fn start(v: &[f64], n: usize, y: &mut [f64], x: &mut [f64]) -> bool
 
 // Whether g y = x has a solution, which is written to y.
 fn solve(g: &[f64], x: &[f64], n: usize, y: &mut [f64]) -> bool
-    requires { ⌜ (side n ≡ true) × (length (now g) ≡ n * n) × (length (now x) ≡ n) × (length (now y) ≡ n) ⌝ }
+    requires { ⌜ Vectors n (now g) (now x) (now y) ⌝ }
     ensures { λ r. ⌜ (r ≡ not (isRefused (solved (now (g .entry)) (now (x .entry)) n 1))) × (r ≡ true → now (y .exit) ≡ solutionOf (now (g .entry)) n (now (x .entry))) ⌝ }
 {
     match mat_solve(g, x, n, y) {
@@ -122,7 +123,7 @@ fn ratio(sigma: f64, estimate: f64) -> f64
 
 // The condition number by at most 500 rounds from x; y is room for a vector.
 fn rounds(g: &[f64], n: usize, sigma: f64, x: &mut [f64], y: &mut [f64]) -> f64
-    requires { ⌜ (side n ≡ true) × (length (now g) ≡ n * n) × (length (now x) ≡ n) × (length (now y) ≡ n) ⌝ }
+    requires { ⌜ Vectors n (now g) (now x) (now y) ⌝ }
     ensures { λ r. ⌜ r ≡ iteratedRatio (now (g .entry)) n sigma (iterate (now (x .entry)) nought) ⌝ }
 {
     let mut estimate = 0.0;
@@ -146,7 +147,7 @@ fn rounds(g: &[f64], n: usize, sigma: f64, x: &mut [f64], y: &mut [f64]) -> f64
 
 // The condition number by the greatest eigenvalue of g and its vector v; x and y are room for vectors.
 fn ratio_of(g: &[f64], n: usize, lambda: f64, v: &[f64], x: &mut [f64], y: &mut [f64]) -> f64
-    requires { ⌜ (side n ≡ true) × (length (now g) ≡ n * n) × (length (now v) ≡ n) × (length (now x) ≡ n) × (length (now y) ≡ n) ⌝ }
+    requires { ⌜ Vectors n (now g) (now x) (now y) × (length (now v) ≡ n) ⌝ }
     ensures { λ r. ⌜ r ≡ ratioOf (now (g .entry)) n (eigenpair (now (v .entry)) lambda) ⌝ }
 {
     if lambda <= 0.0 {
@@ -161,7 +162,7 @@ fn ratio_of(g: &[f64], n: usize, lambda: f64, v: &[f64], x: &mut [f64], y: &mut 
 
 // Writes the product of the transpose of a, n by n, and a.
 pub(crate) fn gram(a: &[f64], n: usize, g: &mut [f64])
-    requires { ⌜ (side n ≡ true) × (length (now a) ≡ n * n) × (length (now g) ≡ n * n) ⌝ }
+    requires { ⌜ Matrices n (now a) (now g) ⌝ }
     ensures { λ _. ⌜ now (g .exit) ≡ gram (now (a .entry)) n ⌝ }
 {
     mat_ata(a, n, n, g);
@@ -176,7 +177,7 @@ fn condition_in(
     x: &mut [f64],
     y: &mut [f64],
 ) -> f64
-    requires { ⌜ (side n ≡ true) × (length (now a) ≡ n * n) × (length (now g) ≡ n * n) × (length (now v) ≡ n) × (length (now x) ≡ n) × (length (now y) ≡ n) ⌝ }
+    requires { ⌜ Spaces n (now a) (now g) (now v) (now y) × (length (now x) ≡ n) ⌝ }
     ensures { λ r. ⌜ r ≡ condition (now (a .entry)) n ⌝ }
 {
     gram(a, n, g);

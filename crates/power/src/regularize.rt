@@ -1,11 +1,9 @@
 // `tikhonov_with_report` of regularize.rs.
-ghost use mathlib.Core.Bool.{true};
 ghost use mathlib.Core.Path.{_≡_};
-ghost use Prim.Native.Nat.{_*_};
-ghost use lib.ListN.{length};
-ghost use Rattle.dense.specs.Matrix.{side, matrix};
+ghost use Rattle.dense.specs.Matrix.{matrix};
 ghost use Rattle.linalg.specs.Regularize.{dampedEntry};
 ghost use Rattle.power.specs.Condition.{tikhonovWithReport, afterDamping};
+ghost use Rattle.power.specs.Room.{Matrices};
 use crate::Damped;
 use crate::TikhonovReport;
 use crate::inverse::condition;
@@ -17,7 +15,7 @@ use linalg::regularize::tikhonov;
 
 // Writes cov, n by n, with alpha added on the diagonal.
 fn damp(cov: &[f64], alpha: f64, n: usize, out: &mut [f64])
-    requires { ⌜ (side n ≡ true) × (length (now cov) ≡ n * n) × (length (now out) ≡ n * n) ⌝ }
+    requires { ⌜ Matrices n (now cov) (now out) ⌝ }
     ensures { λ _. ⌜ now (out .exit) ≡ matrix n n (dampedEntry (now (cov .entry)) n alpha) ⌝ }
 {
     tikhonov(cov, alpha, n, out);

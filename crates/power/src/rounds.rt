@@ -1,13 +1,13 @@
 // The rounds of the power iteration. A round leaves in w the product of a and its vector v, and the next begins with it.
 ghost use mathlib.Core.Bool.{true};
 ghost use mathlib.Core.Path.{_≡_};
-ghost use Prim.Native.Nat.{_*_};
 ghost use lib.ListN.{length};
 ghost use Rattle.kernel.specs.Number.{sub, mul};
 ghost use Rattle.kernel.specs.Lists.{tabulate};
 ghost use Rattle.dense.specs.Matrix.{nth, side};
 ghost use Rattle.linalg.specs.Norms.{norm};
-ghost use Rattle.power.specs.Power.{times, signOf, isSmall, advanced, converges, eigenpair, iterated, evenVector, dominant};
+ghost use Rattle.power.specs.Power.{signOf, isSmall, eigenpair, iterated, evenVector, dominant};
+ghost use Rattle.power.specs.Room.{Vectors, Multiplied, Rounded};
 use crate::vector::divide;
 use crate::vector::fill;
 use crate::vector::norm;
@@ -53,8 +53,8 @@ fn is_small(tol: f64, lambda: f64, r: f64) -> bool
 
 // One round from v, whose product has the norm size; whether it has converged.
 fn round(a: &[f64], n: usize, tol: f64, size: f64, v: &mut [f64], w: &mut [f64]) -> bool
-    requires { ⌜ (side n ≡ true) × (length (now a) ≡ n * n) × (length (now v) ≡ n) × (now w ≡ times (now a) n (now v)) × (size ≡ norm (now w) n) ⌝ }
-    ensures { λ r. ⌜ (r ≡ converges (now (a .entry)) n tol (now (v .entry))) × (now (v .exit) ≡ advanced (now (a .entry)) n (now (v .entry))) × (now (w .exit) ≡ times (now (a .entry)) n (now (v .exit))) ⌝ }
+    requires { ⌜ Multiplied n (now a) (now v) (now w) × (size ≡ norm (now w) n) ⌝ }
+    ensures { λ r. ⌜ Rounded (now (a .entry)) n tol (now (v .entry)) r (now (v .exit)) (now (w .exit)) ⌝ }
 {
     let lambda = sign_of(dot(w, v, n)) * size;
     divide(w, size, n, v);
@@ -64,7 +64,7 @@ fn round(a: &[f64], n: usize, tol: f64, size: f64, v: &mut [f64], w: &mut [f64])
 
 // At most max_iter rounds from v, whose product is w.
 fn rounds(a: &[f64], n: usize, max_iter: u32, tol: f64, v: &mut [f64], w: &mut [f64]) -> f64
-    requires { ⌜ (side n ≡ true) × (length (now a) ≡ n * n) × (length (now v) ≡ n) × (now w ≡ times (now a) n (now v)) ⌝ }
+    requires { ⌜ Multiplied n (now a) (now v) (now w) ⌝ }
     ensures { λ r. ⌜ eigenpair (now (v .exit)) r ≡ iterated (now (a .entry)) n «max_iter» tol (now (v .entry)) ⌝ }
 {
     for k in 0..max_iter {
@@ -97,7 +97,7 @@ pub(crate) fn dominant(
     v: &mut [f64],
     w: &mut [f64],
 ) -> f64
-    requires { ⌜ (side n ≡ true) × (length (now a) ≡ n * n) × (length (now v) ≡ n) × (length (now w) ≡ n) ⌝ }
+    requires { ⌜ Vectors n (now a) (now v) (now w) ⌝ }
     ensures { λ r. ⌜ eigenpair (now (v .exit)) r ≡ dominant (now (a .entry)) n «max_iter» tol ⌝ }
 {
     begin(n, v);

@@ -1,13 +1,12 @@
 // Vectors of n entries.
-ghost use mathlib.Core.Bool.{true};
 ghost use mathlib.Core.Path.{_≡_};
-ghost use Prim.Native.Nat.{_*_};
 ghost use lib.ListN.{length};
 ghost use Rattle.kernel.specs.Lists.{tabulate};
 ghost use Rattle.kernel.specs.Number.{mul, div};
-ghost use Rattle.dense.specs.Matrix.{nth, side};
+ghost use Rattle.dense.specs.Matrix.{nth};
 ghost use Rattle.linalg.specs.Norms.{norm};
 ghost use Rattle.power.specs.Power.{times};
+ghost use Rattle.power.specs.Room.{Vectors};
 use dense::vector::dot;
 use kernel::number::sqrt;
 use linalg::generic::mat_vec_mul;
@@ -22,7 +21,7 @@ pub(crate) fn norm(x: &[f64], n: usize) -> f64
 
 // Writes the product of a, n by n, and x.
 pub(crate) fn times(a: &[f64], x: &[f64], n: usize, y: &mut [f64])
-    requires { ⌜ (side n ≡ true) × (length (now a) ≡ n * n) × (length (now x) ≡ n) × (length (now y) ≡ n) ⌝ }
+    requires { ⌜ Vectors n (now a) (now x) (now y) ⌝ }
     ensures { λ _. ⌜ now (y .exit) ≡ times (now (a .entry)) n (now (x .entry)) ⌝ }
 {
     mat_vec_mul(a, x, n, y);

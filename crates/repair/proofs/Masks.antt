@@ -10,7 +10,7 @@ use lib.Dec.{T, ltb}
 use lib.Ieee.{Float, lt}
 use lib.Ieee.Scale.{finite}
 use lib.ListN.{getD}
-use Rattle.kernel.specs.Answer.{answered, through}
+use Rattle.kernel.specs.Answer.{answered}
 use Rattle.kernel.proofs.Answers.{ask-met, through-met}
 use Rattle.kernel.proofs.Lists.{getD-tabulate}
 use Rattle.dense.specs.Matrix.{nth, side, long, finiteEntries}

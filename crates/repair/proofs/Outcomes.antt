@@ -3,11 +3,11 @@ use Prim.Native.Nat.{ℕ, _*_}
 use native.Mathlib.Omega.{arith}
 use mathlib.Core.Bool.{true}
 use mathlib.Core.List.{List}
-use mathlib.Core.Path.{_≡_, refl, sym, ap, _∙_}
+use mathlib.Core.Path.{_≡_, sym, ap, _∙_}
 use borrow.Author.Tests.{eq-eqb}
 use lib.Ieee.{Float}
 use lib.ListN.{length}
-use Rattle.kernel.specs.Answer.{Outcome, refused, answered, through}
+use Rattle.kernel.specs.Answer.{Outcome, refused, answered}
 use Rattle.kernel.specs.Lists.{tabulate}
 use Rattle.dense.specs.Matrix.{nth, matrix, side, long}
 use Rattle.dense.specs.declared.Written.{Written}
@@ -15,7 +15,7 @@ use Rattle.dense.specs.declared.Written.the-variants.{Done, Refused}
 use Rattle.eigen.specs.Eigen.{Eigenpairs, eigenpairs, matSymmetricEigen, afterPairs}
 use Rattle.repair.specs.declared.RegularizationReport.{RegularizationReport}
 use Rattle.repair.specs.declared.Repaired.{Repaired}
-use Rattle.repair.specs.Repair.{raised, reportOf, rebuiltEntry, Repair, repairOf, repair, refusal, afterRepair}
+use Rattle.repair.specs.Repair.{raised, reportOf, rebuiltEntry, repairOf, repair, refusal, afterRepair}
 
 long-of : (a : List Float) (n : ℕ) → length a ≡ n → long a n ≡ true
 unfolding long

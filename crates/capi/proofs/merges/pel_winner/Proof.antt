@@ -1,7 +1,6 @@
 -- `pel_winner` meets its contract: of a row of four bytes the definition looks at those bytes alone.
 use borrow.Author.Needs.{needs}
 use borrow.Author.Tests.{eq-eqb, ne-eqb}
-use native.Mathlib.Omega.{arith}
 use mathlib.Core.Path.{ap, _∙_}
 use Rattle.merge.specs.Winner.{winning}
 use Rattle.capi.specs.Merges.{inNumbers, toldWinner}
@@ -21,13 +20,5 @@ returns-2 c =
 pub pel-winner-spec : {M : Type 1} → statement M
 pel-winner-spec =
     tie.close
-    (tie.spec
-    (λ c κs. search needs)
-    returns
-    (λ c. search needs)
-    (λ c. search needs)
-    (λ c. search needs)
-    (λ c. search needs)
-    (λ c κs. search needs)
-    (λ c κs. search needs)
-    returns-2)
+    (tie.spec (λ c κs. search needs) returns (λ c. search needs) (λ c. search needs) (λ c. search needs) (λ c. search needs) (λ c κs. search needs)
+    (λ c κs. search needs) returns-2)

@@ -1,5 +1,5 @@
 -- `mask_bits` meets its contract: before turn k there are the first k bits, and the weight is that of bit k.
-use Prim.Native.Nat.{ℕ, _+_, _^_, _-_, _≤_, _<_}
+use Prim.Native.Nat.{ℕ, _^_, _-_, _≤_, _<_}
 use native.Mathlib.Nat.{pow-suc}
 use native.Mathlib.Numerals.{add-one}
 use native.Mathlib.Omega.{arith}

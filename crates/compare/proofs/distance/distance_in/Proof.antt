@@ -1,6 +1,8 @@
 -- `distance_in` meets its contract: the sums are the joint covariance, and a refused repair has no distance.
+use Prim.Native.Nat.{_*_}
 use mathlib.Core.Path.{_≡_, _∙_}
 use borrow.Author.Needs.{needs}
+use lib.ListN.{length}
 use Rattle.compare.specs.Distance.{jointCovariance}
 use Rattle.compare.proofs.Joint.{joint-sums}
 use Rattle.compare.proofs.Comparisons.{distance-refused, distance-done}
@@ -18,12 +20,16 @@ entered c = summed c .before .before .before .before .before .before .before .be
 joint : (c : tie.After-nearest-psd) → let x = entered c .args in summed c .sums .last .1 .1 .1 .0 ≡ jointCovariance (x .p .now) (x .q .now) (x .n)
 joint c = let x = entered c .args in summed c .sums .ensures ∙ joint-sums (x .p .now) (x .q .now) (x .n)
 
+-- and has its size
+wide : (c : tie.After-nearest-psd) → let n = entered c .args .n in length (summed c .sums .last .1 .1 .1 .0) ≡ n * n
+wide c = summed c .sums .kept .1 .1 .1 .0 ∙ entered c .pre .1
+
 returns : tie.Need-returns
 returns c =
     let repaired = c .before .before .before .before .before in
     let start = entered repaired in
     let x = start .args in
-    distance-refused (x .mu .now) (x .x .now) (x .p .now) (x .q .now) _ (x .r .now) (x .n) (x .floor) (joint repaired) (summed repaired .sums .kept .1 .1 .1 .0 ∙ start .pre .1) (start .pre .2)
+    distance-refused (x .mu .now) (x .x .now) (x .p .now) (x .q .now) _ (x .r .now) (x .n) (x .floor) (joint repaired) (wide repaired) (start .pre .2)
     (c .before .answer .given .1) (repaired .nearest-psd .ensures)
 
 returns-2 : tie.Need-returns-2
@@ -32,7 +38,7 @@ returns-2 c =
     let repaired = done .before .before .before .before in
     let start = entered repaired in
     let x = start .args in
-    distance-done (x .mu .now) (x .x .now) (x .p .now) (x .q .now) _ (x .r .now) (x .n) (x .floor) (joint repaired) (summed repaired .sums .kept .1 .1 .1 .0 ∙ start .pre .1) (start .pre .2)
+    distance-done (x .mu .now) (x .x .now) (x .p .now) (x .q .now) _ (x .r .now) (x .n) (x .floor) (joint repaired) (wide repaired) (start .pre .2)
     (done .enum-told .given .1) (repaired .nearest-psd .ensures) (c .mahalanobis-distance-squared .ensures)
 
 pub distance-in-spec : {M : Type 1} → statement M

@@ -1,6 +1,5 @@
 -- `large` meets its contract: the local arrays have room for the work.
 use Prim.Native.Nat.{_*_, _≤_}
-use native.Mathlib.Omega.{arith}
 use mathlib.Core.Path.{sym}
 use lib.Seq.{length-take-le}
 use borrow.Author.Needs.{needs}

@@ -10,11 +10,11 @@ use Rattle.compare.proofs.fields.is_track.Tie as tie
 
 returns : tie.Need-returns
 unfolding fields
-returns c = let s = c .before .before .before .before in let x = s .args in rw (lt-leb (fields (x .d)) (length (x .v .now)) (omega arith))
+returns c = let x = c .before .before .before .before .args in rw (lt-leb (fields (x .d)) (length (x .v .now)) (omega arith))
 
 returns-2 : tie.Need-returns-2
 unfolding fields
-returns-2 c = let s = c .before .before .before .before .before in let x = s .args in rw (le-leb (fields (x .d)) (length (x .v .now)) (omega arith)) (c .is-matrix .ensures)
+returns-2 c = let x = c .before .before .before .before .before .args in rw (le-leb (fields (x .d)) (length (x .v .now)) (omega arith)) (c .is-matrix .ensures)
 
 pub is-track-spec : {M : Type 1} → statement M
-is-track-spec = tie.close (tie.spec (λ c κs. search needs) returns (λ c κs. square-size (c .before .before .before .before .args .d) (c .before .before .before .before .pre)) returns-2)
+is-track-spec = tie.close (tie.spec (λ c κs. search needs) returns (λ c κs. let start = c .before .before .before .before in square-size (start .args .d) (start .pre)) returns-2)

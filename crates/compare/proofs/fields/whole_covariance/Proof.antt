@@ -1,5 +1,5 @@
 -- `whole_covariance` meets its contract: each question is put by its own function, and `mirror` has the answer.
-use Prim.Native.Nat.{_*_, _≤_}
+use Prim.Native.Nat.{_*_}
 use mathlib.Core.Bool.{true, _&&_}
 use mathlib.Core.Path.{_≡_}
 use borrow.Author.Needs.{needs}

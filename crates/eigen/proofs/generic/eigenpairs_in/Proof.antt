@@ -8,31 +8,34 @@ use Rattle.eigen.proofs.generic.eigenpairs_in.Statement.{statement}
 use Rattle.eigen.proofs.generic.eigenpairs_in.Tie as tie
 
 -- the places on the way
-abbrev symmetric : tie.After-settle-arg2 → tie.After-symmetrize
-symmetric c = c .before .before .before .before .before .before .before .before .before .before
-
 abbrev entered : tie.After-symmetrize → tie.Start
 entered c = c .before .before .before .before .before .before .before .before .before
 
+abbrev symmetric : tie.After-identity → tie.After-symmetrize
+symmetric c = c .before .before .before .before
+
+abbrev identified : tie.After-settle → tie.After-identity
+identified c = c .before .before .before .before .before .before .before
+
 settle-requires : tie.Need-settle-requires
 settle-requires c κs =
-    let after-identity = c .before .before .before .before .before .before in
-    let made = symmetric c in
-    let x = entered made in (
-      made .symmetrize .kept .1 .1 .0 ∙ x .pre .2 ∙ x .pre .0,
-      after-identity .identity .kept .1 .0 ∙ x .pre .3 ∙ x .pre .0,
-      subst (Symmetric (x .args .n)) (sym (made .symmetrize .ensures)) (symmetrized-symmetric (x .args .a .now) (x .args .n)),
-    )
+    let start-vectors = c .before .before .before .before .before .before in
+    let made = symmetric start-vectors in
+    let x = entered made in
+    record {
+      matrix-size = made .symmetrize .kept .1 .1 .0 ∙ x .pre .2 ∙ x .pre .0;
+      vectors-size = start-vectors .identity .kept .1 .0 ∙ x .pre .3 ∙ x .pre .0;
+      symmetric = subst (Symmetric (x .args .n)) (sym (made .symmetrize .ensures)) (symmetrized-symmetric (x .args .a .now) (x .args .n));
+    }
 
 returns : tie.Need-returns
 returns c =
-    let after-pairs = c .before .before .before .before .before .before .before .before in
-    let after-settle = after-pairs .before .before .before .before .before .before .before .before .before .before .before in
-    let made = symmetric (after-settle .before) in
+    let last = c .before .before .before .before .before .before .before .before in
+    let call = last .before .before .before .before .before .before .before .before .before .before .before in
+    let made = symmetric (identified call) in
     let x = entered made .args in
-    answered-by (x .a .now) (x .n) (after-settle .settle .last .0) (after-settle .settle .last .1 .0) (x .values .now) (x .vectors .now)
-    (made .symmetrize .ensures) (after-settle .before .before .before .before .before .before .before .identity .ensures)
-    (after-settle .before .before .before .tolerance .ensures) (after-settle .settle .ensures) (after-pairs .pairs .ensures)
+    answered-by (x .a .now) (x .n) (call .settle .last .0) (call .settle .last .1 .0) (x .values .now) (x .vectors .now) (made .symmetrize .ensures)
+    (identified call .identity .ensures) (call .before .before .before .tolerance .ensures) (call .settle .ensures) (last .pairs .ensures)
 
 pub eigenpairs-in-spec : {M : Type 1} → statement M
 eigenpairs-in-spec =

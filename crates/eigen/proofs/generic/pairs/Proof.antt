@@ -1,5 +1,4 @@
 -- `pairs` meets its contract: the diagonal decides, and then its order arranges the answer.
-use native.Mathlib.Omega.{arith}
 use mathlib.Core.Path.{_∙_}
 use borrow.Author.Needs.{needs}
 use Rattle.eigen.proofs.Pairs.{sorted-below, pairs-refused, pairs-made}
@@ -7,44 +6,46 @@ use Rattle.eigen.proofs.generic.pairs.Statement.{statement}
 use Rattle.eigen.proofs.generic.pairs.Tie as tie
 
 -- the places on the way
+abbrev measured : tie.After-are-finite → tie.After-diagonal
+measured c = c .before .before .before .before
+
+abbrev entered : tie.After-diagonal → tie.Start
+entered c = c .before .before .before .before .before .before .before .before
+
 abbrev tested : tie.After-sort → tie.After-are-finite
 tested c = c .before .before .before .before
 
-abbrev entered : tie.After-are-finite → tie.Start
-entered c = c .before .before .before .before .before .before .before .before .before .before .before .before
+abbrev sorted : tie.After-arrange-values → tie.After-sort
+sorted c = c .before .before .before .before .before .before
 
 returns : tie.Need-returns
 returns c =
-    let after-diagonal = c .before .before .before .before .before in
-    let x = entered (c .before) .args in
-    pairs-refused (x .n) (x .m .now) (x .v .now) (x .values .now) (x .vectors .now) (after-diagonal .diagonal .ensures) (c .before .are-finite .ensures) (c .if1 .taken)
+    let read = measured (c .before) in
+    let x = entered read .args in
+    pairs-refused (x .n) (x .m .now) (x .v .now) (x .values .now) (x .vectors .now) (read .diagonal .ensures) (c .before .are-finite .ensures) (c .if1 .taken)
 
 arrange-values-requires : tie.Need-arrange-values-requires
 arrange-values-requires c κs =
-    let after-sort = c .before .before .before .before .before in
-    let after-diagonal = after-sort .before .before .before .before .before .before .before .before in
-    let sorted = after-sort in
-    let x = entered (tested sorted) in
-    (after-diagonal .diagonal .kept .1 .1 .0 ∙ x .pre .2, sorted .sort .kept .1 .1 .0 ∙ x .pre .3, sorted-below _ (x .args .n) (sorted .sort .ensures), x .pre .4)
+    let call = c .before .before .before .before .before in
+    let read = measured (tested call) in
+    let x = entered read in
+    (read .diagonal .kept .1 .1 .0 ∙ x .pre .2, call .sort .kept .1 .1 .0 ∙ x .pre .3, sorted-below _ (x .args .n) (call .sort .ensures), x .pre .4)
 
 arrange-vectors-requires : tie.Need-arrange-vectors-requires
 arrange-vectors-requires c κs =
-    let after-sort = c .before .before .before .before .before .before .before .before .before .before in
-    let sorted = after-sort in
-    let x = entered (tested sorted) in
-    (x .pre .1, sorted .sort .kept .1 .1 .0 ∙ x .pre .3, sorted-below _ (x .args .n) (sorted .sort .ensures), x .pre .5)
+    let call = sorted (c .before .before .before .before) in
+    let x = entered (measured (tested call)) in
+    (x .pre .1, call .sort .kept .1 .1 .0 ∙ x .pre .3, sorted-below _ (x .args .n) (call .sort .ensures), x .pre .5)
 
 returns-2 : tie.Need-returns-2
 returns-2 c =
     let after-arrange-vectors = c .before .before in
     let after-arrange-values = after-arrange-vectors .before .before .before .before .before in
-    let after-sort = after-arrange-values .before .before .before .before .before .before in
-    let else1 = after-sort .before .before .before in
-    let after-diagonal = else1 .before .before .before .before .before in
-    let sorted = after-sort in
-    let x = entered (tested sorted) .args in
-    pairs-made (x .n) (x .m .now) (x .v .now) (x .values .now) (x .vectors .now) (after-diagonal .diagonal .ensures) (tested sorted .are-finite .ensures)
-    (else1 .if1 .left) (sorted .sort .ensures) (after-arrange-values .arrange-values .ensures) (after-arrange-vectors .arrange-vectors .ensures)
+    let call = sorted after-arrange-values in
+    let read = measured (tested call) in
+    let x = entered read .args in
+    pairs-made (x .n) (x .m .now) (x .v .now) (x .values .now) (x .vectors .now) (read .diagonal .ensures) (tested call .are-finite .ensures)
+    (call .before .before .before .if1 .left) (call .sort .ensures) (after-arrange-values .arrange-values .ensures) (after-arrange-vectors .arrange-vectors .ensures)
 
 pub pairs-spec : {M : Type 1} → statement M
 pairs-spec =

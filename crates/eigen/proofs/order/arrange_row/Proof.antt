@@ -23,9 +23,9 @@ unfolding Below
 entry-requires c κs =
     let at-loop = c .before .before in
     let start = at-loop .before .before .before .before in
-    let x = start in
+    let x = start .args in
     let k = at-loop .loop .k in
-    omega (arith, cell (x .args .n) (x .args .n) {i = place (x .args .l .now) k} {j = x .args .i} (x .pre .3 k (omega arith)) (x .pre .0))
+    omega (arith, cell (x .n) (x .n) {i = place (x .l .now) k} {j = x .i} (start .pre .3 k (omega arith)) (start .pre .0))
 
 loop-again : tie.Need-loop-again Inv-loop μ-loop
 loop-again c = (omega arith, filled-more _ (c .before .before .before .loop .k) (omega arith) (c .entry .ensures) (c .before .before .before .loop .inv .1))

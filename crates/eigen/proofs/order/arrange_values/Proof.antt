@@ -1,7 +1,6 @@
 -- `arrange_values` meets its contract: before turn k the entries before k are written.
 use Prim.Native.Nat.{_-_, _≤_}
 use native.Mathlib.Omega.{arith}
-use mathlib.Core.Path.{sym, subst}
 use Rattle.dense.specs.Matrix.{nth}
 use Rattle.dense.specs.Fill.{Filled}
 use Rattle.dense.proofs.Laws.{filled-none, filled-more, filled-all}

@@ -1,5 +1,5 @@
 -- `arrange_vectors` meets its contract: before turn i the rows above row i are written.
-use Prim.Native.Nat.{_+_, _*_, _-_, _≤_}
+use Prim.Native.Nat.{ℕ, _+_, _*_, _-_, _≤_}
 use native.Mathlib.Omega.{arith}
 use lib.ListN.{length}
 use Rattle.dense.specs.Matrix.{at}
@@ -15,10 +15,16 @@ Inv-loop v l n out₀ i₀ out i = (i ≤ n) × FilledRows (λ j k. at v n (plac
 abbrev μ-loop : tie.MeasureT-loop
 μ-loop v l n out₀ i₀ out i = n - i
 
+-- the place where the function begins, and the order
+abbrev entered : tie.At-loop Inv-loop μ-loop → tie.Start Inv-loop μ-loop
+entered c = c .before .before .before .before
+
+abbrev order : tie.In-loop Inv-loop μ-loop → ℕ
+order c = entered (c .before) .args .n
+
 -- row i lies within the slice
-within : (c : tie.In-loop Inv-loop μ-loop)
-    → c .before .loop .i * c .before .before .before .before .before .args .n + c .before .before .before .before .before .args .n ≤ length (c .before .loop .out)
-within c = omega (arith, row-within (c .before .before .before .before .before .args .n) (c .before .before .before .before .before .args .n) {i = c .before .loop .i} (omega arith))
+within : (c : tie.In-loop Inv-loop μ-loop) → c .before .loop .i * order c + order c ≤ length (c .before .loop .out)
+within c = omega (arith, row-within (order c) (order c) {i = c .before .loop .i} (omega arith))
 
 loop-holds : tie.Need-loop-holds Inv-loop μ-loop
 loop-holds c = (omega arith, rows-none _ _ _)
@@ -26,21 +32,20 @@ loop-holds c = (omega arith, rows-none _ _ _)
 arrange-row-requires : tie.Need-arrange-row-requires Inv-loop μ-loop
 arrange-row-requires c κs =
     let at-loop = c .before .before in
-    let start = at-loop .before .before .before .before in
-    (omega arith, start .pre .0, start .pre .1, start .pre .2, length-part (at-loop .loop .out) (start .args .n) (at-loop .loop .i) (within (c .before)))
+    let pre = entered at-loop .pre in
+    (omega arith, pre .0, pre .1, pre .2, length-part (at-loop .loop .out) (order (c .before)) (at-loop .loop .i) (within (c .before)))
 
 loop-again : tie.Need-loop-again Inv-loop μ-loop
 loop-again c =
     let after-arrange-row = c .before .before in
     let in-loop = after-arrange-row .before .before in
-    let start = in-loop .before .before .before .before .before in
-    (omega arith, rows-more _ (start .args .n) (in-loop .before .loop .i) (within (in-loop)) (after-arrange-row .arrange-row .ensures) (in-loop .before .loop .inv .1))
+    (omega arith, rows-more _ (order in-loop) (in-loop .before .loop .i) (within in-loop) (after-arrange-row .arrange-row .ensures) (in-loop .before .loop .inv .1))
 
 same-length : tie.Need-same-length Inv-loop μ-loop
 same-length c = c .before .loop .inv .1 .size
 
 returns : tie.Need-returns Inv-loop μ-loop
-returns c = rows-all _ _ _ (c .before .before .before .before .before .pre .3) (c .before .loop .inv .0) (c .loop-test .left) (c .before .loop .inv .1)
+returns c = rows-all _ _ _ (entered (c .before) .pre .3) (c .before .loop .inv .0) (c .loop-test .left) (c .before .loop .inv .1)
 
 pub arrange-vectors-spec : {M : Type 1} → statement M
 arrange-vectors-spec =

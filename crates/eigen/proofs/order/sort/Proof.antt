@@ -3,6 +3,8 @@ use Prim.Native.Nat.{_-_, _≤_}
 use native.Mathlib.Omega.{arith}
 use native.Mathlib.Nat.{le-antisymm}
 use mathlib.Core.Path.{_≡_, refl, sym, _∙_, subst}
+use mathlib.Core.List.{List}
+use lib.Ieee.{Float}
 use lib.ListN.{length, take}
 use lib.Seq.{take-all}
 use Rattle.eigen.specs.Eigen.{order}
@@ -16,44 +18,45 @@ Inv-loop e n l₀ k₀ l k = (k ≤ n) × (length l ≡ n) × (take k l ≡ orde
 abbrev μ-loop : tie.MeasureT-loop
 μ-loop e n l₀ k₀ l k = n - k
 
+-- the place where the function begins, and the list there
+abbrev entered : tie.At-loop Inv-loop μ-loop → tie.Start Inv-loop μ-loop
+entered c = c .before .before .before
+
+abbrev values : tie.At-loop Inv-loop μ-loop → List Float
+values c = entered c .args .e .now
+
 loop-holds : tie.Need-loop-holds Inv-loop μ-loop
 unfolding order
 loop-holds c = (omega arith, c .before .before .pre .1, refl)
 
 spot-requires : tie.Need-spot-requires Inv-loop μ-loop
 spot-requires c κs =
-    let x = c .before .before .before .before .before in
-    let turn = c .before .before .loop in
-    (omega arith, omega arith, front-below (x .args .e .now) _ (turn .k) (turn .l) (omega arith) (turn .inv .2))
+    let at-loop = c .before .before in
+    let turn = at-loop .loop in
+    (omega arith, omega arith, front-below (values at-loop) _ (turn .k) (turn .l) (omega arith) (turn .inv .2))
 
 insert-requires : tie.Need-insert-requires Inv-loop μ-loop
 insert-requires c κs =
     let at-loop = c .before .before .before .before in
-    let start = at-loop .before .before .before in
-    let x = start in
-    let turn = at-loop .loop in
-    (omega (arith, c .before .spot .ensures, spot-within (x .args .e .now) (turn .l) (turn .k)), omega arith)
+    (omega (arith, c .before .spot .ensures, spot-within (values at-loop) (at-loop .loop .l) (at-loop .loop .k)), omega arith)
 
 loop-again : tie.Need-loop-again Inv-loop μ-loop
 loop-again c =
     let after-insert = c .before .before in
     let after-spot = after-insert .before .before in
     let at-loop = after-spot .before .before .before in
-    let start = at-loop .before .before .before in
-    let x = start in
     let turn = at-loop .loop in
     let call = after-insert .insert in
-    (omega arith, call .kept .0 ∙ turn .inv .1, order-more (x .args .e .now) (turn .k) (turn .l) _ (turn .inv .2) (after-spot .spot .ensures) (call .ensures))
+    (omega arith, call .kept .0 ∙ turn .inv .1, order-more (values at-loop) (turn .k) (turn .l) _ (turn .inv .2) (after-spot .spot .ensures) (call .ensures))
 
 same-length : tie.Need-same-length Inv-loop μ-loop
-same-length c = c .before .loop .inv .1 ∙ sym (c .before .before .before .before .pre .1)
+same-length c = c .before .loop .inv .1 ∙ sym (entered (c .before) .pre .1)
 
 returns : tie.Need-returns Inv-loop μ-loop
 returns c =
-    let x = c .before .before .before .before in
     let turn = c .before .loop in
     let end = le-antisymm (turn .inv .0) (c .loop-test .left) in
-    sym (take-all (x .args .n) (turn .l) (omega arith)) ∙ subst (λ k. take k (turn .l) ≡ order (x .args .e .now) k) end (turn .inv .2)
+    sym (take-all (entered (c .before) .args .n) (turn .l) (omega arith)) ∙ subst (λ k. take k (turn .l) ≡ order (values (c .before)) k) end (turn .inv .2)
 
 pub sort-spec : {M : Type 1} → statement M
 sort-spec = tie.close (tie.spec Inv-loop μ-loop loop-holds spot-requires insert-requires (λ c. omega arith) (λ c. omega arith) loop-again same-length returns)

@@ -1,6 +1,6 @@
 -- `plane_eigenpairs` meets its contract: its four steps are those of the definition.
 use borrow.Author.Needs.{needs}
-use mathlib.Core.Path.{_≡_, ap, sym, _∙_}
+use mathlib.Core.Path.{ap, sym, _∙_}
 use lib.Ieee.{Float}
 use Rattle.kernel.specs.Answer.{Outcome}
 use Rattle.eigen.specs.Pair.{planeState}

@@ -1,8 +1,7 @@
 -- `mirror` meets its contract: before turn i the rows above row i have the copy.
-use Prim.Native.Nat.{_+_, _*_, _-_, _<_, _≤_}
+use Prim.Native.Nat.{_-_, _≤_}
 use native.Mathlib.Omega.{arith}
 use mathlib.Core.Path.{sym, _∙_}
-use lib.ListN.{length}
 use Rattle.dense.proofs.Laws.{cell}
 use Rattle.eigen.proofs.Cells.{Cells}
 use Rattle.eigen.proofs.Stores.{mirroredTo, mirror-none, mirror-next, mirror-more, mirror-all}
@@ -15,38 +14,40 @@ Inv-loop m₀ n p i₀ m i = (i ≤ n) × Cells n (mirroredTo n p m₀ i) m
 abbrev μ-loop : tie.MeasureT-loop
 μ-loop m₀ n p i₀ m i = n - i
 
+-- the places on the way
+abbrev entered : tie.At-loop Inv-loop μ-loop → tie.Start Inv-loop μ-loop
+entered c = c .before .before
+
+abbrev turned : tie.After-entry Inv-loop μ-loop → tie.At-loop Inv-loop μ-loop
+turned c = c .before .before .before
+
 loop-holds : tie.Need-loop-holds Inv-loop μ-loop
 loop-holds c = (omega arith, mirror-none _ _ _ (c .before .pre .0) (c .before .pre .1))
 
 entry-requires : tie.Need-entry-requires Inv-loop μ-loop
 entry-requires c κs =
-    let x = c .before .before .before .before .args in
-    omega (arith, cell (x .n) (x .n) {i = x .p} {j = c .before .before .loop .i} (omega arith) (omega arith), c .before .before .loop .inv .1 .size)
+    let turn = c .before .before in
+    let x = entered turn .args in
+    omega (arith, cell (x .n) (x .n) {i = x .p} {j = turn .loop .i} (omega arith) (omega arith), turn .loop .inv .1 .size)
 
 put-requires : tie.Need-put-requires Inv-loop μ-loop
-put-requires c κs =
-    let at-loop = c .before .before .before .before in
-    let start = at-loop .before .before in
-    (omega arith, start .pre .0, at-loop .loop .inv .1 .size)
+put-requires c κs = let turn = turned (c .before) in (omega arith, entered turn .pre .0, turn .loop .inv .1 .size)
 
 loop-again : tie.Need-loop-again Inv-loop μ-loop
 loop-again c =
     let after-put = c .before .before in
     let after-entry = after-put .before .before in
-    let at-loop = after-entry .before .before .before in
-    let start = at-loop .before .before in
-    let turn = at-loop .loop in
+    let start = entered (turned after-entry) in
+    let turn = turned after-entry .loop in
     let x = start .args in
-    let more =
-    mirror-more (x .n) (x .p) (x .m .now) (start .pre .0) (turn .i) (omega arith)
-    (after-entry .entry .ensures ∙ mirror-next (x .n) (x .p) (x .m .now) (start .pre .0) (turn .i) (omega arith) (turn .inv .1)) (turn .inv .1) in
-    (omega arith, rw (after-put .put .ensures) more)
+    let old = after-entry .entry .ensures ∙ mirror-next (x .n) (x .p) (x .m .now) (start .pre .0) (turn .i) (omega arith) (turn .inv .1) in
+    (omega arith, rw (after-put .put .ensures) (mirror-more (x .n) (x .p) (x .m .now) (start .pre .0) (turn .i) (omega arith) old (turn .inv .1)))
 
 same-length : tie.Need-same-length Inv-loop μ-loop
-same-length c = c .before .loop .inv .1 .size ∙ sym (c .before .before .before .pre .1)
+same-length c = c .before .loop .inv .1 .size ∙ sym (entered (c .before) .pre .1)
 
 returns : tie.Need-returns Inv-loop μ-loop
-returns c = mirror-all _ _ _ (c .before .before .before .pre .0) (c .before .loop .i) (c .loop-test .left) (c .before .loop .inv .1)
+returns c = mirror-all _ _ _ (entered (c .before) .pre .0) (c .before .loop .i) (c .loop-test .left) (c .before .loop .inv .1)
 
 pub mirror-spec : {M : Type 1} → statement M
 mirror-spec = tie.close (tie.spec Inv-loop μ-loop loop-holds entry-requires put-requires (λ c. omega arith) (λ c. omega arith) loop-again same-length returns)

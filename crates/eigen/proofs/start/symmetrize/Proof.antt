@@ -1,5 +1,5 @@
 -- `symmetrize` meets its contract: before turn i the rows above row i are written.
-use Prim.Native.Nat.{_+_, _*_, _-_, _≤_}
+use Prim.Native.Nat.{ℕ, _+_, _*_, _-_, _≤_}
 use native.Mathlib.Omega.{arith}
 use lib.ListN.{length}
 use Rattle.dense.specs.Fill.{FilledRows}
@@ -14,25 +14,26 @@ Inv-loop a n m₀ i₀ m i = (i ≤ n) × FilledRows (symmetrizedEntry a n) n m�
 abbrev μ-loop : tie.MeasureT-loop
 μ-loop a n m₀ i₀ m i = n - i
 
+-- the order
+abbrev order : tie.In-loop Inv-loop μ-loop → ℕ
+order c = c .before .before .before .before .args .n
+
 -- row i lies within the slice
-within : (c : tie.In-loop Inv-loop μ-loop) → c .before .loop .i * c .before .before .before .before .args .n + c .before .before .before .before .args .n ≤ length (c .before .loop .m)
-within c = omega (arith, row-within (c .before .before .before .before .args .n) (c .before .before .before .before .args .n) {i = c .before .loop .i} (omega arith))
+within : (c : tie.In-loop Inv-loop μ-loop) → c .before .loop .i * order c + order c ≤ length (c .before .loop .m)
+within c = omega (arith, row-within (order c) (order c) {i = c .before .loop .i} (omega arith))
 
 loop-holds : tie.Need-loop-holds Inv-loop μ-loop
 loop-holds c = (omega arith, rows-none _ _ _)
 
 mean-row-requires : tie.Need-mean-row-requires Inv-loop μ-loop
 mean-row-requires c κs =
-    let at-loop = c .before .before in
-    let start = at-loop .before .before .before in
-    (omega arith, omega arith, length-part (at-loop .loop .m) (start .args .n) (at-loop .loop .i) (within (c .before)))
+    let turn = c .before .before .loop in (omega arith, omega arith, length-part (turn .m) (order (c .before)) (turn .i) (within (c .before)))
 
 loop-again : tie.Need-loop-again Inv-loop μ-loop
 loop-again c =
     let after-mean-row = c .before .before in
     let in-loop = after-mean-row .before .before in
-    let start = in-loop .before .before .before .before in
-    (omega arith, rows-more _ (start .args .n) (in-loop .before .loop .i) (within (in-loop)) (after-mean-row .mean-row .ensures) (in-loop .before .loop .inv .1))
+    (omega arith, rows-more _ (order in-loop) (in-loop .before .loop .i) (within in-loop) (after-mean-row .mean-row .ensures) (in-loop .before .loop .inv .1))
 
 same-length : tie.Need-same-length Inv-loop μ-loop
 same-length c = c .before .loop .inv .1 .size

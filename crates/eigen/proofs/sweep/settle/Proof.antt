@@ -1,98 +1,57 @@
 -- `settle` meets its contract: before turn k there have been k sweeps, and no test has stopped them.
-use Prim.Native.Nat.{_-_, _≤_}
+use Prim.Native.Nat.{_-_}
 use native.Mathlib.Omega.{arith}
-use mathlib.Core.Path.{_≡_, refl, sym, _∙_}
-use lib.Ieee.{lt}
-use Rattle.kernel.specs.First.{firstBelow}
-use Rattle.kernel.proofs.First.{first-none, first-more}
-use Rattle.eigen.specs.Eigen.{afterSweeps}
-use Rattle.eigen.specs.Rotation.{State}
-use Rattle.eigen.specs.Rows.{stateOf}
-use Rattle.eigen.proofs.Sweeps.{Held, held-symmetric, held-next, after-more, after-symmetric, stopsAt, test-at, stops-now, stops-never}
+use mathlib.Core.Path.{_≡_, sym, ap, _∙_}
+use lib.Ieee.{Float, lt}
+use lib.ListN.{length}
+use Rattle.eigen.specs.Eigen.{stops}
+use Rattle.eigen.specs.Rows.{Slices, stateOf}
+use Rattle.eigen.proofs.Sweeps.{Sweeping, slices-swept, first-sweep, next-sweep, stops-now, stops-never}
 use Rattle.eigen.proofs.sweep.settle.Statement.{statement}
 use Rattle.eigen.proofs.sweep.settle.Tie as tie
 
 abbrev Inv-loop : tie.InvT-loop
-Inv-loop m₀ v₀ n tol k₀ m v k = (k ≤ 64) × (firstBelow k (stopsAt n tol (stateOf n m₀ v₀)) ≡ k) × Held n (afterSweeps n (stateOf n m₀ v₀) k) m v
+Inv-loop m₀ v₀ n tol k₀ m v k = Slices n m v × Sweeping n tol (stateOf n m₀ v₀) k (stateOf n m v)
 
 abbrev μ-loop : tie.MeasureT-loop
 μ-loop m₀ v₀ n tol k₀ m v k = 64 - k
 
-loop-holds : tie.Need-loop-holds Inv-loop μ-loop
-unfolding afterSweeps
-loop-holds c = (omega arith, first-none _, record { matrix-size = c .before .before .pre .0; vectors-size = c .before .before .pre .1; same = refl })
+-- the places on the way
+abbrev entered : tie.At-loop Inv-loop μ-loop → tie.Start Inv-loop μ-loop
+entered c = c .before .before .before
 
--- the state at the start
-abbrev begun : tie.Start Inv-loop μ-loop → State
-begun c = stateOf (c .args .n) (c .args .m .now) (c .args .v .now)
-
--- the place where the loop begins
-abbrev entered : tie.After-above Inv-loop μ-loop → tie.Start Inv-loop μ-loop
-entered c = c .before .before .before .before .before .before
+abbrev turned : tie.After-above Inv-loop μ-loop → tie.At-loop Inv-loop μ-loop
+turned c = c .before .before .before
 
 -- what the test says of the state that is held
 told : (c : tie.After-above Inv-loop μ-loop)
-    → let start = entered c in lt (c .above .result) (start .args .tol) ≡ stopsAt (start .args .n) (start .args .tol) (begun start) (c .before .before .before .loop .k)
-told c =
-    let start = entered c in
-    let turn = c .before .before .before .loop in
-    test-at (start .args .n) (start .args .tol) (begun start) (turn .k) (turn .m) (turn .v) (turn .inv .2 .same) (c .above .ensures)
+    → let x = entered (turned c) .args in
+    let turn = turned c .loop in
+    lt (c .above .result) (x .tol) ≡ stops (x .n) (x .tol) (stateOf (x .n) (turn .m) (turn .v))
+unfolding stops
+told c = ap (λ (s : Float). lt s (entered (turned c) .args .tol)) (c .above .ensures)
 
-same-length : tie.Need-same-length Inv-loop μ-loop
-same-length c =
-    let at-loop = c .before .before .before .before in
-    let start = at-loop .before .before .before in
-    at-loop .loop .inv .2 .matrix-size ∙ sym (start .pre .0)
+-- the slices keep their lengths
+kept-m : (c : tie.At-loop Inv-loop μ-loop) → length (c .loop .m) ≡ length (entered c .args .m .now)
+kept-m c = c .loop .inv .0 .matrix-size ∙ sym (entered c .pre .matrix-size)
 
-same-length-2 : tie.Need-same-length-2 Inv-loop μ-loop
-same-length-2 c =
-    let at-loop = c .before .before .before .before in
-    let start = at-loop .before .before .before in
-    at-loop .loop .inv .2 .vectors-size ∙ sym (start .pre .1)
-
-returns : tie.Need-returns Inv-loop μ-loop
-returns c =
-    let at-loop = c .before .before .before .before in
-    let start = at-loop .before .before .before in
-    let x = start in
-    let turn = at-loop .loop in
-    stops-now (x .args .n) (x .args .tol) (begun x) (turn .k) (omega arith) (turn .inv .1) (sym (told (c .before)) ∙ c .if1 .taken) (turn .inv .2 .same)
-
-sweep-requires : tie.Need-sweep-requires Inv-loop μ-loop
-sweep-requires c κs =
-    let at-loop = c .before .before .before .before .before .before in
-    let start = at-loop .before .before .before in
-    let turn = at-loop .loop in
-    (turn .inv .2 .matrix-size, turn .inv .2 .vectors-size, held-symmetric (after-symmetric (start .args .n) (begun (start)) (turn .k) (start .pre .2)) (turn .inv .2))
+kept-v : (c : tie.At-loop Inv-loop μ-loop) → length (c .loop .v) ≡ length (entered c .args .v .now)
+kept-v c = c .loop .inv .0 .vectors-size ∙ sym (entered c .pre .vectors-size)
 
 loop-again : tie.Need-loop-again Inv-loop μ-loop
 loop-again c =
     let after-sweep = c .before .before .before .before in
     let else1 = after-sweep .before .before .before in
-    let at-loop = else1 .before .before .before .before in
-    let start = at-loop .before .before .before in
-    let x = start in
-    let turn = at-loop .loop in
+    let held = turned (else1 .before) .loop .inv in
     let call = after-sweep .sweep in (
-      omega arith,
-      first-more _ (turn .k) (turn .inv .1) (sym (told (else1 .before)) ∙ else1 .if1 .left),
-      held-next (call .kept .0) (call .kept .1 .0) (after-more (x .args .n) (turn .k) (begun x) (turn .inv .2 .same) (call .ensures)) (turn .inv .2),
+      slices-swept (held .0) (call .kept .0) (call .kept .1 .0) (call .ensures),
+      next-sweep (held .1) (omega arith) (sym (told (else1 .before)) ∙ else1 .if1 .left) (call .ensures),
     )
-
-same-length-3 : tie.Need-same-length-3 Inv-loop μ-loop
-same-length-3 c = c .before .loop .inv .2 .matrix-size ∙ sym (c .before .before .before .before .pre .0)
-
-same-length-4 : tie.Need-same-length-4 Inv-loop μ-loop
-same-length-4 c = c .before .loop .inv .2 .vectors-size ∙ sym (c .before .before .before .before .pre .1)
-
-returns-2 : tie.Need-returns-2 Inv-loop μ-loop
-returns-2 c =
-    let x = c .before .before .before .before in
-    let turn = c .before .loop in
-    stops-never (x .args .n) (x .args .tol) (begun x) (turn .k) (turn .inv .0) (c .loop-test .left) (turn .inv .1) (turn .inv .2 .same)
 
 pub settle-spec : {M : Type 1} → statement M
 settle-spec =
     tie.close
-    (tie.spec Inv-loop μ-loop loop-holds (λ c κs. c .before .before .loop .inv .2 .matrix-size) same-length same-length-2 returns sweep-requires
-    (λ c. omega arith) (λ c. omega arith) loop-again same-length-3 same-length-4 returns-2)
+    (tie.spec Inv-loop μ-loop (λ c. (c .before .before .pre, first-sweep)) (λ c κs. c .before .before .loop .inv .0 .matrix-size) (λ c. kept-m (turned (c .before)))
+    (λ c. kept-v (turned (c .before))) (λ c. stops-now (turned (c .before) .loop .inv .1) (omega arith) (sym (told (c .before)) ∙ c .if1 .taken))
+    (λ c κs. c .before .before .before .before .before .before .loop .inv .0) (λ c. omega arith) (λ c. omega arith) loop-again (λ c. kept-m (c .before))
+    (λ c. kept-v (c .before)) (λ c. stops-never (c .before .loop .inv .1) (c .loop-test .left)))

@@ -1,54 +1,52 @@
 -- `sweep` meets its contract: before turn p the rows above row p have met their columns.
-use Prim.Native.Nat.{_-_, _≤_}
+use Prim.Native.Nat.{suc, _-_, _≤_}
 use native.Mathlib.Omega.{arith}
 use native.Mathlib.Nat.{le-antisymm}
-use mathlib.Core.Path.{refl, sym, ap, _∙_}
+use mathlib.Core.Path.{_≡_, refl, sym, ap, _∙_}
 use Rattle.eigen.specs.Eigen.{sweptRows}
-use Rattle.eigen.specs.Rows.{stateOf}
-use Rattle.eigen.proofs.Sweeps.{Held, held-symmetric, held-next, rows-more, rows-symmetric}
+use Rattle.eigen.specs.Rotation.{State}
+use Rattle.eigen.specs.Rows.{Slices, stateOf}
+use Rattle.eigen.proofs.Sweeps.{slices-row, rows-more}
 use Rattle.eigen.proofs.sweep.sweep.Statement.{statement}
 use Rattle.eigen.proofs.sweep.sweep.Tie as tie
 
 abbrev Inv-loop : tie.InvT-loop
-Inv-loop m₀ v₀ n p₀ m v p = (p ≤ n) × Held n (sweptRows n (stateOf n m₀ v₀) p) m v
+Inv-loop m₀ v₀ n p₀ m v p = (p ≤ n) × Slices n m v × (stateOf n m v ≡ sweptRows n (stateOf n m₀ v₀) p)
 
 abbrev μ-loop : tie.MeasureT-loop
 μ-loop m₀ v₀ n p₀ m v p = n - p
 
+-- the place where the function begins, and the state there
+abbrev entered : tie.At-loop Inv-loop μ-loop → tie.Start Inv-loop μ-loop
+entered c = c .before .before .before
+
+abbrev first : tie.At-loop Inv-loop μ-loop → State
+first c = let x = entered c .args in stateOf (x .n) (x .m .now) (x .v .now)
+
 loop-holds : tie.Need-loop-holds Inv-loop μ-loop
 unfolding sweptRows
-loop-holds c = (omega arith, record { matrix-size = c .before .before .pre .0; vectors-size = c .before .before .pre .1; same = refl })
-
-sweep-row-requires : tie.Need-sweep-row-requires Inv-loop μ-loop
-sweep-row-requires c κs =
-    let at-loop = c .before .before .before in
-    let start = at-loop .before .before .before in
-    let x = start .args in
-    let turn = at-loop .loop in
-    (omega arith, turn .inv .1 .matrix-size, turn .inv .1 .vectors-size, held-symmetric (rows-symmetric (x .n) (stateOf (x .n) (x .m .now) (x .v .now)) (turn .p) (start .pre .2)) (turn .inv .1))
+loop-holds c = (omega arith, c .before .before .pre, refl)
 
 loop-again : tie.Need-loop-again Inv-loop μ-loop
 loop-again c =
     let after-sweep-row = c .before .before .before .before in
     let at-loop = after-sweep-row .before .before .before .before in
-    let start = at-loop .before .before .before in
-    let x = start .args in
+    let n = entered at-loop .args .n in
     let turn = at-loop .loop in
-    let call = after-sweep-row .sweep-row in
-    (omega arith, held-next (call .kept .0) (call .kept .1 .0) (rows-more (x .n) (turn .p) (stateOf (x .n) (x .m .now) (x .v .now)) (turn .inv .1 .same) (call .ensures)) (turn .inv .1))
-
-same-length : tie.Need-same-length Inv-loop μ-loop
-same-length c = c .before .loop .inv .1 .matrix-size ∙ sym (c .before .before .before .before .pre .0)
-
-same-length-2 : tie.Need-same-length-2 Inv-loop μ-loop
-same-length-2 c = c .before .loop .inv .1 .vectors-size ∙ sym (c .before .before .before .before .pre .1)
+    let call = after-sweep-row .sweep-row in (
+      omega arith,
+      slices-row (turn .inv .1) (call .kept .0) (call .kept .1 .0) (turn .p) (n - suc (turn .p)) (call .ensures),
+      rows-more n (turn .p) (first at-loop) (turn .inv .2) (call .ensures),
+    )
 
 returns : tie.Need-returns Inv-loop μ-loop
 returns c =
-    let x = c .before .before .before .before .args in
-    c .before .loop .inv .1 .same ∙ ap (sweptRows (x .n) (stateOf (x .n) (x .m .now) (x .v .now))) (le-antisymm (c .before .loop .inv .0) (c .loop-test .left))
+    let at-loop = c .before in
+    at-loop .loop .inv .2 ∙ ap (sweptRows (entered at-loop .args .n) (first at-loop)) (le-antisymm (at-loop .loop .inv .0) (c .loop-test .left))
 
 pub sweep-spec : {M : Type 1} → statement M
 sweep-spec =
     tie.close
-    (tie.spec Inv-loop μ-loop loop-holds sweep-row-requires (λ c. omega arith) (λ c. omega arith) loop-again same-length same-length-2 returns)
+    (tie.spec Inv-loop μ-loop loop-holds (λ c κs. (omega arith, c .before .before .before .loop .inv .1)) (λ c. omega arith) (λ c. omega arith) loop-again
+    (λ c. c .before .loop .inv .1 .matrix-size ∙ sym (entered (c .before) .pre .matrix-size))
+    (λ c. c .before .loop .inv .1 .vectors-size ∙ sym (entered (c .before) .pre .vectors-size)) returns)

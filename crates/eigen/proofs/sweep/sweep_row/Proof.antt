@@ -2,65 +2,56 @@
 use Prim.Native.Nat.{suc, _-_, _<_, _≤_}
 use native.Mathlib.Omega.{arith}
 use native.Mathlib.Nat.{le-antisymm}
-use mathlib.Core.Path.{sym, ap, _∙_}
+use mathlib.Core.Path.{_≡_, sym, ap, _∙_}
 use Rattle.eigen.specs.Eigen.{sweptRow}
-use Rattle.eigen.specs.Rows.{stateOf}
-use Rattle.eigen.proofs.Sweeps.{Held, held-symmetric, held-next, row-none, row-more, row-symmetric}
+use Rattle.eigen.specs.Rotation.{State}
+use Rattle.eigen.specs.Rows.{Slices, stateOf}
+use Rattle.eigen.proofs.Sweeps.{slices-rotated, row-none, row-more}
 use Rattle.eigen.proofs.sweep.sweep_row.Statement.{statement}
 use Rattle.eigen.proofs.sweep.sweep_row.Tie as tie
 
 abbrev Inv-loop : tie.InvT-loop
-Inv-loop m₀ v₀ n p q₀ m v q = (p < q) × (q ≤ n) × Held n (sweptRow n p (stateOf n m₀ v₀) (q - suc p)) m v
+Inv-loop m₀ v₀ n p q₀ m v q = (p < q) × (q ≤ n) × Slices n m v × (stateOf n m v ≡ sweptRow n p (stateOf n m₀ v₀) (q - suc p))
 
 abbrev μ-loop : tie.MeasureT-loop
 μ-loop m₀ v₀ n p q₀ m v q = n - q
 
+-- the place where the function begins, and the state there
+abbrev entered : tie.At-loop Inv-loop μ-loop → tie.Start Inv-loop μ-loop
+entered c = c .before .before .before
+
+abbrev first : tie.Start Inv-loop μ-loop → State
+first c = stateOf (c .args .n) (c .args .m .now) (c .args .v .now)
+
 loop-holds : tie.Need-loop-holds Inv-loop μ-loop
-loop-holds c =
-    let start = c .before .before in
-    let x = start .args in
-    (omega arith, omega arith, record { matrix-size = start .pre .1; vectors-size = start .pre .2; same = row-none (x .n) (x .p) (stateOf (x .n) (x .m .now) (x .v .now)) })
+loop-holds c = let start = c .before .before in (omega arith, omega arith, start .pre .1, row-none (start .args .n) (start .args .p) (first start))
 
 rotate-requires : tie.Need-rotate-requires Inv-loop μ-loop
-rotate-requires c κs =
-    let at-loop = c .before .before .before in
-    let start = at-loop .before .before .before in
-    let x = start .args in
-    let turn = at-loop .loop in (
-      turn .inv .0,
-      omega arith,
-      turn .inv .2 .matrix-size,
-      turn .inv .2 .vectors-size,
-      held-symmetric (row-symmetric (x .n) (x .p) (stateOf (x .n) (x .m .now) (x .v .now)) (turn .q - suc (x .p)) (start .pre .3)) (turn .inv .2),
-    )
+rotate-requires c κs = let held = c .before .before .before .loop .inv in (held .0, omega arith, held .2)
 
 loop-again : tie.Need-loop-again Inv-loop μ-loop
 loop-again c =
     let after-rotate = c .before .before .before .before in
     let at-loop = after-rotate .before .before .before .before in
-    let start = at-loop .before .before .before in
-    let x = start .args in
+    let start = entered at-loop in
     let turn = at-loop .loop in
     let call = after-rotate .rotate in (
       omega arith,
       omega arith,
-      held-next (call .kept .0) (call .kept .1 .0)
-          (row-more (x .n) (x .p) (turn .q) (stateOf (x .n) (x .m .now) (x .v .now)) (turn .inv .0) (turn .inv .2 .same) (call .ensures)) (turn .inv .2),
+      slices-rotated (turn .inv .2) (call .kept .0) (call .kept .1 .0) (start .args .p) (turn .q) (call .ensures),
+      row-more (start .args .n) (start .args .p) (turn .q) (first start) (turn .inv .0) (turn .inv .3) (call .ensures),
     )
-
-same-length : tie.Need-same-length Inv-loop μ-loop
-same-length c = c .before .loop .inv .2 .matrix-size ∙ sym (c .before .before .before .before .pre .1)
-
-same-length-2 : tie.Need-same-length-2 Inv-loop μ-loop
-same-length-2 c = c .before .loop .inv .2 .vectors-size ∙ sym (c .before .before .before .before .pre .2)
 
 returns : tie.Need-returns Inv-loop μ-loop
 returns c =
-    let start = c .before .before .before .before in
+    let at-loop = c .before in
+    let start = entered at-loop in
     let x = start .args in
-    c .before .loop .inv .2 .same ∙ ap (λ q. sweptRow (x .n) (x .p) (stateOf (x .n) (x .m .now) (x .v .now)) (q - suc (x .p))) (le-antisymm (c .before .loop .inv .1) (c .loop-test .left))
+    at-loop .loop .inv .3 ∙ ap (λ q. sweptRow (x .n) (x .p) (first start) (q - suc (x .p))) (le-antisymm (at-loop .loop .inv .1) (c .loop-test .left))
 
 pub sweep-row-spec : {M : Type 1} → statement M
 sweep-row-spec =
     tie.close
-    (tie.spec Inv-loop μ-loop (λ c. omega arith) loop-holds rotate-requires (λ c. omega arith) (λ c. omega arith) loop-again same-length same-length-2 returns)
+    (tie.spec Inv-loop μ-loop (λ c. omega arith) loop-holds rotate-requires (λ c. omega arith) (λ c. omega arith) loop-again
+    (λ c. c .before .loop .inv .2 .matrix-size ∙ sym (entered (c .before) .pre .1 .matrix-size))
+    (λ c. c .before .loop .inv .2 .vectors-size ∙ sym (entered (c .before) .pre .1 .vectors-size)) returns)

@@ -15,7 +15,7 @@ dominant-requires : tie.Need-dominant-requires
 dominant-requires c κs =
     let start = c .before .before .before .before in
     let o = order start in
-    (start .pre .0, start .pre .1, start .pre .2, length-take-le _ _ (omega arith))
+    record { order = start .pre .0; matrix = start .pre .1; left = start .pre .2; right = length-take-le _ _ (omega arith) }
 
 pub eigenvector-spec : {M : Type 1} → statement M
 eigenvector-spec =

@@ -17,7 +17,7 @@ dominant-requires : tie.Need-dominant-requires
 dominant-requires c κs =
     let call = c .before .before .before .before .before in
     let pre = entered call .pre in
-    (pre .0, call .gram .kept .1 .1 .0 ∙ pre .2, pre .3, pre .4)
+    record { order = pre .matrices .order; matrix = call .gram .kept .1 .1 .0 ∙ pre .matrices .room; left = pre .left; right = pre .right }
 
 returns : tie.Need-returns
 returns c =
@@ -29,5 +29,5 @@ returns c =
 pub largest-in-spec : {M : Type 1} → statement M
 largest-in-spec =
     tie.close
-    (tie.spec (λ c κs. let start = c .before .before .before .before .before in (start .pre .0, start .pre .1, start .pre .2)) dominant-requires (λ c κs. search needs)
+    (tie.spec (λ c κs. c .before .before .before .before .before .pre .matrices) dominant-requires (λ c κs. search needs)
     (λ c. search needs) (λ c. search needs) (λ c. search needs) returns)

@@ -19,8 +19,14 @@ condition-in-requires : tie.Need-condition-in-requires
 condition-in-requires c κs =
     let start = c .before .before .before .before .before in
     let o = order start in
-    let s = size start in
-    (start .pre .0, start .pre .1, length-take-le _ _ (omega arith), length-take-le _ _ (omega arith), length-take-le _ _ (omega arith), length-take-le _ _ (omega arith))
+    let s = size start in (
+      record {
+        matrices = record { order = start .pre .0; matrix = start .pre .1; room = length-take-le _ _ (omega arith) };
+        left = length-take-le _ _ (omega arith);
+        right = length-take-le _ _ (omega arith);
+      },
+      length-take-le _ _ (omega arith),
+    )
 
 pub condition-spec : {M : Type 1} → statement M
 condition-spec =

@@ -15,14 +15,22 @@ made c = c .before .before .before .before .before .before
 dominant-requires : tie.Need-dominant-requires
 dominant-requires c κs =
     let call = c .before .before .before .before .before in
-    let pre = entered call .pre in
-    (pre .0, call .gram .kept .1 .1 .0 ∙ pre .2, pre .3, pre .5)
+    let pre = entered call .pre .0 in
+    record { order = pre .matrices .order; matrix = call .gram .kept .1 .1 .0 ∙ pre .matrices .room; left = pre .left; right = pre .right }
 
 ratio-of-requires : tie.Need-ratio-of-requires
 ratio-of-requires c κs =
     let call = c .before .before .before .before .before .before .before .before in
-    let pre = entered (made call) .pre in
-    (pre .0, made call .gram .kept .1 .1 .0 ∙ pre .2, call .dominant .kept .1 .1 .1 .1 .0 ∙ pre .3, pre .4, call .dominant .kept .1 .1 .1 .1 .1 .0 ∙ pre .5)
+    let start = entered (made call) in
+    let pre = start .pre .0 in (
+      record {
+        order = pre .matrices .order;
+        matrix = made call .gram .kept .1 .1 .0 ∙ pre .matrices .room;
+        left = start .pre .1;
+        right = call .dominant .kept .1 .1 .1 .1 .1 .0 ∙ pre .right;
+      },
+      call .dominant .kept .1 .1 .1 .1 .0 ∙ pre .left,
+    )
 
 returns : tie.Need-returns
 returns c =
@@ -34,5 +42,5 @@ returns c =
 pub condition-in-spec : {M : Type 1} → statement M
 condition-in-spec =
     tie.close
-    (tie.spec (λ c κs. let pre = c .before .before .before .before .before .before .pre in (pre .0, pre .1, pre .2)) dominant-requires ratio-of-requires
+    (tie.spec (λ c κs. c .before .before .before .before .before .before .pre .0 .matrices) dominant-requires ratio-of-requires
     (λ c. search needs) (λ c. search needs) (λ c. search needs) (λ c. search needs) returns)

@@ -5,9 +5,7 @@ use Rattle.power.proofs.inverse.gram.Statement.{statement}
 use Rattle.power.proofs.inverse.gram.Tie as tie
 
 returns : tie.Need-returns
-returns c =
-    let start = c .before .before .before .before .before .before in
-    gram-left (start .args .n) (start .pre .0) (start .args .a .now) (start .pre .1) (start .args .g .now) (start .pre .2) (c .before .before .mat-ata .ensures)
+returns c = gram-left (c .before .before .before .before .before .before .pre) (c .before .before .mat-ata .ensures)
 
 pub gram-spec : {M : Type 1} → statement M
 gram-spec = tie.close (tie.spec (λ c κs. search needs) (λ c. search needs) returns)

@@ -20,7 +20,7 @@ returns c =
     ratio-low (x .g .now) (x .n) (x .lambda) (x .v .now) (c .before .if1 .taken) (c .infinity .ensures)
 
 start-requires : tie.Need-start-requires
-start-requires c κs = let pre = entered (c .before .before .before) .pre in (pre .2, pre .4, pre .3)
+start-requires c κs = let pre = entered (c .before .before .before) .pre in record { vector = pre .1; room = pre .0 .right; start = pre .0 .left }
 
 returns-2 : tie.Need-returns-2
 returns-2 c =
@@ -32,8 +32,8 @@ returns-2 c =
 rounds-requires : tie.Need-rounds-requires
 rounds-requires c κs =
     let call = c .before .before .before .before .before .before .before in
-    let pre = entered (high call) .pre in
-    (pre .0, pre .1, call .start .kept .1 .1 .1 .0 ∙ pre .3, call .start .kept .1 .1 .0 ∙ pre .4)
+    let room = entered (high call) .pre .0 in
+    record { order = room .order; matrix = room .matrix; left = call .start .kept .1 .1 .1 .0 ∙ room .left; right = call .start .kept .1 .1 .0 ∙ room .right }
 
 returns-3 : tie.Need-returns-3
 returns-3 c =

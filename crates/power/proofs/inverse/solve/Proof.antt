@@ -9,18 +9,10 @@ abbrev entered : tie.After-mat-solve → tie.Start
 entered c = c .before .before .before .before .before
 
 returns : tie.Need-returns
-returns c =
-    let call = c .before .before .before .before .before in
-    let start = entered call in
-    let x = start .args in
-    solve-refused (x .n) (start .pre .0) (x .g .now) (start .pre .1) (x .x .now) (x .y .now) (start .pre .2) (start .pre .3) (c .before .q .given .1) (call .mat-solve .ensures)
+returns c = let call = c .before .before .before .before .before in solve-refused (entered call .pre) (c .before .q .given .1) (call .mat-solve .ensures)
 
 returns-2 : tie.Need-returns-2
-returns-2 c =
-    let call = c .before .before .before .before in
-    let start = entered call in
-    let x = start .args in
-    solve-done (x .n) (start .pre .0) (x .g .now) (start .pre .1) (x .x .now) (x .y .now) (start .pre .2) (start .pre .3) (c .enum-told .given .1) (call .mat-solve .ensures)
+returns-2 c = let call = c .before .before .before .before in solve-done (entered call .pre) (c .enum-told .given .1) (call .mat-solve .ensures)
 
 pub solve-spec : {M : Type 1} → statement M
 solve-spec =

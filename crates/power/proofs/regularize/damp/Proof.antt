@@ -7,8 +7,7 @@ use Rattle.power.proofs.regularize.damp.Tie as tie
 returns : tie.Need-returns
 returns c =
     let start = c .before .before .before .before .before .before in
-    let x = start .args in
-    damped-left (x .n) (start .pre .0) (x .cov .now) (start .pre .1) (x .alpha) (x .out .now) (start .pre .2) (c .before .before .tikhonov .ensures)
+    damped-left (start .pre) (start .args .alpha) (c .before .before .tikhonov .ensures)
 
 pub damp-spec : {M : Type 1} → statement M
 damp-spec = tie.close (tie.spec (λ c κs. search needs) (λ c. search needs) returns)

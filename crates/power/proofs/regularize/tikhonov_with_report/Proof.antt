@@ -15,9 +15,12 @@ use Rattle.power.specs.Condition.{condition, damping, tikhonovWithReport
 use Rattle.power.proofs.regularize.tikhonov_with_report.Statement.{statement}
 use Rattle.power.proofs.regularize.tikhonov_with_report.Tie as tie
 
--- the place where the call begins
+-- the places on the way: where the call begins, and where question 1 is met
 abbrev entered : tie.Else1 → tie.Start
 entered c = c .before .before .before .before
+
+abbrev first : tie.Else2 → tie.Else1
+first c = c .before .before .before
 
 -- question 1 is met
 sided : (c : tie.Else1) → side (entered c .args .n) ≡ true
@@ -25,12 +28,12 @@ sided c = met (c .before .is-side .ensures) (c .if1 .left)
 
 -- and so is question 2
 shaped : (c : tie.Else2)
-    → let x = entered (c .before .before .before) .args in (long (x .cov .now) (x .n * x .n) && long (x .out .now) (x .n * x .n)) ≡ true
+    → let x = entered (first c) .args in (long (x .cov .now) (x .n * x .n) && long (x .out .now) (x .n * x .n)) ≡ true
 shaped c = met (c .before .are-matrices .ensures) (c .if2 .left)
 
 -- the lengths
-lengths : (c : tie.Else2) → let x = entered (c .before .before .before) .args in (length (x .cov .now) ≡ x .n * x .n) × (length (x .out .now) ≡ x .n * x .n)
-lengths c = let x = entered (c .before .before .before) .args in two-long (x .cov .now) (x .out .now) (x .n * x .n) (x .n * x .n) (shaped c)
+lengths : (c : tie.Else2) → let x = entered (first c) .args in (length (x .cov .now) ≡ x .n * x .n) × (length (x .out .now) ≡ x .n * x .n)
+lengths c = let x = entered (first c) .args in two-long (x .cov .now) (x .out .now) (x .n * x .n) (x .n * x .n) (shaped c)
 
 -- the report, and the matrix
 reported : (cov : List Float) (alpha : Float) (n : ℕ) {m : List Float} {before after : Float}
@@ -49,16 +52,16 @@ unfolding tikhonovWithReport
 returns-2 c = rw (sided (c .before .before .before), unmet (c .before .are-matrices .ensures) (c .if2 .taken))
 
 condition-requires : tie.Need-condition-requires
-condition-requires c κs = (sided (c .before .before .before), lengths c .0)
+condition-requires c κs = (sided (first c), lengths c .0)
 
 damp-requires : tie.Need-damp-requires
-damp-requires c κs = let else2 = c .before .before in (sided (else2 .before .before .before), lengths else2 .0, lengths else2 .1)
+damp-requires c κs = let else2 = c .before .before in record { order = sided (first else2); matrix = lengths else2 .0; room = lengths else2 .1 }
 
 condition-requires-2 : tie.Need-condition-requires-2
 condition-requires-2 c κs =
     let call = c .before .before .before in
     let else2 = call .before .before .before in
-    (sided (else2 .before .before .before), call .damp .kept .1 .1 .1 .0 ∙ lengths else2 .1)
+    (sided (first else2), call .damp .kept .1 .1 .1 .0 ∙ lengths else2 .1)
 
 returns-3 : tie.Need-returns-3
 unfolding tikhonovWithReport
@@ -66,8 +69,8 @@ returns-3 c =
     let call = c .before .before .before .before in
     let after-condition = call .before .before in
     let else2 = after-condition .before in
-    let x = entered (else2 .before .before .before) .args in
-    rw (sided (else2 .before .before .before), shaped else2)
+    let x = entered (first else2) .args in
+    rw (sided (first else2), shaped else2)
     (reported (x .cov .now) (x .alpha) (x .n) (after-condition .condition .ensures) (call .damp .ensures) (c .condition2 .ensures))
 
 pub tikhonov-with-report-spec : {M : Type 1} → statement M

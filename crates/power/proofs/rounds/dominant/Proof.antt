@@ -1,7 +1,8 @@
 -- `dominant` meets its contract: the rounds begin with the start and its product.
-use mathlib.Core.Path.{ap, _∙_}
+use mathlib.Core.Path.{_≡_, ap, _∙_}
 use mathlib.Core.List.{List}
 use lib.Ieee.{Float}
+use lib.ListN.{length}
 use Rattle.power.specs.Power.{iterated, dominant}
 use Rattle.power.proofs.rounds.dominant.Statement.{statement}
 use Rattle.power.proofs.rounds.dominant.Tie as tie
@@ -13,41 +14,44 @@ entered c = c .before .before .before .before .before
 abbrev started : tie.After-times → tie.After-begin
 started c = c .before .before .before .before .before
 
+abbrev multiplied : tie.After-rounds → tie.After-times
+multiplied c = c .before .before .before .before .before
+
+-- the start has n entries
+wide : (c : tie.After-begin) → length (c .begin .last .1 .0) ≡ entered c .args .n
+wide c = c .begin .kept .1 .0 ∙ entered c .pre .left
+
 times-requires : tie.Need-times-requires
 times-requires c κs =
     let after-begin = c .before .before .before .before in
-    let start = entered after-begin in
-    (start .pre .0, start .pre .1, after-begin .begin .kept .1 .0 ∙ start .pre .2, start .pre .3)
+    let pre = entered after-begin .pre in
+    record { order = pre .order; matrix = pre .matrix; left = wide after-begin; right = pre .right }
 
 rounds-requires : tie.Need-rounds-requires
 rounds-requires c κs =
     let after-times = c .before .before .before .before in
-    let after-begin = started after-times in
-    let start = entered after-begin in
-    (start .pre .0, start .pre .1, after-begin .begin .kept .1 .0 ∙ start .pre .2, after-times .times .ensures)
+    let pre = entered (started after-times) .pre in
+    record { order = pre .order; matrix = pre .matrix; vector = wide (started after-times); product = after-times .times .ensures }
 
 same-length : tie.Need-same-length
 same-length c =
     let call = c .before .before .before .before in
-    let after-begin = started (call .before .before .before .before .before) in
-    call .rounds .kept .1 .1 .1 .1 .0 ∙ after-begin .begin .kept .1 .0
+    call .rounds .kept .1 .1 .1 .1 .0 ∙ started (multiplied call) .begin .kept .1 .0
 
 same-length-2 : tie.Need-same-length-2
 same-length-2 c =
     let call = c .before .before .before .before in
-    let after-times = call .before .before .before .before .before in
-    call .rounds .kept .1 .1 .1 .1 .1 .0 ∙ after-times .times .kept .1 .1 .1 .0
+    call .rounds .kept .1 .1 .1 .1 .1 .0 ∙ multiplied call .times .kept .1 .1 .1 .0
 
 returns : tie.Need-returns
 unfolding dominant
 returns c =
     let call = c .before .before .before .before in
-    let after-begin = started (call .before .before .before .before .before) in
+    let after-begin = started (multiplied call) in
     let x = entered after-begin .args in
     call .rounds .ensures ∙ ap (λ (v : List Float). iterated (x .a .now) (x .n) (x .max-iter) (x .tol) v) (after-begin .begin .ensures)
 
 pub dominant-spec : {M : Type 1} → statement M
 dominant-spec =
     tie.close
-    (tie.spec (λ c κs. let start = c .before .before .before .before in (start .pre .0, start .pre .2)) times-requires rounds-requires same-length same-length-2
-    returns)
+    (tie.spec (λ c κs. let pre = c .before .before .before .before .pre in (pre .order, pre .left)) times-requires rounds-requires same-length same-length-2 returns)

@@ -2,7 +2,7 @@
 use borrow.Author.Needs.{needs}
 use mathlib.Core.Path.{_≡_, _∙_}
 use lib.ListN.{length}
-use Rattle.power.proofs.Iteration.{length-times, round-made}
+use Rattle.power.proofs.Iteration.{product-size, round-made}
 use Rattle.power.proofs.rounds.round.Statement.{statement}
 use Rattle.power.proofs.rounds.round.Tie as tie
 
@@ -16,30 +16,21 @@ summed c = c .before .before .before .before
 abbrev divided : tie.After-times → tie.After-divide
 divided c = c .before .before .before .before .before
 
--- the product has n entries
-wide : (c : tie.After-dot) → let x = entered c .args in length (x .w .now) ≡ x .n
-wide c = let start = entered c in length-times (start .args .a .now) (start .args .n) (start .args .v .now) (start .pre .3)
-
-dot-requires : tie.Need-dot-requires
-dot-requires c κs = let start = c .before .before .before .before .before in (length-times (start .args .a .now) (start .args .n) (start .args .v .now) (start .pre .3), start .pre .2)
-
-divide-requires : tie.Need-divide-requires
-divide-requires c κs =
-    let after-dot = c .before .before .before in
-    (wide after-dot, entered after-dot .pre .2)
+-- the next vector has n entries
+wide : (c : tie.After-divide) → length (c .divide .last .1 .1 .1 .0) ≡ entered (summed c) .args .n
+wide c = c .divide .kept .1 .1 .1 .0 ∙ entered (summed c) .pre .0 .vector
 
 times-requires : tie.Need-times-requires
 times-requires c κs =
     let after-divide = c .before .before .before .before in
-    let start = entered (summed after-divide) in
-    (start .pre .0, start .pre .1, after-divide .divide .kept .1 .1 .1 .0 ∙ start .pre .2, wide (summed after-divide))
+    let held = entered (summed after-divide) .pre .0 in
+    record { order = held .order; matrix = held .matrix; left = wide after-divide; right = product-size held }
 
 residual-requires : tie.Need-residual-requires
 residual-requires c κs =
     let after-times = c .before .before .before .before in
     let after-divide = divided after-times in
-    let start = entered (summed after-divide) in
-    (after-times .times .kept .1 .1 .1 .0 ∙ wide (summed after-divide), after-divide .divide .kept .1 .1 .1 .0 ∙ start .pre .2)
+    (after-times .times .kept .1 .1 .1 .0 ∙ product-size (entered (summed after-divide) .pre .0), wide after-divide)
 
 returns : tie.Need-returns
 returns c =
@@ -48,12 +39,12 @@ returns c =
     let after-divide = divided after-times in
     let after-dot = summed after-divide in
     let start = entered after-dot in
-    let x = start .args in
-    round-made (x .a .now) (x .n) (x .tol) (x .v .now) (x .w .now) (x .size) (start .pre .3) (start .pre .4) (after-dot .dot .ensures)
-    (after-divide .before .before .before .sign-of .ensures) (after-divide .divide .ensures) (after-times .times .ensures) (after-residual .residual .ensures) (c .is-small .ensures)
+    round-made (start .pre .0) (start .pre .1) (after-dot .dot .ensures) (after-divide .before .before .before .sign-of .ensures) (after-divide .divide .ensures)
+    (after-times .times .ensures) (after-residual .residual .ensures) (c .is-small .ensures)
 
 pub round-spec : {M : Type 1} → statement M
 round-spec =
     tie.close
-    (tie.spec dot-requires (λ c κs. search needs) divide-requires times-requires residual-requires (λ c κs. search needs) (λ c. search needs) (λ c. search needs)
-    returns)
+    (tie.spec (λ c κs. let held = c .before .before .before .before .before .pre .0 in (product-size held, held .vector)) (λ c κs. search needs)
+    (λ c κs. let held = entered (c .before .before .before) .pre .0 in (product-size held, held .vector)) times-requires residual-requires (λ c κs. search needs)
+    (λ c. search needs) (λ c. search needs) returns)

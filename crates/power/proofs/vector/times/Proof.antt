@@ -5,10 +5,7 @@ use Rattle.power.proofs.vector.times.Statement.{statement}
 use Rattle.power.proofs.vector.times.Tie as tie
 
 returns : tie.Need-returns
-returns c =
-    let start = c .before .before .before .before .before .before .before in
-    let x = start .args in
-    times-left (x .n) (start .pre .0) (x .a .now) (start .pre .1) (x .x .now) (x .y .now) (start .pre .2) (start .pre .3) (c .before .before .mat-vec-mul .ensures)
+returns c = times-left (c .before .before .before .before .before .before .before .pre) (c .before .before .mat-vec-mul .ensures)
 
 pub times-spec : {M : Type 1} → statement M
 times-spec = tie.close (tie.spec (λ c κs. search needs) (λ c. search needs) returns)

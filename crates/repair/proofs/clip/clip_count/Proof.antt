@@ -19,12 +19,15 @@ loop-holds : tie.Need-loop-holds Inv-loop μ-loop
 unfolding clipCount
 loop-holds c = (omega arith, omega arith, refl)
 
+-- one entry counts once at most
+once : (c : tie.After-clip Inv-loop μ-loop) → c .clip .result ≤ 1
+once c = let x = c .before .before .before .before .before .args in one-at-most (x .e .now) (x .floor) (c .before .before .before .loop .i) (c .clip .ensures)
+
 loop-again : tie.Need-loop-again Inv-loop μ-loop
 loop-again c =
     let x = c .before .before .before .before .before .args in
     let turn = c .before .before .before .loop in
-    let b = one-at-most (x .e .now) (x .floor) (turn .i) (c .clip .ensures) in
-    (omega arith, omega arith, count-more (x .e .now) (x .floor) (turn .i) (turn .inv .2) (c .clip .ensures))
+    (omega arith, omega (arith, once c), count-more (x .e .now) (x .floor) (turn .i) (turn .inv .2) (c .clip .ensures))
 
 returns : tie.Need-returns Inv-loop μ-loop
 returns c =
@@ -34,9 +37,5 @@ returns c =
 pub clip-count-spec : {M : Type 1} → statement M
 clip-count-spec =
     tie.close
-    (tie.spec Inv-loop μ-loop loop-holds (λ c. omega arith) (λ c. omega arith) (λ c κs. search needs)
-    (λ c. omega (
-      arith,
-      one-at-most (c .before .before .before .before .before .args .e .now) (c .before .before .before .before .before .args .floor) (c .before .before .before .loop .i) (c .clip .ensures),
-    ))
-    (λ c. omega arith) (λ c. omega arith) loop-again returns)
+    (tie.spec Inv-loop μ-loop loop-holds (λ c. omega arith) (λ c. omega arith) (λ c κs. search needs) (λ c. omega (arith, once c)) (λ c. omega arith) (λ c. omega arith)
+    loop-again returns)

@@ -14,10 +14,13 @@ Inv-loop v e n out₀ i₀ out i = (i ≤ n) × FilledRows (rebuiltEntry v e n) 
 abbrev μ-loop : tie.MeasureT-loop
 μ-loop v e n out₀ i₀ out i = n - i
 
+-- the place where the function begins
+abbrev entered : tie.In-loop Inv-loop μ-loop → tie.Start Inv-loop μ-loop
+entered c = c .before .before .before .before .before
+
 -- row i lies within the slice
-within : (c : tie.In-loop Inv-loop μ-loop)
-    → c .before .loop .i * c .before .before .before .before .before .args .n + c .before .before .before .before .before .args .n ≤ length (c .before .loop .out)
-within c = omega (arith, row-within (c .before .before .before .before .before .args .n) (c .before .before .before .before .before .args .n) {i = c .before .loop .i} (omega arith))
+within : (c : tie.In-loop Inv-loop μ-loop) → let n = entered c .args .n in c .before .loop .i * n + n ≤ length (c .before .loop .out)
+within c = let n = entered c .args .n in omega (arith, row-within n n {i = c .before .loop .i} (omega arith))
 
 loop-holds : tie.Need-loop-holds Inv-loop μ-loop
 loop-holds c = (omega arith, rows-none _ _ _)
@@ -25,17 +28,16 @@ loop-holds c = (omega arith, rows-none _ _ _)
 rebuilt-row-requires : tie.Need-rebuilt-row-requires Inv-loop μ-loop
 rebuilt-row-requires c κs =
     let in-loop = c .before in
-    let start = in-loop .before .before .before .before .before in
-    (omega arith, start .pre .0, start .pre .1, length-part (in-loop .before .loop .out) (start .args .n) (in-loop .before .loop .i) (within in-loop))
+    let turn = in-loop .before .loop in
+    let start = entered in-loop in
+    (omega arith, start .pre .0, start .pre .1, length-part (turn .out) (start .args .n) (turn .i) (within in-loop))
 
 loop-again : tie.Need-loop-again Inv-loop μ-loop
 loop-again c =
     let after-rebuilt-row = c .before .before in
     let in-loop = after-rebuilt-row .before .before in
-    let start = in-loop .before .before .before .before .before in
     let turn = in-loop .before .loop in
-    let call = after-rebuilt-row .rebuilt-row in
-    (omega arith, rows-more _ (start .args .n) (turn .i) (within in-loop) (call .ensures) (turn .inv .1))
+    (omega arith, rows-more _ (entered in-loop .args .n) (turn .i) (within in-loop) (after-rebuilt-row .rebuilt-row .ensures) (turn .inv .1))
 
 same-length : tie.Need-same-length Inv-loop μ-loop
 same-length c = c .before .loop .inv .1 .size

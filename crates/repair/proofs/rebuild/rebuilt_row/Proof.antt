@@ -17,9 +17,6 @@ abbrev μ-loop : tie.MeasureT-loop
 loop-holds : tie.Need-loop-holds Inv-loop μ-loop
 loop-holds c = (omega arith, filled-none _ _)
 
-rebuilt-entry-requires : tie.Need-rebuilt-entry-requires Inv-loop μ-loop
-rebuilt-entry-requires c κs = search needs
-
 loop-again : tie.Need-loop-again Inv-loop μ-loop
 loop-again c = (omega arith, filled-more _ (c .before .before .loop .j) (omega arith) (c .rebuilt-entry .ensures) (c .before .before .loop .inv .1))
 
@@ -32,5 +29,5 @@ returns c = filled-all _ (c .before .before .before .before .before .pre .3) (c 
 pub rebuilt-row-spec : {M : Type 1} → statement M
 rebuilt-row-spec =
     tie.close
-    (tie.spec Inv-loop μ-loop loop-holds rebuilt-entry-requires (λ c. omega arith) (λ c. omega arith) (λ c. omega arith) (λ c. omega arith) loop-again same-length
+    (tie.spec Inv-loop μ-loop loop-holds (λ c κs. search needs) (λ c. omega arith) (λ c. omega arith) (λ c. omega arith) (λ c. omega arith) loop-again same-length
     returns)

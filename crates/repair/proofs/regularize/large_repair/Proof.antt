@@ -19,10 +19,9 @@ size c = square-size (c .args .n) (order c)
 repair-in-requires : tie.Need-repair-in-requires
 repair-in-requires c κs =
     let start = c .before .before .before .before .before in
-    let x = start in
-    let o = order x in
-    let s = size x in
-    (x .pre .0, x .pre .1, length-take-le _ _ (omega arith), length-take-le _ _ (omega arith), x .pre .2)
+    let o = order start in
+    let s = size start in
+    (start .pre .0, start .pre .1, length-take-le _ _ (omega arith), length-take-le _ _ (omega arith), start .pre .2)
 
 pub large-repair-spec : {M : Type 1} → statement M
 large-repair-spec =

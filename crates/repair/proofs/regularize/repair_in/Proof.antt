@@ -7,39 +7,42 @@ use Rattle.repair.proofs.Outcomes.{pairs-asked, repair-refused, repair-
 use Rattle.repair.proofs.regularize.repair_in.Statement.{statement}
 use Rattle.repair.proofs.regularize.repair_in.Tie as tie
 
-report-requires : tie.Need-report-requires
-report-requires c κs =
-    let after-mat-symmetric-eigen = c .before .before .before .before .before .before .before in
-    let start = after-mat-symmetric-eigen .before .before .before .before .before .before .before in
-    (side-high (start .args .n) (start .pre .0), after-mat-symmetric-eigen .mat-symmetric-eigen .kept .1 .1 .0 ∙ start .pre .2)
-
--- the place where the function begins
+-- the places on the way
 abbrev entered : tie.After-mat-symmetric-eigen → tie.Start
 entered c = c .before .before .before .before .before .before .before
+
+abbrev paired : tie.After-enum-told → tie.After-mat-symmetric-eigen
+paired c = c .before .before .before .before .before .before
 
 -- questions 1 and 2 are met
 asked : (c : tie.After-mat-symmetric-eigen)
     → let x = entered c .args in matSymmetricEigen (x .cov .now) (x .n) (x .e .now) (x .v .now) ≡ eigenpairs (x .cov .now) (x .n)
 asked c = let pre = entered c .pre in pairs-asked _ (entered c .args .floor) _ _ _ (pre .0) (pre .1) (pre .2) (pre .3)
 
+report-requires : tie.Need-report-requires
+report-requires c κs =
+    let call = paired (c .before) in
+    let start = entered call in
+    (side-high (start .args .n) (start .pre .0), call .mat-symmetric-eigen .kept .1 .1 .0 ∙ start .pre .2)
+
 returns : tie.Need-returns
 returns c =
     let after-q = c .before .before in
-    let after-mat-symmetric-eigen = after-q .before .before .before .before .before .before in
-    let x = entered after-mat-symmetric-eigen .args in
-    repair-refused (x .cov .now) (x .floor) (x .n) (x .e .now) (x .v .now) (x .out .now) (asked after-mat-symmetric-eigen) (after-q .q .given .1)
-    (after-mat-symmetric-eigen .mat-symmetric-eigen .ensures) (c .refused .ensures)
+    let call = after-q .before .before .before .before .before .before in
+    let x = entered call .args in
+    repair-refused (x .cov .now) (x .floor) (x .n) (x .e .now) (x .v .now) (x .out .now) (asked call) (after-q .q .given .1) (call .mat-symmetric-eigen .ensures)
+    (c .refused .ensures)
 
 returns-2 : tie.Need-returns-2
 returns-2 c =
     let after-rebuild = c .before .before in
     let after-raise = after-rebuild .before .before .before .before .before .before in
     let after-report = after-raise .before .before in
-    let after-enum-told = after-report .before .before in
-    let after-mat-symmetric-eigen = after-enum-told .before .before .before .before .before .before in
-    let x = entered after-mat-symmetric-eigen .args in
-    repair-done (x .cov .now) (x .floor) (x .n) (x .e .now) (x .v .now) (x .out .now) (asked after-mat-symmetric-eigen) (after-enum-told .enum-told .given .1)
-    (after-mat-symmetric-eigen .mat-symmetric-eigen .ensures) (after-report .report .ensures) (after-raise .raise .ensures) (after-rebuild .rebuild .ensures)
+    let done = after-report .before .before in
+    let call = paired done in
+    let x = entered call .args in
+    repair-done (x .cov .now) (x .floor) (x .n) (x .e .now) (x .v .now) (x .out .now) (asked call) (done .enum-told .given .1) (call .mat-symmetric-eigen .ensures)
+    (after-report .report .ensures) (after-raise .raise .ensures) (after-rebuild .rebuild .ensures)
 
 pub repair-in-spec : {M : Type 1} → statement M
 repair-in-spec =

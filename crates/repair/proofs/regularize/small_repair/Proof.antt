@@ -18,10 +18,9 @@ size c = small-size (c .args .n) (order c)
 repair-in-requires : tie.Need-repair-in-requires
 repair-in-requires c κs =
     let start = c .before .before .before .before .before in
-    let x = start in
-    let o = order x in
-    let s = size x in
-    (x .pre .0, x .pre .2, length-take-le _ _ (omega arith), length-take-le _ _ (omega arith), x .pre .3)
+    let o = order start in
+    let s = size start in
+    (start .pre .0, start .pre .2, length-take-le _ _ (omega arith), length-take-le _ _ (omega arith), start .pre .3)
 
 pub small-repair-spec : {M : Type 1} → statement M
 small-repair-spec =
