@@ -1,5 +1,5 @@
--- Laws of sums, of vectors and matrices made by a rule, and of slices that are filled in order; all over the order. `cell` and `row-within`: where a cell and a
--- row lie. `sum-more`: one term more; `sum-ext`: equal terms. `at-matrix` and `matrix-by-entries`: a matrix and its entries. `filled-none`, `filled-more` and
+-- Laws of sums, of vectors and matrices made by a rule, and of slices that are filled in order; all over the order. `cell`: where a cell
+-- lies. `sum-more`: one term more; `sum-ext`: equal terms. `at-matrix` and `matrix-by-entries`: a matrix and its entries. `filled-none`, `filled-more` and
 -- `filled-all`, and `rows-none`, `rows-more` and `rows-all`: a slice that is filled entry by entry and row by row.
 use Prim.Native.Nat.{ℕ, zero, suc, _+_, _*_, _-_, _/_, _%_, _<_, _≤_}
 use native.Mathlib.Omega.{arith}
@@ -30,20 +30,12 @@ cell m n {i} {j} hi hj = omega (arith, mul-le-mul-right n hi, suc-mul i n)
 pub inside : (n : ℕ) {i j size : ℕ} → size ≡ n * n → i < n → j < n → i * n + j < size
 inside n e h k = omega (arith, cell n n h k)
 
--- row i is among the first m
-pub row-within : (m n : ℕ) {i : ℕ} → i < m → i * n + n ≤ m * n
-row-within m n {i} h = omega (arith, mul-le-mul-right n h, suc-mul i n)
-
 -- ---- sums
 
 -- one term more
 pub sum-more : (x : Float) (f : ℕ → Float) (l : ℕ) {s t : Float} → s ≡ sumFrom x l f → t ≡ f l → add s t ≡ sumFrom x (l + 1) f
 unfolding sumFrom
 sum-more x f l p q = rw (add-one, p, q)
-
--- the sum at the loop's end
-pub sum-all : (x : Float) (f : ℕ → Float) {l n : ℕ} {s : Float} → l ≤ n → n ≤ l → s ≡ sumFrom x l f → s ≡ sumFrom x n f
-sum-all x f h k p = p ∙ ap (λ (y : ℕ). sumFrom x y f) (le-antisymm h k)
 
 -- equal terms make equal sums
 pub sum-ext : (x : Float) (n : ℕ) (f g : ℕ → Float) → ((l : ℕ) → l < n → f l ≡ g l) → sumFrom x n f ≡ sumFrom x n g

@@ -10,7 +10,7 @@ use lib.ListN.{set}
 use lib.Seq.{getD-set-other}
 use lib.Ieee.{Float, nan}
 use Rattle.dense.specs.Matrix.{at}
-use Rattle.dense.proofs.Laws.{row-within}
+use Rattle.kernel.proofs.Lists.{row-within}
 
 -- ---- sizes
 

@@ -11,10 +11,10 @@ use lib.Seq.{getD-take, getD-drop, drop-drop, length-take-le}
 use borrow.Rule.Slice.PartMut.{midOf, putMid, drop-put}
 use lib.Ieee.{Float, nan}
 use Rattle.kernel.specs.Lists.{tabulate}
-use Rattle.kernel.proofs.Lists.{length-tabulate}
+use Rattle.kernel.proofs.Lists.{length-tabulate, row-within}
 use Rattle.dense.specs.Matrix.{nth, at, matrix}
 use Rattle.dense.specs.Fill.{FilledRows}
-use Rattle.dense.proofs.Laws.{cell, row-within, length-part, matrix-by-entries, rows-none, rows-more, rows-all}
+use Rattle.dense.proofs.Laws.{cell, length-part, matrix-by-entries, rows-none, rows-more, rows-all}
 
 -- the rows before row i are those of f, and the others are still those of old
 pub record RowByRow (f : ℕ → ℕ → Float) (m n : ℕ) (old : List Float) (i : ℕ) (new : List Float) : Type 0 where

@@ -1,8 +1,9 @@
 -- Laws of lists made by a rule and of lists that are written over, of any elements. `length-tabulate` and `getD-tabulate` say what such a list
 -- holds, `by-elements` that a list with those elements is that list. `over-over` joins two parts that are written one after the other.
-use Prim.Native.Nat.{ℕ, zero, suc, _+_, _<_, _≤_}
+-- `row-within`: where a row of a list of rows lies.
+use Prim.Native.Nat.{ℕ, zero, suc, _+_, _*_, _<_, _≤_}
 use native.Mathlib.Omega.{arith}
-use native.Mathlib.Nat.{add-assoc, add-zero, eq-or-lt-of-le, le-of-suc-le-suc}
+use native.Mathlib.Nat.{add-assoc, add-zero, eq-or-lt-of-le, le-of-suc-le-suc, mul-le-mul-right, suc-mul}
 use native.Mathlib.Numerals.{add-one}
 use mathlib.Core.Logic.{⊎-elim}
 use mathlib.Core.Path.{_≡_, refl, sym, ap, _∙_}
@@ -83,3 +84,9 @@ module _ {A : Type 0} where
   pub take-over : (old new : List A) (n : ℕ) → length new ≡ n → take n (over old 0 new) ≡ new
   unfolding over
   take-over old new n e = take-at new (drop (0 + length new) old) n e
+
+-- ---- rows of n elements, one after another
+
+-- row i is among the first m
+pub row-within : (m n : ℕ) {i : ℕ} → i < m → i * n + n ≤ m * n
+row-within m n {i} h = omega (arith, mul-le-mul-right n h, suc-mul i n)

@@ -26,10 +26,6 @@ const ITERATING: usize = 26;
 // What stands in a slice before it is written.
 const BEFORE: f64 = 7.0;
 
-fn one_more(n: u64) -> u64 {
-    std::num::wrapping_add_u64(n, 1)
-}
-
 // The number of s at an index, counted in numbers; 0 past the end.
 fn number(s: &[u8], at: usize) -> u64 {
     if 0x1_0000 <= at {
@@ -131,9 +127,9 @@ fn is_record_met(s: &[u8], call: usize) -> bool {
 // Counts the record at the start of s under its call, and where it is answered otherwise, that too.
 fn replay_record(s: &[u8], cases: &mut [u64; CALLS], differences: &mut [u64; CALLS]) {
     let call = (number(s, 1) % 30) as usize;
-    cases[call] = one_more(cases[call]);
+    cases[call] = replay::one_more(cases[call]);
     if !is_record_met(s, call) {
-        differences[call] = one_more(differences[call]);
+        differences[call] = replay::one_more(differences[call]);
     }
 }
 

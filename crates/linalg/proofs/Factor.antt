@@ -15,7 +15,8 @@ use Rattle.kernel.specs.Constants.{nought}
 use Rattle.dense.specs.Matrix.{at}
 use Rattle.dense.specs.Fill.{Padded}
 use Rattle.linalg.specs.Cholesky.{isPivot, inner, belowEntry, withLeft, reachedPivot, factor, definite}
-use Rattle.dense.proofs.Laws.{row-within, sum-ext}
+use Rattle.kernel.proofs.Lists.{row-within}
+use Rattle.dense.proofs.Laws.{sum-ext}
 use Rattle.linalg.proofs.Padding.{padded-nth, padded-push, padded-skip}
 
 pub length-left : (a : List Float) (n : ℕ) (p : List Float) (i j : ℕ) → length (withLeft a n p i j) ≡ length p + j

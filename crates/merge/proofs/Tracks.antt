@@ -11,14 +11,14 @@ use borrow.Author.Tests.{leb-true}
 use Rattle.kernel.specs.Answer.{answered}
 use Rattle.kernel.specs.Bytes.{Bytes}
 use Rattle.kernel.specs.Lists.{over}
-use Rattle.kernel.proofs.Lists.{getD-tabulate}
+use Rattle.kernel.proofs.Lists.{getD-tabulate, row-within}
 use Rattle.tracks.specs.Layout.{fields}
 use Rattle.tracks.specs.Read.{TrackList, contents}
 use Rattle.tracks.specs.Write.{tracksOf}
 use Rattle.tracks.specs.Calls.{doubles, joined}
 use Rattle.tracks.specs.Record.{offset, recordAt, sameBytes}
 use Rattle.tracks.proofs.Accepted.{contents-met}
-use Rattle.tracks.proofs.Lists.{row, map-take, map-drop}
+use Rattle.tracks.proofs.Lists.{map-take, map-drop}
 use Rattle.tracks.proofs.Values.{tracks-joined}
 use Rattle.tracks.proofs.RoundTrip.{accepted-fit, joined-fit}
 use Rattle.tracks.proofs.RecordParts.{equal-records}
@@ -46,7 +46,7 @@ module _ (l : List ℕ) (h : Bytes l) (c : TrackList) (ok : contents l ≡ answe
       let vs = doubles (joined (c .tracks)) in
       let rest = drop (0 + length vs) old in
       let long : length vs ≡ trackCount c * f = length-map (joined (c .tracks)) (ofBits binary64) ∙ joined-fit f (c .tracks) (accepted-fit l h c ok) .0 in
-      let fits = row (trackCount c) f i lt in
+      let fits = row-within (trackCount c) f {i = i} lt in
       ap (take f) (drop-append-le (i * f) vs rest (omega arith))
       ∙ take-append-le f (drop (i * f) vs) rest (omega (arith, length-drop (i * f) vs))
       ∙ sym (map-take (ofBits binary64) f (drop (i * f) (joined (c .tracks))) ∙ ap (take f) (map-drop (ofBits binary64) (i * f) (joined (c .tracks))))

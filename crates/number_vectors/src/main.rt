@@ -18,18 +18,14 @@ fn answer(call: usize, x: f64, y: f64) -> f64 {
     }
 }
 
-fn one_more(n: u64) -> u64 {
-    std::num::wrapping_add_u64(n, 1)
-}
-
 // Counts the record at the start of s under its call, and where the answer is another, that too.
 fn replay_record(s: &[u8], cases: &mut [u64; CALLS], differences: &mut [u64; CALLS]) {
     let call = (bytes::word(s, 0) % 5) as usize;
     let x = replay::double(bytes::word(s, 8));
     let y = replay::double(bytes::word(s, 16));
-    cases[call] = one_more(cases[call]);
+    cases[call] = replay::one_more(cases[call]);
     if !replay::is_same(answer(call, x, y), bytes::word(s, 24)) {
-        differences[call] = one_more(differences[call]);
+        differences[call] = replay::one_more(differences[call]);
     }
 }
 

@@ -1,7 +1,6 @@
 -- The search pair by pair: one more pair (`row-taken`, `row-passed`), one more row (`rows-taken`, `rows-passed`).
 use Prim.Native.Nat.{ℕ, suc, _+_, _*_, _<_, _≤_}
-use native.Mathlib.Nat.{suc-mul, mul-le-mul-right}
-use mathlib.Core.Path.{_≡_, subst}
+use mathlib.Core.Path.{_≡_}
 use mathlib.Core.List.{List}
 use lib.ListN.{getD}
 use lib.Ieee.{Float, nan}
@@ -28,7 +27,3 @@ module _ (keys : List Float) (n : ℕ) (firsts seconds : List ℕ) (i : ℕ) whe
   pub rows-passed : (best : Foremost) → (getD firsts i 0 ≡ nobody → ⊥) → best ≡ search keys n firsts seconds i → best ≡ search keys n firsts seconds (suc i)
   unfolding search
   rows-passed best h e = rw (ne-eqb (getD firsts i 0) nobody h, e)
-
--- row i lies within m rows of n
-pub row : (m n i : ℕ) → i < m → i * n + n ≤ m * n
-row m n i h = subst (λ (x : ℕ). x ≤ m * n) (suc-mul i n) (mul-le-mul-right n h)

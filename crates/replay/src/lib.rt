@@ -1,5 +1,6 @@
-// What the programs that replay frozen answers share: doubles by their bit patterns.
+// What the programs that replay frozen answers share: doubles by their bit patterns, and a count.
 ghost use mathlib.Core.Path.{_≡_};
+ghost use Prim.Native.Nat.{_+_, _%_, _^_};
 ghost use lib.Ieee.{binary64, ofBits};
 ghost use Rattle.replay.specs.Replay.{same};
 use kernel::constants;
@@ -22,4 +23,11 @@ pub fn is_same(x: f64, p: u64) -> bool
         return constants::INFINITY_BITS < p % constants::SIGN_BIT;
     }
     f64::to_bits(x) == p
+}
+
+// One more than n; after the largest number, 0.
+pub fn one_more(n: u64) -> u64
+    ensures { λ r. ⌜ r ≡ (n + 1) % 2 ^ 64 ⌝ }
+{
+    std::num::wrapping_add_u64(n, 1)
 }

@@ -1,8 +1,8 @@
--- Laws of lists one after another and of their places: `flatMap-more` and `joined-more` for one list more, `row` and `row-next` for its place, `over-two`
+-- Laws of lists one after another and of their places: `flatMap-more` and `joined-more` for one list more, `row-next` for its place, `over-two`
 -- for two elements in front.
 use Prim.Native.Nat.{ℕ, zero, suc, _+_, _-_, _*_, _<_, _≤_}
 use native.Mathlib.Omega.{arith}
-use native.Mathlib.Nat.{mul-le-mul-right, suc-mul, le-of-suc-le-suc, add-zero, le-refl}
+use native.Mathlib.Nat.{suc-mul, le-of-suc-le-suc, add-zero, le-refl}
 use native.Mathlib.Numerals.{add-one}
 use mathlib.Core.Path.{_≡_, refl, sym, ap, _∙_, subst}
 use mathlib.Core.List.{List, [], _∷_, _++_, map, flatMap, append-assoc, append-nil}
@@ -11,10 +11,6 @@ use lib.Seq.{take-suc}
 use Rattle.kernel.specs.Lists.{tabulate, over}
 use Rattle.kernel.proofs.Lists.{tabulate-more, over-set, over-more, over-over}
 use Rattle.tracks.specs.Calls.{joined}
-
--- the places of one list after j of n lists of f elements
-pub row : (n f j : ℕ) → j < n → j * f + f ≤ n * f
-row n f j h = omega (arith, mul-le-mul-right f h, suc-mul j f)
 
 -- the place after one list more
 pub row-next : (f j : ℕ) → j * f + f ≡ (j + 1) * f

@@ -20,8 +20,7 @@ use Rattle.kernel.specs.Lists.{tabulate}
 use Rattle.tracks.specs.Calls.{doubles, patterns, Doubles, joined}
 use Rattle.tracks.proofs.Items.{items-ind}
 use Rattle.tracks.proofs.Accepted.{contents-met, contents-head}
-use Rattle.tracks.proofs.Lists.{row}
-use Rattle.kernel.proofs.Lists.{length-tabulate, getD-tabulate}
+use Rattle.kernel.proofs.Lists.{row-within, length-tabulate, getD-tabulate}
 use Rattle.tracks.proofs.Stream.{Part, read-bytes, bytes-read}
 use Rattle.tracks.proofs.TrackRead.{track-read}
 use Rattle.tracks.proofs.Track.{Fit, track-of}
@@ -114,7 +113,7 @@ cut-fit n f v long fin w k lt =
     let kn : k < n = omega (arith, length-tabulate n cut) in
     let e : cut k ≡ getD (tabulate n cut) k [] = sym (getD-tabulate n cut [] k kn) in
     subst (Fit f) e (record {
-      long = length-take-le f (drop (k * f) v) (omega (arith, length-drop (k * f) v, row n f k kn));
+      long = length-take-le f (drop (k * f) v) (omega (arith, length-drop (k * f) v, row-within n f kn));
       finite = all-take f (drop (k * f) v) (all-drop (k * f) v fin);
       words = words-take f (drop (k * f) v) (words-drop (k * f) v w);
     })

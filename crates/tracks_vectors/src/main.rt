@@ -23,10 +23,6 @@ const VALUE_BEFORE: f64 = 7.0;
 
 const BYTE_BEFORE: u8 = 0xA5;
 
-fn one_more(n: u64) -> u64 {
-    std::num::wrapping_add_u64(n, 1)
-}
-
 // One of the numbers at the head of a record.
 fn named(s: &[u8], k: usize) -> u64
     requires { ⌜ k ≤ 7 ⌝ }
@@ -225,9 +221,9 @@ fn is_met(s: &[u8], kind: usize) -> bool {
 // Counts the record at the start of s under its kind, and where it is answered otherwise, that too.
 fn replay_record(s: &[u8], cases: &mut [u64; KINDS], differences: &mut [u64; KINDS]) {
     let kind = (named(s, 1) % 4) as usize;
-    cases[kind] = one_more(cases[kind]);
+    cases[kind] = replay::one_more(cases[kind]);
     if !is_met(s, kind) {
-        differences[kind] = one_more(differences[kind]);
+        differences[kind] = replay::one_more(differences[kind]);
     }
 }
 

@@ -3,7 +3,8 @@ use Prim.Native.Nat.{_+_, _*_, _-_, _≤_}
 use native.Mathlib.Omega.{arith}
 use lib.ListN.{length}
 use Rattle.dense.specs.Fill.{FilledRows}
-use Rattle.dense.proofs.Laws.{row-within, length-part, rows-none, rows-more, rows-all}
+use Rattle.kernel.proofs.Lists.{row-within}
+use Rattle.dense.proofs.Laws.{length-part, rows-none, rows-more, rows-all}
 use Rattle.compare.specs.Fields.{covarianceEntry, trackCovariance}
 use Rattle.compare.proofs.fields.mirror.Statement.{statement}
 use Rattle.compare.proofs.fields.mirror.Tie as tie

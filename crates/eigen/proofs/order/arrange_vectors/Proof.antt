@@ -4,7 +4,8 @@ use native.Mathlib.Omega.{arith}
 use lib.ListN.{length}
 use Rattle.dense.specs.Matrix.{at}
 use Rattle.dense.specs.Fill.{FilledRows}
-use Rattle.dense.proofs.Laws.{row-within, length-part, rows-none, rows-more, rows-all}
+use Rattle.kernel.proofs.Lists.{row-within}
+use Rattle.dense.proofs.Laws.{length-part, rows-none, rows-more, rows-all}
 use Rattle.eigen.specs.Eigen.{place}
 use Rattle.eigen.proofs.order.arrange_vectors.Statement.{statement}
 use Rattle.eigen.proofs.order.arrange_vectors.Tie as tie

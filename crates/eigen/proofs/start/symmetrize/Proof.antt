@@ -3,7 +3,8 @@ use Prim.Native.Nat.{ℕ, _+_, _*_, _-_, _≤_}
 use native.Mathlib.Omega.{arith}
 use lib.ListN.{length}
 use Rattle.dense.specs.Fill.{FilledRows}
-use Rattle.dense.proofs.Laws.{row-within, length-part, rows-none, rows-more, rows-all}
+use Rattle.kernel.proofs.Lists.{row-within}
+use Rattle.dense.proofs.Laws.{length-part, rows-none, rows-more, rows-all}
 use Rattle.eigen.specs.Eigen.{symmetrizedEntry}
 use Rattle.eigen.proofs.start.symmetrize.Statement.{statement}
 use Rattle.eigen.proofs.start.symmetrize.Tie as tie

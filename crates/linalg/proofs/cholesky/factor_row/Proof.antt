@@ -6,7 +6,7 @@ use lib.ListN.{length, length-set}
 use Rattle.kernel.specs.Number.{sub}
 use Rattle.kernel.specs.Sqrt.{sqrt}
 use Rattle.linalg.specs.Cholesky.{isPivot, withLeft, factor, reachedPivot}
-use Rattle.dense.proofs.Laws.{row-within}
+use Rattle.kernel.proofs.Lists.{row-within}
 use Rattle.dense.proofs.Tests.{met, unmet, never}
 use Rattle.linalg.proofs.Factor.{pivot-in, row-more}
 use Rattle.linalg.proofs.cholesky.factor_row.Statement.{statement}

@@ -6,7 +6,7 @@ use native.Mathlib.Nat.{le-antisymm}
 use lib.ListN.{length, length-set}
 use Rattle.dense.specs.Fill.{Padded}
 use Rattle.linalg.specs.Cholesky.{withLeft, factor}
-use Rattle.dense.proofs.Laws.{row-within}
+use Rattle.kernel.proofs.Lists.{row-within}
 use Rattle.linalg.proofs.Factor.{left-more}
 use Rattle.linalg.proofs.cholesky.left_entries.Statement.{statement}
 use Rattle.linalg.proofs.cholesky.left_entries.Tie as tie

@@ -4,9 +4,9 @@ use native.Mathlib.Omega.{arith}
 use borrow.Author.Needs.{needs}
 use mathlib.Core.Path.{sym, _∙_}
 use Rattle.kernel.specs.Number.{mul}
-use Rattle.kernel.proofs.Lists.{tabulate-ext}
+use Rattle.kernel.proofs.Lists.{tabulate-ext, row-within}
 use Rattle.dense.specs.Matrix.{at}
-use Rattle.dense.proofs.Laws.{cell, row-within, scaled}
+use Rattle.dense.proofs.Laws.{cell, scaled}
 use Rattle.dense.proofs.Sums.{SumsInFront, no-term, sums-lent, term-added, every-term}
 use Rattle.linalg.proofs.Symmetry.{ata-either}
 use Rattle.linalg.proofs.product.ata_row.Statement.{statement}

@@ -2,7 +2,7 @@
 use Prim.Native.Nat.{_-_}
 use native.Mathlib.Omega.{arith}
 use Rattle.linalg.specs.Products.{productEntry}
-use Rattle.dense.proofs.Laws.{row-within}
+use Rattle.kernel.proofs.Lists.{row-within}
 use Rattle.dense.proofs.Rows.{RowByRow, RowFits, no-row, row-fits, row-lent, row-written, every-row}
 use Rattle.linalg.proofs.product.product.Statement.{statement}
 use Rattle.linalg.proofs.product.product.Tie as tie

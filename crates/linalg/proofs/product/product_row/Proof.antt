@@ -5,7 +5,8 @@ use borrow.Author.Needs.{needs}
 use mathlib.Core.Path.{sym, _∙_}
 use Rattle.kernel.specs.Number.{mul}
 use Rattle.dense.specs.Matrix.{at}
-use Rattle.dense.proofs.Laws.{row-within, scaled}
+use Rattle.kernel.proofs.Lists.{row-within}
+use Rattle.dense.proofs.Laws.{scaled}
 use Rattle.dense.proofs.Sums.{SumsInFront, no-term, sums-lent, term-added, every-term}
 use Rattle.linalg.proofs.product.product_row.Statement.{statement}
 use Rattle.linalg.proofs.product.product_row.Tie as tie

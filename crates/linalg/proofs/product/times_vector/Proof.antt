@@ -4,7 +4,8 @@ use Prim.Native.Nat.{_-_}
 use native.Mathlib.Omega.{arith}
 use Rattle.linalg.specs.Products.{vectorEntry}
 use Rattle.dense.proofs.Entries.{EntryByEntry, no-entry, entry-written, every-entry}
-use Rattle.dense.proofs.Laws.{row-within, row-sum}
+use Rattle.kernel.proofs.Lists.{row-within}
+use Rattle.dense.proofs.Laws.{row-sum}
 use Rattle.linalg.proofs.product.times_vector.Statement.{statement}
 use Rattle.linalg.proofs.product.times_vector.Tie as tie
 

@@ -12,7 +12,8 @@ use Rattle.kernel.specs.Number.{add}
 use Rattle.dense.specs.Matrix.{nth, at, rowOf}
 use Rattle.kernel.specs.Lists.{tabulate}
 use Rattle.linalg.specs.Regularize.{dampedEntry}
-use Rattle.dense.proofs.Laws.{row-within, nth-row, by-entries}
+use Rattle.kernel.proofs.Lists.{row-within}
+use Rattle.dense.proofs.Laws.{nth-row, by-entries}
 use Rattle.linalg.proofs.regularize.damped_row.Statement.{statement}
 use Rattle.linalg.proofs.regularize.damped_row.Tie as tie
 

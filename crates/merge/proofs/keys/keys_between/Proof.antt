@@ -10,7 +10,8 @@ use Rattle.kernel.specs.Constants.{nought}
 use Rattle.kernel.specs.Lists.{tabulate}
 use Rattle.dense.specs.Fill.{FilledRows}
 use Rattle.dense.specs.Matrix.{rowOf, matrix}
-use Rattle.dense.proofs.Laws.{row-within, length-part, rows-none, rows-more}
+use Rattle.kernel.proofs.Lists.{row-within}
+use Rattle.dense.proofs.Laws.{length-part, rows-none, rows-more}
 use Rattle.pairing.specs.Search.{isFree}
 use Rattle.merge.specs.Steps.{keyAmong}
 use Rattle.merge.proofs.keys.keys_between.Statement.{statement}

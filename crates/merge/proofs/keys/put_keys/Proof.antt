@@ -11,7 +11,8 @@ use lib.Ieee.{Float, nan}
 use lib.ListN.{length, set}
 use Rattle.dense.specs.Fill.{Filled}
 use Rattle.dense.specs.Matrix.{rowOf}
-use Rattle.dense.proofs.Laws.{row-within, filled-none, filled-more, filled-all}
+use Rattle.kernel.proofs.Lists.{row-within}
+use Rattle.dense.proofs.Laws.{filled-none, filled-more, filled-all}
 use Rattle.pairing.specs.Keys.{nobody}
 use Rattle.pairing.specs.Search.{isFree}
 use Rattle.merge.specs.Steps.{keyFrom}

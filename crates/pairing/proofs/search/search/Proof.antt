@@ -5,7 +5,8 @@ use mathlib.Core.Path.{refl, _∙_}
 use mathlib.Core.Logic.{⊎-elim}
 use Rattle.kernel.proofs.Loops.{Turned, turned-none, turned-more, turned-all}
 use Rattle.pairing.specs.Search.{search}
-use Rattle.pairing.proofs.Searches.{rows-taken, rows-passed, row}
+use Rattle.kernel.proofs.Lists.{row-within}
+use Rattle.pairing.proofs.Searches.{rows-taken, rows-passed}
 use Rattle.pairing.proofs.search.search.Statement.{statement}
 use Rattle.pairing.proofs.search.search.Tie as tie
 
@@ -22,7 +23,7 @@ loop-holds c = turned-none refl
 search-row-requires : tie.Need-search-row-requires Inv-loop μ-loop
 search-row-requires c κs =
     let a = c .before .before .before .before .before .before .before .args in
-    omega (arith, row (a .m) (a .n) (c .before .before .before .loop .i) (omega arith))
+    omega (arith, row-within (a .m) (a .n) {i = c .before .before .before .loop .i} (omega arith))
 
 loop-again : tie.Need-loop-again Inv-loop μ-loop
 loop-again c =

@@ -3,8 +3,7 @@ use Prim.Native.Nat.{_-_, _≤_}
 use native.Mathlib.Omega.{arith}
 use mathlib.Core.Path.{_∙_}
 use borrow.Author.Tests.{lt-ltb, le-ltb}
-use Rattle.kernel.proofs.Lists.{tabulate-ext}
-use Rattle.dense.proofs.Laws.{row-within}
+use Rattle.kernel.proofs.Lists.{tabulate-ext, row-within}
 use Rattle.dense.proofs.Rows.{RowByRow, RowFits, rows-there, row-fits, row-lent, row-old, row-written, every-row}
 use Rattle.pivoting.proofs.Determinants.{belowEntry}
 use Rattle.pivoting.proofs.det.lower_rows.Statement.{statement}

@@ -4,7 +4,7 @@ use mathlib.Core.List.{List}
 use native.Mathlib.Omega.{arith}
 use lib.Ieee.{Float}
 use Rattle.dense.specs.Matrix.{maxAbs}
-use Rattle.dense.proofs.Laws.{row-within}
+use Rattle.kernel.proofs.Lists.{row-within}
 use Rattle.pivoting.proofs.norms.row_norm.Statement.{statement}
 use Rattle.pivoting.proofs.norms.row_norm.Tie as tie
 

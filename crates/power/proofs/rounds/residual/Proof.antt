@@ -9,7 +9,8 @@ use Rattle.kernel.specs.Number.{sub, mul}
 use Rattle.kernel.specs.Constants.{nought}
 use Rattle.kernel.specs.Sqrt.{sqrt}
 use Rattle.dense.specs.Matrix.{nth, total, sumFrom}
-use Rattle.dense.proofs.Laws.{sum-more, sum-all, sum-ext, nth-tabulate}
+use Rattle.kernel.proofs.Loops.{at-end}
+use Rattle.dense.proofs.Laws.{sum-more, sum-ext, nth-tabulate}
 use Rattle.power.proofs.rounds.residual.Statement.{statement}
 use Rattle.power.proofs.rounds.residual.Tie as tie
 
@@ -36,7 +37,7 @@ returns c =
     let f = entry (x .w .now) (x .lambda) (x .v .now) in
     c .sqrt .ensures
     ∙ ap sqrt
-    (sum-all nought _ (c .before .before .loop .inv .0) (c .before .loop-test .left) (c .before .before .loop .inv .1)
+    (at-end (λ (k : ℕ). total k (λ q. mul (f q) (f q))) (c .before .before .loop .inv .0) (c .before .loop-test .left) (c .before .before .loop .inv .1)
     ∙ sum-ext nought (x .n) _ _ (λ i h. let e = nth-tabulate (x .n) f i h in rw e))
 
 pub residual-spec : {M : Type 1} → statement M

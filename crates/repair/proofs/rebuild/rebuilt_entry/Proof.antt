@@ -1,19 +1,25 @@
 -- `rebuilt_entry` meets its contract: before turn k the sum has the shares of the first k eigenvalues.
-use Prim.Native.Nat.{_-_, _≤_}
+use Prim.Native.Nat.{ℕ, _-_, _≤_}
 use native.Mathlib.Omega.{arith}
 use borrow.Author.Needs.{needs}
 use mathlib.Core.Path.{_≡_, refl, ap₂, _∙_}
+use mathlib.Core.List.{List}
 use lib.Ieee.{Float}
 use Rattle.kernel.specs.Number.{mul}
 use Rattle.kernel.specs.Constants.{nought}
 use Rattle.dense.specs.Matrix.{total, sumFrom, nth, at}
-use Rattle.dense.proofs.Laws.{cell, sum-more, sum-all}
+use Rattle.kernel.proofs.Loops.{at-end}
+use Rattle.dense.proofs.Laws.{cell, sum-more}
 use Rattle.repair.specs.Repair.{rebuiltEntry}
 use Rattle.repair.proofs.rebuild.rebuilt_entry.Statement.{statement}
 use Rattle.repair.proofs.rebuild.rebuilt_entry.Tie as tie
 
+-- the sum of the first k terms
+abbrev sum-of : List Float → List Float → ℕ → ℕ → ℕ → ℕ → Float
+sum-of v e n i j k = total k (λ q. mul (mul (at v n i q) (nth e q)) (at v n j q))
+
 abbrev Inv-loop : tie.InvT-loop
-Inv-loop v e n i j s₀ k₀ s k = (k ≤ n) × (s ≡ total k (λ q. mul (mul (at v n i q) (nth e q)) (at v n j q)))
+Inv-loop v e n i j s₀ k₀ s k = (k ≤ n) × (s ≡ sum-of v e n i j k)
 
 abbrev μ-loop : tie.MeasureT-loop
 μ-loop v e n i j s₀ k₀ s k = n - k
@@ -41,7 +47,9 @@ loop-again c =
 
 returns : tie.Need-returns Inv-loop μ-loop
 unfolding rebuiltEntry
-returns c = sum-all nought _ (c .before .loop .inv .0) (c .loop-test .left) (c .before .loop .inv .1)
+returns c =
+    let x = c .before .before .before .before .args in
+    at-end (sum-of (x .v .now) (x .e .now) (x .n) (x .i) (x .j)) (c .before .loop .inv .0) (c .loop-test .left) (c .before .loop .inv .1)
 
 pub rebuilt-entry-spec : {M : Type 1} → statement M
 rebuilt-entry-spec =

@@ -14,7 +14,8 @@ use Rattle.tracks.proofs.Items.{items-at, items-more}
 use Rattle.kernel.proofs.Answers.{answered-inj}
 use Rattle.tracks.proofs.Accepted.{track-met}
 use Rattle.tracks.proofs.Laid.{Laid, laid-none, laid-more, laid-all}
-use Rattle.tracks.proofs.Lists.{row, row-next, joined-more}
+use Rattle.kernel.proofs.Lists.{row-within}
+use Rattle.tracks.proofs.Lists.{row-next, joined-more}
 use Rattle.tracks.proofs.read.put_tracks.Statement.{statement}
 use Rattle.tracks.proofs.read.put_tracks.Tie as tie
 
@@ -40,7 +41,7 @@ next c =
     (n .0, n .1, ap (track (now (x .list)) (x .f)) (l .inv .2 .2) ∙ n .1)
 
 room : (c : tie.In-loop Inv-loop μ-loop) → let x = start-of c .args in c .before .loop .i + x .f ≤ x .n * x .f
-room c = let x = start-of c .args in omega (arith, row (x .n) (x .f) (c .before .loop .counter) (c .loop-test .taken))
+room c = let x = start-of c .args in omega (arith, row-within (x .n) (x .f) {i = c .before .loop .counter} (c .loop-test .taken))
 
 loop-holds : tie.Need-loop-holds Inv-loop μ-loop
 unfolding tracks items joined flatMap

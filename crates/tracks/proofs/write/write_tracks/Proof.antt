@@ -11,7 +11,8 @@ use Rattle.tracks.specs.Write.{recordOf, recordsOf, tracksOf}
 use Rattle.kernel.specs.Lists.{tabulate}
 use Rattle.tracks.specs.Calls.{patterns}
 use Rattle.tracks.proofs.Laid.{Laid, laid-none, laid-room, laid-more, laid-all}
-use Rattle.tracks.proofs.Lists.{row, row-next}
+use Rattle.kernel.proofs.Lists.{row-within}
+use Rattle.tracks.proofs.Lists.{row-next}
 use Rattle.tracks.proofs.Written.{records-more, records-part}
 use Rattle.tracks.proofs.Values.{patterns-part}
 use Rattle.tracks.proofs.write.write_tracks.Statement.{statement}
@@ -36,7 +37,7 @@ bits-of c = patterns (now (start-of c .args .v))
 
 -- the values of the turn's track are among those of all
 inside : (c : tie.In-loop Inv-loop μ-loop) → let x = start-of c .args in c .before .loop .i + x .f ≤ length (now (x .v))
-inside c = let x = start-of c .args in omega (arith, row (x .n) (x .f) (c .before .loop .counter) (c .loop-test .taken))
+inside c = let x = start-of c .args in omega (arith, row-within (x .n) (x .f) {i = c .before .loop .counter} (c .loop-test .taken))
 
 -- the turn's values, the records with the turn's, and that they fit
 part : (c : tie.In-loop Inv-loop μ-loop) → List Float
