@@ -1,4 +1,5 @@
--- The doubles in their order: what a bit pattern stands for, in units of 2 ^ -1074, grows with the pattern.
+-- The doubles in their order: what a bit pattern stands for, in units of 2 ^ -1074 (`scaled-bits-low`, `scaled-bits-at`), grows with the pattern (`scaled-bits-grows`,
+-- `scaled-bits-mono`).
 use Prim.Native.Nat.{ℕ, zero, suc, _+_, _-_, _*_, _/_, _%_, _^_, _≤_, _<_}
 use native.Mathlib.Nat.{mul-lt-mul-of-pos-right, mod-lt, eq-or-lt-of-le, le-trans, le-of-lt, le-of-suc-le-suc, pow-succ'}
 use native.Mathlib.Numerals.{add-one}

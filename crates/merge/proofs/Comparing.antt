@@ -21,7 +21,7 @@ use Rattle.compare.specs.Distance.{compared, comparing, compareAnswer}
 use Rattle.compare.specs.declared.Comparison.{Comparison}
 use Rattle.compare.specs.declared.Compared.the-variants.{Answered, Refused}
 use Rattle.compare.proofs.Comparisons.{comparing-met}
-use Rattle.merge.specs.Steps.{Compares}
+use Rattle.merge.specs.PairSteps.{Compares}
 use Rattle.merge.specs.declared.keys.Terms.{Terms}
 
 -- the entries of a covariance

@@ -12,7 +12,8 @@ use Rattle.kernel.proofs.Lists.{tabulate-ext, by-elements}
 use Rattle.pairing.specs.Keys.{nobody}
 use Rattle.merge.specs.Rows.{Row, rowAt, Pairings, selected, withoutBase, remaining, baseRow, oursRow, theirsRow, rowsOf}
 use Rattle.merge.specs.Demand3.{baseIn, oursIn, theirsIn}
-use Rattle.merge.specs.Steps.{rowsBytes, Appended, tablesIn, pairingsIn}
+use Rattle.merge.specs.Steps.{rowsBytes, Appended, tablesIn}
+use Rattle.merge.specs.PairSteps.{pairingsIn}
 use Rattle.merge.specs.declared.pairs.Pairings as TablesOf
 use Rattle.merge.proofs.Bytes.{rows-length}
 use Rattle.merge.proofs.Paired.{front-free}

@@ -14,7 +14,8 @@ use Rattle.compare.specs.Distance.{floorAndGate}
 use Rattle.merge.specs.Tracks.{trackCount}
 use Rattle.merge.specs.Rows.{Pairings, rowsOf}
 use Rattle.merge.specs.Merge.{pairingsOf}
-use Rattle.merge.specs.Steps.{held, Lists, Read, AllRead, Compares, Sizes, pairingsIn, tablesIn, pairedValues, Appended}
+use Rattle.merge.specs.Steps.{held, Lists, Read, AllRead, tablesIn, Appended}
+use Rattle.merge.specs.PairSteps.{Compares, Sizes, pairingsIn, pairedValues}
 use Rattle.merge.specs.declared.keys.Terms.{Terms}
 use Rattle.merge.specs.declared.pairs.Pairings as TablesOf
 use Rattle.merge.proofs.Deciding.{rows-front}

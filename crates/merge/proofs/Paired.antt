@@ -22,7 +22,7 @@ use Rattle.merge.specs.Tracks.{trackCount, trackAt}
 use Rattle.merge.specs.Candidates.{comparison, candidatesOf, among, keysAmong}
 use Rattle.merge.specs.Rows.{Partners}
 use Rattle.merge.specs.Merge.{partnersIn, pairingsOf}
-use Rattle.merge.specs.Steps.{keysBetween, partnersOf, partnersBetween, pairingsIn, pairedValues}
+use Rattle.merge.specs.PairSteps.{keysBetween, partnersOf, partnersBetween, pairingsIn, pairedValues}
 use Rattle.merge.specs.declared.keys.Terms.{Terms}
 use Rattle.merge.specs.declared.pairs.Partners as TableOf
 use Rattle.merge.proofs.Candidates.{keyed-partners, all-keyed-partners}

@@ -6,4 +6,5 @@ pub mod Merge
 pub mod Demand3
 pub mod Examples
 pub mod Steps
+pub mod PairSteps
 pub mod Ticked

@@ -1,30 +1,27 @@
--- The words of the private functions' contracts: no caller needs them.
+-- The words of the private functions that read lists and write rows and verdicts: no caller needs them. Those that pair are in PairSteps.
 use Prim.Native.Nat.{ℕ, _+_, _*_, _<_, _≤_}
 use mathlib.Core.Path.{_≡_}
-use mathlib.Core.Bool.{Bool, true, cond, _&&_}
+use mathlib.Core.Bool.{Bool, cond, _&&_}
 use mathlib.Core.List.{List, [], _∷_, flatMap}
 use lib.Dec.{eqb}
-use lib.ListN.{length, getD, take}
-use lib.Ieee.{Float, nan}
+use lib.ListN.{length, getD}
+use lib.Ieee.{Float}
 use Rattle.kernel.specs.Answer.{Outcome, refused, answered, ask, andThen}
 use Rattle.kernel.specs.Lists.{over, tabulate}
-use Rattle.dense.specs.Matrix.{rowOf, matrix}
+use Rattle.dense.specs.Matrix.{rowOf}
 use Rattle.tracks.specs.Layout.{fields}
 use Rattle.tracks.specs.Read.{TrackList, contents}
 use Rattle.tracks.specs.Record.{offset}
 use Rattle.tracks.specs.Calls.{doubles}
 use Rattle.tracks.specs.declared.read.ReadList.{ReadList}
 use Rattle.tracks.specs.declared.read.ReadList.the-variants as Told
-use Rattle.compare.specs.Distance.{compared, floorAndGate}
-use Rattle.compare.specs.Fields.{trackState, trackCovariance}
-use Rattle.pairing.specs.Keys.{nobody, fromKeys}
-use Rattle.pairing.specs.Search.{isFree, nobodies}
+use Rattle.compare.specs.Distance.{floorAndGate}
+use Rattle.pairing.specs.Keys.{nobody}
+use Rattle.pairing.specs.Search.{isFree}
 use Rattle.merge.specs.Tracks.{trackCount, trackAt}
-use Rattle.merge.specs.Candidates.{nearSquare}
 use Rattle.merge.specs.Rows.{Row, rowBytes, rowAt, keep, verdictOn, selected, Partners, Pairings}
-use Rattle.merge.specs.Merge.{partnersIn, mergedRows, oneDimension, roomFor}
+use Rattle.merge.specs.Merge.{mergedRows, oneDimension, roomFor}
 use Rattle.merge.specs.Demand3.{TrackOrNone, baseIn, oursIn, theirsIn}
-use Rattle.merge.specs.declared.keys.Terms.{Terms}
 use Rattle.merge.specs.declared.lists.Three.{Three}
 use Rattle.merge.specs.declared.lists.Three.the-variants.{Accepted, Refused}
 use Rattle.merge.specs.declared.pairs.Partners as TableOf
@@ -81,66 +78,6 @@ threeOf (Told.Read m d) (Told.Read n ours-d) (Told.Read l theirs-d) = sameDimens
 -- The questions of a merge when its three lists are read, and then its rows.
 abbrev pub mergeThree : TrackList → TrackList → TrackList → Float → Float → ℕ → Outcome (List Row)
 mergeThree b o t floor gate room = ask 18 (floorAndGate floor gate) (ask 19 (roomFor b o t room) (answered (mergedRows b o t floor gate)))
-
--- ---- keys
-
--- That tracks can be compared by these terms.
-pub record Compares (terms : Terms) : Type 0 where
-  pub some : 1 ≤ terms .d
-  pub few : terms .d ≤ 9
-  pub number : terms .f ≡ fields (terms .d)
-  pub floor-and-gate : floorAndGate (terms .floor) (terms .gate) ≡ true
-
--- That there are values for a list of n tracks of f fields.
-pub record Sizes (values : List Float) (n f : ℕ) : Type 0 where
-  pub few : n ≤ 32
-  pub values-long : n * f ≤ length values
-
--- The key of the track with the state mu and the covariance p, and the track with the fields v; and that of two tracks by their fields.
-abbrev pub keyFrom : Terms → List Float → List Float → List Float → Float
-keyFrom terms mu p v = let d = terms .d in nearSquare (compared mu (trackState d v) p (trackCovariance d v) d (terms .floor) (terms .gate))
-
-abbrev pub keyBetween : Terms → List Float → List Float → Float
-keyBetween terms u v = keyFrom terms (trackState (terms .d) u) (trackCovariance (terms .d) u) v
-
--- The same where both are free of earlier pairings, and a NaN where one is not.
-abbrev pub keyAmong : Terms → Bool → Bool → List Float → List Float → Float
-keyAmong terms first second u v = cond (first && second) (keyBetween terms u v) nan
-
--- The keys of one track, free or not, and n of a list.
-abbrev pub keysFrom : Terms → Bool → List Float → List Float → List Float → List ℕ → ℕ → List Float
-keysFrom terms first mu p vs partners n = tabulate n (λ j. cond (first && isFree partners j) (keyFrom terms mu p (rowOf vs (terms .f) j)) nan)
-
--- The keys of m tracks of one list and n of another, among those that are free by their partners in earlier pairings.
-abbrev pub keysBetween : Terms → List Float → List ℕ → ℕ → List Float → List ℕ → ℕ → List Float
-keysBetween terms us us-partners m vs vs-partners n =
-    matrix m n (λ i j. keyAmong terms (isFree us-partners i) (isFree vs-partners j) (rowOf us (terms .f) i) (rowOf vs (terms .f) j))
-
--- ---- pairings
-
--- The partners in front of two tables, of m first and n second tracks, and the pairings of m, n and l tracks.
-abbrev pub partnersOf : TableOf.Partners → ℕ → ℕ → Partners
-partnersOf p m n = record { firsts = take m (p .firsts); seconds = take n (p .seconds) }
-
-abbrev pub pairingsIn : TablesOf.Pairings → ℕ → ℕ → ℕ → Pairings
-pairingsIn p m n l = record {
-  baseOurs = partnersOf (p .«base_ours») m n;
-  baseTheirs = partnersOf (p .«base_theirs») m l;
-  oursTheirs = partnersOf (p .«ours_theirs») n l;
-}
-
--- The partners of m tracks of one list and n of another by their keys, among those that are free by their partners in earlier pairings.
-unfoldable pub partnersBetween : Terms → List Float → List ℕ → ℕ → List Float → List ℕ → ℕ → Partners
-unfolding partnersIn
-partnersBetween terms us us-partners m vs vs-partners n = partnersIn (fromKeys (keysBetween terms us us-partners m vs vs-partners n) m n)
-
--- The three pairings of lists with these values and numbers of tracks.
-abbrev pub pairedValues : Terms → List Float → ℕ → List Float → ℕ → List Float → ℕ → Pairings
-pairedValues terms base m ours n theirs l =
-    let bo = partnersBetween terms base (nobodies m) m ours (nobodies n) n in
-    let bt = partnersBetween terms base (nobodies m) m theirs (nobodies l) l in
-    let ot = partnersBetween terms ours (bo .seconds) n theirs (bt .seconds) l in
-    record { baseOurs = bo; baseTheirs = bt; oursTheirs = ot }
 
 -- ---- rows
 

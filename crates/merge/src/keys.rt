@@ -9,7 +9,7 @@ ghost use Rattle.dense.specs.Matrix.{rowOf};
 ghost use Rattle.pairing.specs.Keys.{nobody};
 ghost use Rattle.pairing.specs.Search.{isFree};
 ghost use Rattle.merge.specs.Candidates.{nearSquare};
-ghost use Rattle.merge.specs.Steps.{Compares, Sizes, keyFrom, keyAmong, keysFrom, keysBetween};
+ghost use Rattle.merge.specs.PairSteps.{Compares, Sizes, keyFrom, keyAmong, keysFrom, keysBetween};
 use crate::parts::both_free;
 use compare::Compared;
 use compare::Comparison;

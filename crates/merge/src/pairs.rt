@@ -4,7 +4,7 @@ ghost use Prim.Native.Nat.{_*_, _≤_};
 ghost use lib.ListN.{length, take};
 ghost use Rattle.pairing.specs.Keys.{fromKeys};
 ghost use Rattle.merge.specs.Merge.{partnersIn};
-ghost use Rattle.merge.specs.Steps.{Compares, Sizes, partnersOf, pairingsIn, pairedValues};
+ghost use Rattle.merge.specs.PairSteps.{Compares, Sizes, partnersOf, pairingsIn, pairedValues};
 use crate::keys::Terms;
 use crate::keys::keys_between;
 use pairing::NOBODY;

@@ -11,7 +11,7 @@ use lib.Seq.{length-take-le, length-front}
 use Rattle.dense.proofs.Laws.{front}
 use Rattle.compare.specs.Fields.{trackState, trackCovariance}
 use Rattle.pairing.specs.Keys.{nobody}
-use Rattle.merge.specs.Steps.{keysFrom}
+use Rattle.merge.specs.PairSteps.{keysFrom}
 use Rattle.merge.proofs.Comparing.{covariance-entries, length-covariance, length-state, covariance-left}
 use Rattle.merge.proofs.keys.key_row.Statement.{statement}
 use Rattle.merge.proofs.keys.key_row.Tie as tie

@@ -13,7 +13,7 @@ use Rattle.dense.specs.Matrix.{rowOf, matrix}
 use Rattle.kernel.proofs.Lists.{row-within}
 use Rattle.dense.proofs.Laws.{length-part, rows-none, rows-more}
 use Rattle.pairing.specs.Search.{isFree}
-use Rattle.merge.specs.Steps.{keyAmong}
+use Rattle.merge.specs.PairSteps.{keyAmong}
 use Rattle.merge.proofs.keys.keys_between.Statement.{statement}
 use Rattle.merge.proofs.keys.keys_between.Tie as tie
 

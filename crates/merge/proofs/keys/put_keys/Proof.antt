@@ -15,7 +15,7 @@ use Rattle.kernel.proofs.Lists.{row-within}
 use Rattle.dense.proofs.Laws.{filled-none, filled-more, filled-all}
 use Rattle.pairing.specs.Keys.{nobody}
 use Rattle.pairing.specs.Search.{isFree}
-use Rattle.merge.specs.Steps.{keyFrom}
+use Rattle.merge.specs.PairSteps.{keyFrom}
 use Rattle.merge.proofs.keys.put_keys.Statement.{statement}
 use Rattle.merge.proofs.keys.put_keys.Tie as tie
 
