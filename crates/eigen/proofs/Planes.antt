@@ -1,9 +1,10 @@
 -- Order 2. `plane-begun` and `plane-tolerance`: where the sweeps start. `plane-rotated`: what a rotation makes of the seven numbers, and
--- `plane-sweep`: a sweep is one. `plane-stops`: the test is on one square. `plane-pairs`: what is answered.
+-- `plane-sweep`: a sweep is one. `plane-stops`: the test is on one square. `plane-pairs`: what is answered, and
+-- `plane-answers`: what all steps together answer.
 use native.Mathlib.Omega.{arith}
-use mathlib.Core.Bool.{Bool, true, false, cond, _&&_}
+use mathlib.Core.Bool.{Bool, true, false, cond, _&&_, and-comm}
 use mathlib.Core.List.{List, [], _∷_}
-use mathlib.Core.Path.{_≡_, refl, ap}
+use mathlib.Core.Path.{_≡_, refl, sym, ap, _∙_}
 use lib.Ieee.{Float, lt}
 use lib.ListN.{length, set}
 use Rattle.kernel.specs.Answer.{answered, ask}
@@ -14,15 +15,16 @@ use Rattle.kernel.specs.Number.{add, mul, max, finite}
 use Rattle.dense.specs.Matrix.{sumFrom, nth, matrix, finiteEntries}
 use Rattle.eigen.specs.declared.Plane.{Plane}
 use Rattle.eigen.specs.declared.Rotation.{Rotation}
-use Rattle.eigen.specs.Pair.{planeState, turnedPlane, exchanged, descended, shownBy}
+use Rattle.eigen.specs.Pair.{planeState, turnedPlane, exchanged, descended, shownBy, planePairs}
 use Rattle.eigen.specs.Rotation.{State, state, negligible, rotation, turned, cornerEntry, turnedEntry, turnedVector, turnedBy, rotated}
 use Rattle.eigen.specs.Eigen.{symmetrizedEntry, begun, aboveRows, tolerance, stops, sweptRow, sweptRows, sweep}
-use Rattle.eigen.specs.Eigen.{spot, insertedAt, order, arranged, pairsOf}
+use Rattle.eigen.specs.Eigen.{spot, insertedAt, order, arranged, pairsOf, settled, eigenpairs}
+use Rattle.eigen.proofs.Answered.{eigenpairs-final}
 
-pub plane-begun : (a : List Float)
-    → begun a 2 ≡ state (nth a 0 ∷ mul half (add (nth a 1) (nth a 2)) ∷ mul half (add (nth a 1) (nth a 2)) ∷ nth a 3 ∷ []) (one ∷ nought ∷ nought ∷ one ∷ [])
+pub plane-begun : (w x y z : Float)
+    → begun (w ∷ x ∷ y ∷ z ∷ []) 2 ≡ state (w ∷ mul half (add x y) ∷ mul half (add x y) ∷ z ∷ []) (one ∷ nought ∷ nought ∷ one ∷ [])
 unfolding begun symmetrizedEntry matrix tabulate
-plane-begun a = refl
+plane-begun w x y z = refl
 
 pub plane-tolerance : (s : Plane)
     → tolerance (planeState s .entries) 2
@@ -50,16 +52,32 @@ plane-rotated s =
 
 -- by which of the two is the greater
 in-order : (s : Plane) (b : Bool)
-    → arranged (s .app ∷ s .aqq ∷ []) (planeState s .vectors) 2 (insertedAt 1 (cond b 0 1) (0 ∷ [])) ≡ shownBy (cond b (exchanged s) s)
-unfolding arranged insertedAt matrix tabulate
-in-order s true = refl
+    → ask 4 (finite (s .app) && finite (s .aqq)) (answered (arranged (s .app ∷ s .aqq ∷ []) (planeState s .vectors) 2 (insertedAt 1 (cond b 0 1) (0 ∷ []))))
+    ≡ planePairs (cond b (exchanged s) s)
+unfolding arranged insertedAt matrix tabulate planePairs
+in-order s true = ap (λ (t : Bool). ask 4 t (answered (shownBy (exchanged s)))) (and-comm (finite (s .app)) (finite (s .aqq)))
 in-order s false = refl
 
-pub plane-pairs : (s : Plane) → pairsOf 2 (planeState s) ≡ ask 4 (finite (s .app) && finite (s .aqq)) (answered (shownBy (descended s)))
+pub plane-pairs : (s : Plane) → pairsOf 2 (planeState s) ≡ planePairs (descended s)
 unfolding pairsOf finiteEntries tabulate order spot insertedAt firstBelow descended
-plane-pairs s = ap (λ r. ask 4 (finite (s .app) && finite (s .aqq)) (answered r)) (in-order s (lt (s .app) (s .aqq)))
+plane-pairs s = in-order s (lt (s .app) (s .aqq))
 
--- ---- what is stored in a short slice
+pub plane-answers : (w x y z : Float) {b p : Plane} → planeState b ≡ begun (w ∷ x ∷ y ∷ z ∷ []) 2 → planeState p ≡ settled 2 (tolerance (planeState b .entries) 2) (planeState b)
+    → planePairs (descended p) ≡ eigenpairs (w ∷ x ∷ y ∷ z ∷ []) 2
+plane-answers w x y z {b} {p} e f =
+    sym (plane-pairs p)
+    ∙ ap (pairsOf 2) (f ∙ ap (λ (s : State). settled 2 (tolerance (s .entries) 2) s) e)
+    ∙ sym (eigenpairs-final (w ∷ x ∷ y ∷ z ∷ []) 2)
+
+-- ---- a short slice
+
+pub four-list : (l : List Float) → length l ≡ 4 → l ≡ nth l 0 ∷ nth l 1 ∷ nth l 2 ∷ nth l 3 ∷ []
+four-list [] e = absurd (omega arith)
+four-list (a ∷ []) e = absurd (omega arith)
+four-list (a ∷ b ∷ []) e = absurd (omega arith)
+four-list (a ∷ b ∷ c ∷ []) e = absurd (omega arith)
+four-list (a ∷ b ∷ c ∷ d ∷ []) e = refl
+four-list (a ∷ b ∷ c ∷ d ∷ f ∷ l) e = absurd (omega arith)
 
 pub two-stored : (l : List Float) (x y : Float) → length l ≡ 2 → set (set l 0 x) 1 y ≡ x ∷ y ∷ []
 two-stored [] x y e = absurd (omega arith)

@@ -1,9 +1,10 @@
 -- What the code holds at order 2, where there is one pair: three numbers of the symmetric matrix, and four of the vectors.
-use mathlib.Core.Bool.{cond}
+use mathlib.Core.Bool.{cond, _&&_}
 use mathlib.Core.List.{[], _∷_}
 use lib.Ieee.{lt}
+use Rattle.kernel.specs.Answer.{Outcome, answered, ask}
 use Rattle.kernel.specs.Constants.{nought}
-use Rattle.kernel.specs.Number.{add, sub, mul}
+use Rattle.kernel.specs.Number.{add, sub, mul, finite}
 use Rattle.eigen.specs.declared.Plane.{Plane}
 use Rattle.eigen.specs.declared.Rotation.{Rotation}
 use Rattle.eigen.specs.Rotation.{State, state}
@@ -37,3 +38,7 @@ descended s = cond (lt (s .app) (s .aqq)) (exchanged s) s
 -- the eigenpairs that it shows
 abbrev pub shownBy : Plane → Eigenpairs
 shownBy s = record { values = s .app ∷ s .aqq ∷ []; vectors = s .vpp ∷ s .vpq ∷ s .vqp ∷ s .vqq ∷ [] }
+
+-- question 4, and then these
+unfoldable pub planePairs : Plane → Outcome Eigenpairs
+planePairs s = ask 4 (finite (s .app) && finite (s .aqq)) (answered (shownBy s))

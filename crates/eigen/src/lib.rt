@@ -2,7 +2,7 @@
 mod angle;
 pub mod generic;
 mod order;
-mod pair;
+pub mod pair;
 mod rotate;
 mod start;
 mod sweep;

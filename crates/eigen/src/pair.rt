@@ -1,8 +1,9 @@
 // Order 2: there is one pair, so that a sweep is one rotation, of seven numbers.
 ghost use mathlib.Core.Path.{_≡_};
+ghost use mathlib.Core.List.{[], _∷_};
 ghost use lib.ListN.{length};
-ghost use Rattle.eigen.specs.Eigen.{begun, tolerance, settled, pairsOf, eigenpairs, afterPairs};
-ghost use Rattle.eigen.specs.Pair.{planeState, turnedPlane, descended};
+ghost use Rattle.eigen.specs.Eigen.{begun, tolerance, settled, eigenpairs, afterPairs};
+ghost use Rattle.eigen.specs.Pair.{planeState, turnedPlane, descended, planePairs};
 ghost use Rattle.eigen.specs.Rotation.{rotated};
 use crate::Plane;
 use crate::Rotation;
@@ -16,15 +17,14 @@ use kernel::constants::REL_TOL;
 use kernel::number::max;
 use kernel::question::FINITE_EIGENVALUES;
 
-// The plane of a, made symmetric, with the unit vectors.
-fn begin(a: &[f64]) -> Plane
-    requires { ⌜ length (now a) ≡ 4 ⌝ }
-    ensures { λ r. ⌜ planeState r ≡ begun (now (a .entry)) 2 ⌝ }
+// The plane of the rows w, x and y, z, made symmetric, with the unit vectors.
+fn begin(w: f64, x: f64, y: f64, z: f64) -> Plane
+    ensures { λ r. ⌜ planeState r ≡ begun (w ∷ x ∷ y ∷ z ∷ []) 2 ⌝ }
 {
     Plane {
-        app: a[0],
-        apq: 0.5 * (a[1] + a[2]),
-        aqq: a[3],
+        app: w,
+        apq: 0.5 * (x + y),
+        aqq: z,
         vpp: 1.0,
         vpq: 0.0,
         vqp: 0.0,
@@ -98,10 +98,20 @@ fn descend(s: Plane) -> Plane
     s
 }
 
+// The eigenpairs of the matrix with the rows w, x and y, z; where its diagonal is not finite, question 4 is not met.
+pub fn eigenplane(w: f64, x: f64, y: f64, z: f64) -> Plane
+    ensures { λ r. ⌜ planePairs r ≡ eigenpairs (w ∷ x ∷ y ∷ z ∷ []) 2 ⌝ }
+{
+    let s = begin(w, x, y, z);
+    let tol = plane_tolerance(s);
+    let p = settle_plane(s, tol);
+    descend(p)
+}
+
 // Question 4, and then the eigenpairs that a plane shows.
 fn write_plane(s: Plane, values: &mut [f64], vectors: &mut [f64]) -> Written
     requires { ⌜ (length (now values) ≡ 2) × (length (now vectors) ≡ 4) ⌝ }
-    ensures { λ r. ⌜ (r, now (values .exit), now (vectors .exit)) ≡ afterPairs (pairsOf 2 (planeState s)) (now (values .entry)) (now (vectors .entry)) ⌝ }
+    ensures { λ r. ⌜ (r, now (values .exit), now (vectors .exit)) ≡ afterPairs (planePairs s) (now (values .entry)) (now (vectors .entry)) ⌝ }
 {
     if !is_finite(s.app) {
         return Written::Refused(FINITE_EIGENVALUES);
@@ -109,13 +119,12 @@ fn write_plane(s: Plane, values: &mut [f64], vectors: &mut [f64]) -> Written
     if !is_finite(s.aqq) {
         return Written::Refused(FINITE_EIGENVALUES);
     }
-    let d = descend(s);
-    values[0] = d.app;
-    values[1] = d.aqq;
-    vectors[0] = d.vpp;
-    vectors[1] = d.vpq;
-    vectors[2] = d.vqp;
-    vectors[3] = d.vqq;
+    values[0] = s.app;
+    values[1] = s.aqq;
+    vectors[0] = s.vpp;
+    vectors[1] = s.vpq;
+    vectors[2] = s.vqp;
+    vectors[3] = s.vqq;
     Written::Done
 }
 
@@ -124,8 +133,6 @@ pub(crate) fn plane_eigenpairs(a: &[f64], values: &mut [f64], vectors: &mut [f64
     requires { ⌜ (length (now a) ≡ 4) × (length (now values) ≡ 2) × (length (now vectors) ≡ 4) ⌝ }
     ensures { λ r. ⌜ (r, now (values .exit), now (vectors .exit)) ≡ afterPairs (eigenpairs (now (a .entry)) 2) (now (values .entry)) (now (vectors .entry)) ⌝ }
 {
-    let s = begin(a);
-    let tol = plane_tolerance(s);
-    let settled = settle_plane(s, tol);
-    write_plane(settled, values, vectors)
+    let p = eigenplane(a[0], a[1], a[2], a[3]);
+    write_plane(p, values, vectors)
 }

@@ -15,7 +15,7 @@ use Rattle.dense.specs.declared.Written.the-variants.{Done, Refused}
 use Rattle.eigen.specs.Eigen.{Eigenpairs, eigenpairs, matSymmetricEigen, afterPairs}
 use Rattle.repair.specs.declared.RegularizationReport.{RegularizationReport}
 use Rattle.repair.specs.declared.Repaired.{Repaired}
-use Rattle.repair.specs.Repair.{raised, reportOf, rebuiltEntry, repairOf, repair, refusal, afterRepair}
+use Rattle.repair.specs.Repair.{raised, reportOf, rebuiltEntry, repairOf, repair, refusal, reported, afterRepair}
 
 long-of : (a : List Float) (n : ℕ) → length a ≡ n → long a n ≡ true
 unfolding long
@@ -48,8 +48,8 @@ module _ (cov : List Float) (floor : Float) (n : ℕ) (e v : List Float) where
   unfolding repair
   repair-refused out m t p f = rw (f, sym m ∙ refused-by (matSymmetricEigen cov n e v) (rw t at p))
 
-  pub repair-done : (out : List Float) {a : Written} {x y z new : List Float} {t : RegularizationReport} → matSymmetricEigen cov n e v ≡ eigenpairs cov n → a ≡ Done
+  pub repair-done : (out : List Float) {a : Written} {x y z new : List Float} {t : RegularizationReport} {r : Repaired} → matSymmetricEigen cov n e v ≡ eigenpairs cov n → a ≡ Done
       → _≡_ {A = Told} (a, x, y) (afterPairs (matSymmetricEigen cov n e v) e v) → t ≡ reportOf x floor n → z ≡ tabulate n (λ k. raised floor (nth x k))
-      → new ≡ matrix n n (rebuiltEntry y z n) → _≡_ {A = Repaired × List Float} (record { answer = Done; report = t }, new) (afterRepair (repair cov floor n) out)
+      → new ≡ matrix n n (rebuiltEntry y z n) → r ≡ reported t → (r, new) ≡ afterRepair (repair cov floor n) out
   unfolding repair repairOf
-  repair-done out m t p ft fz fn = rw (sym m ∙ answered-by (matSymmetricEigen cov n e v) (rw t at p), ft, fn, fz)
+  repair-done out m t p ft fz fn fr = rw (sym m ∙ answered-by (matSymmetricEigen cov n e v) (rw t at p), fr, ft, fn, fz)

@@ -94,7 +94,11 @@ unfoldable pub refusal : ℕ → Repaired
 unfolding blank
 refusal q = record { answer = written.Refused q; report = blank }
 
+-- the answer of a repair with the report t
+abbrev pub reported : RegularizationReport → Repaired
+reported t = record { answer = written.Done; report = t }
+
 -- The answer, and what the slice holds afterwards: a refusal leaves it as it was.
 abbrev pub afterRepair : Outcome Repair → List Float → Repaired × List Float
 afterRepair (refused q) old = (refusal q, old)
-afterRepair (answered r) old = (record { answer = written.Done; report = r .report }, r .rebuilt)
+afterRepair (answered r) old = (reported (r .report), r .rebuilt)

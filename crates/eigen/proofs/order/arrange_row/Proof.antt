@@ -1,22 +1,19 @@
 -- `arrange_row` meets its contract: before turn k the entries before k are written.
-use Prim.Native.Nat.{_-_, _≤_}
+use Prim.Native.Nat.{_-_}
 use native.Mathlib.Omega.{arith}
 use Rattle.dense.specs.Matrix.{at}
-use Rattle.dense.specs.Fill.{Filled}
-use Rattle.dense.proofs.Laws.{cell, filled-none, filled-more, filled-all}
+use Rattle.dense.proofs.Entries.{EntryByEntry, no-entry, entry-written, every-entry}
+use Rattle.dense.proofs.Laws.{cell}
 use Rattle.eigen.specs.Eigen.{place}
 use Rattle.eigen.specs.Rows.{Below}
 use Rattle.eigen.proofs.order.arrange_row.Statement.{statement}
 use Rattle.eigen.proofs.order.arrange_row.Tie as tie
 
 abbrev Inv-loop : tie.InvT-loop
-Inv-loop v l n i y₀ k₀ y k = (k ≤ n) × Filled (λ j. at v n (place l j) i) y₀ k y
+Inv-loop v l n i y₀ k₀ y k = EntryByEntry (λ j. at v n (place l j) i) n y₀ k y
 
 abbrev μ-loop : tie.MeasureT-loop
 μ-loop v l n i y₀ k₀ y k = n - k
-
-loop-holds : tie.Need-loop-holds Inv-loop μ-loop
-loop-holds c = (omega arith, filled-none _ _)
 
 entry-requires : tie.Need-entry-requires Inv-loop μ-loop
 unfolding Below
@@ -28,16 +25,13 @@ entry-requires c κs =
     omega (arith, cell (x .n) (x .n) {i = place (x .l .now) k} {j = x .i} (start .pre .3 k (omega arith)) (start .pre .0))
 
 loop-again : tie.Need-loop-again Inv-loop μ-loop
-loop-again c = (omega arith, filled-more _ (c .before .before .before .loop .k) (omega arith) (c .entry .ensures) (c .before .before .before .loop .inv .1))
-
-same-length : tie.Need-same-length Inv-loop μ-loop
-same-length c = c .before .loop .inv .1 .size
+loop-again c = entry-written (c .before .before .before .loop .inv) (c .before .before .loop-test .taken) (c .entry .ensures)
 
 returns : tie.Need-returns Inv-loop μ-loop
-returns c = filled-all _ (c .before .before .before .before .before .pre .4) (c .loop-test .left) (c .before .loop .inv .1)
+returns c = every-entry (c .before .loop .inv) (c .loop-test .left)
 
 pub arrange-row-spec : {M : Type 1} → statement M
 arrange-row-spec =
     tie.close
-    (tie.spec Inv-loop μ-loop loop-holds (λ c. omega arith) (λ c. omega arith) entry-requires (λ c. omega arith) (λ c. omega arith) (λ c. omega arith)
-    (λ c. omega arith) loop-again same-length returns)
+    (tie.spec Inv-loop μ-loop (λ c. no-entry (c .before .before .before .pre .4)) (λ c. omega arith) (λ c. omega arith) entry-requires (λ c. omega arith)
+    (λ c. omega arith) (λ c. omega arith) (λ c. omega arith) loop-again (λ c. c .before .loop .inv .entries .size) returns)

@@ -1,5 +1,4 @@
 -- `begin` meets its contract, by `plane-begun`.
-use borrow.Author.Needs.{needs}
 use mathlib.Core.Path.{sym}
 use lib.Ieee.{ofBits}
 use Rattle.eigen.proofs.Planes.{plane-begun}
@@ -8,7 +7,7 @@ use Rattle.eigen.proofs.pair.begin.Tie as tie
 
 returns : tie.Need-returns
 unfolding ofBits
-returns c = sym (plane-begun _)
+returns c = sym (plane-begun _ _ _ _)
 
 pub begin-spec : {M : Type 1} → statement M
-begin-spec = tie.close (tie.spec (λ c. search needs) (λ c. search needs) (λ c. search needs) (λ c. search needs) returns)
+begin-spec = tie.close (tie.spec returns)

@@ -1,21 +1,21 @@
--- `repair` meets its contract: one entry, room for orders to 4, or for orders to 16.
+-- `repair` meets its contract: two rows, room for orders to 4, or for orders to 16.
 use borrow.Author.Needs.{needs}
 use mathlib.Core.Path.{_∙_}
 use Rattle.eigen.proofs.Single.{same-square}
 use Rattle.repair.proofs.regularize.repair.Statement.{statement}
 use Rattle.repair.proofs.regularize.repair.Tie as tie
 
-single-repair-requires : tie.Need-single-repair-requires
-single-repair-requires c κs =
+plane-repair-requires : tie.Need-plane-repair-requires
+plane-repair-requires c κs =
     let start = c .before .before .before .before in
-    let one = same-square (c .before .if1 .taken) in
-    (start .pre .1 ∙ one, rw one at (start .pre .2), start .pre .3 ∙ one)
+    let two = same-square (c .before .if1 .taken) in
+    (start .pre .1 ∙ two, start .pre .2 ∙ two)
 
 returns : tie.Need-returns
-returns c = let called = c .before .before in rw (called .before .before .if1 .taken) (called .single-repair .ensures)
+returns c = let called = c .before .before in rw (called .before .before .if1 .taken) (called .plane-repair .ensures)
 
 pub repair-spec : {M : Type 1} → statement M
 repair-spec =
     tie.close
-    (tie.spec single-repair-requires (λ c. search needs) returns (λ c κs. search needs) (λ c. search needs) (λ c. search needs) (λ c κs. search needs)
+    (tie.spec plane-repair-requires (λ c. search needs) returns (λ c κs. search needs) (λ c. search needs) (λ c. search needs) (λ c κs. search needs)
     (λ c. search needs) (λ c. search needs))

@@ -35,17 +35,17 @@ returns c =
 
 returns-2 : tie.Need-returns-2
 returns-2 c =
-    let after-rebuild = c .before .before in
+    let after-rebuild = c .before .before .before in
     let after-raise = after-rebuild .before .before .before .before .before .before in
     let after-report = after-raise .before .before in
     let done = after-report .before .before in
     let call = paired done in
     let x = entered call .args in
     repair-done (x .cov .now) (x .floor) (x .n) (x .e .now) (x .v .now) (x .out .now) (asked call) (done .enum-told .given .1) (call .mat-symmetric-eigen .ensures)
-    (after-report .report .ensures) (after-raise .raise .ensures) (after-rebuild .rebuild .ensures)
+    (after-report .report .ensures) (after-raise .raise .ensures) (after-rebuild .rebuild .ensures) (c .done .ensures)
 
 pub repair-in-spec : {M : Type 1} → statement M
 repair-in-spec =
     tie.close
     (tie.spec (λ c κs. search needs) (λ c. search needs) (λ c κs. search needs) (λ c. search needs) report-requires (λ c κs. search needs)
-    (λ c κs. search needs) (λ c. search needs) (λ c. search needs) returns (λ c. search needs) (λ c. search needs) (λ c. search needs) returns-2)
+    (λ c κs. search needs) (λ c κs. search needs) (λ c. search needs) (λ c. search needs) returns (λ c. search needs) (λ c. search needs) (λ c. search needs) returns-2)

@@ -1,0 +1,74 @@
+-- Orders 1 and 2. `single-asked` and `single-repaired`: the call on one entry; `plane-repaired`: a repair from the numbers of a plane.
+use Prim.Native.Nat.{ℕ, _+_}
+use native.Mathlib.Omega.{arith}
+use mathlib.Core.Bool.{Bool, true, false, cond, _&&_}
+use mathlib.Core.List.{List, [], _∷_}
+use mathlib.Core.Path.{_≡_, refl, sym, ap, _∙_}
+use lib.Ieee.{Float}
+use lib.ListN.{length}
+use Rattle.kernel.specs.Answer.{Outcome, answered, ask, through}
+use Rattle.kernel.specs.Constants.{nought, one}
+use Rattle.kernel.specs.Lists.{tabulate}
+use Rattle.kernel.specs.Number.{add, mul, finite}
+use Rattle.dense.specs.Matrix.{nth, matrix, sumFrom, side, long, finiteEntries}
+use Rattle.eigen.specs.declared.Plane.{Plane}
+use Rattle.eigen.specs.Eigen.{Eigenpairs, eigenpairs}
+use Rattle.eigen.specs.Pair.{shownBy, planePairs}
+use Rattle.eigen.proofs.Single.{single-eigenpairs, single-list}
+use Rattle.repair.specs.Repair.{Repair, clips, clipCount, greaterClip, largestClip, raised, rebuiltEntry, reportOf, repairOf, repair, nearestPsd}
+
+-- ---- one entry
+
+pub single-asked : (x : List Float) (floor : Float) (out : List Float)
+    → nearestPsd x floor 1 out ≡ ask 2 (long x 1 && long out 1) (ask 3 (finite (nth x 0)) (repair x floor 1))
+unfolding nearestPsd side finiteEntries
+single-asked x floor out = refl
+
+-- the repair of one finite entry
+abbrev pub mended : List Float → Float → Repair
+mended x floor = record { rebuilt = add nought (mul (mul one (raised floor (nth x 0))) one) ∷ []; report = reportOf x floor 1 }
+
+of-pairs : (x : List Float) (floor : Float) → length x ≡ 1 → finite (nth x 0) ≡ true
+    → through (repairOf floor 1) (ask 4 (finite (nth x 0)) (answered (record { values = nth x 0 ∷ []; vectors = one ∷ [] }))) ≡ answered (mended x floor)
+unfolding repairOf rebuiltEntry matrix tabulate sumFrom
+of-pairs x floor l h = rw h (ap (λ (e : List Float). answered (record { rebuilt = mended x floor .rebuilt; report = reportOf e floor 1 })) (sym (single-list x l)))
+
+pub single-repaired : (x : List Float) (floor : Float) → length x ≡ 1 → finite (nth x 0) ≡ true → repair x floor 1 ≡ answered (mended x floor)
+unfolding repair
+single-repaired x floor l h = ap (through (repairOf floor 1)) (single-eigenpairs x) ∙ of-pairs x floor l h
+
+-- ---- two rows
+
+-- two eigenvalues: how many are clipped, and the largest clip
+module _ (x y floor : Float) where
+  pub plane-count : {a b : ℕ} → a ≡ cond (clips floor x) 1 0 → b ≡ cond (clips floor y) 1 0 → a + b ≡ clipCount (x ∷ y ∷ []) floor 2
+  unfolding clipCount
+  plane-count p q = omega (arith, p, q)
+
+  pub plane-largest : {g h : Float} → g ≡ greaterClip nought x floor → h ≡ greaterClip g y floor → h ≡ largestClip (x ∷ y ∷ []) floor 2
+  unfolding largestClip
+  plane-largest p q = q ∙ ap (λ (z : Float). greaterClip z y floor) p
+
+-- the matrix with the eigenvalues e and f and the vectors of p
+abbrev pub rebuiltPlane : Plane → Float → Float → List Float
+rebuiltPlane p e f = matrix 2 2 (rebuiltEntry (shownBy p .vectors) (e ∷ f ∷ []) 2)
+
+pub plane-rebuilt : (p : Plane) (e f : Float) → rebuiltPlane p e f
+    ≡ add (add nought (mul (mul (p .vpp) e) (p .vpp))) (mul (mul (p .vpq) f) (p .vpq))
+    ∷ add (add nought (mul (mul (p .vpp) e) (p .vqp))) (mul (mul (p .vpq) f) (p .vqq))
+    ∷ add (add nought (mul (mul (p .vqp) e) (p .vpp))) (mul (mul (p .vqq) f) (p .vpq))
+    ∷ add (add nought (mul (mul (p .vqp) e) (p .vqp))) (mul (mul (p .vqq) f) (p .vqq))
+    ∷ []
+unfolding rebuiltEntry matrix tabulate sumFrom
+plane-rebuilt p e f = refl
+
+through-asked : (f : Eigenpairs → Repair) (p : Eigenpairs) (b : Bool) → through f (ask 4 b (answered p)) ≡ ask 4 b (answered (f p))
+through-asked f p true = refl
+through-asked f p false = refl
+
+pub plane-repaired : (x : List Float) (floor : Float) (p : Plane) → planePairs p ≡ eigenpairs x 2
+    → repair x floor 2
+    ≡ ask 4 (finite (p .app) && finite (p .aqq))
+    (answered (record { rebuilt = rebuiltPlane p (raised floor (p .app)) (raised floor (p .aqq)); report = reportOf (p .app ∷ p .aqq ∷ []) floor 2 }))
+unfolding repair planePairs repairOf tabulate
+plane-repaired x floor p e = ap (through (repairOf floor 2)) (sym e) ∙ through-asked (repairOf floor 2) (shownBy p) (finite (p .app) && finite (p .aqq))
