@@ -61,9 +61,10 @@ uint32_t pel_mat_symmetric_eigen(const double *a, size_t a_len, size_t n, double
 /* The nearest matrix whose eigenvalues are not below min_eig; bit k of clipped_indices is for eigenvalue k. */
 uint32_t pel_nearest_psd(const double *cov, size_t cov_len, double min_eig, size_t n, double *out, size_t out_len,
                          size_t *n_clipped, double *max_clip_magnitude, uint32_t *clipped_indices);
-/* The same by its other name: the clip count, the largest clip and the mask. */
+/* The same by its other name. */
 uint32_t pel_eigenvalue_floor(const double *cov, size_t cov_len, double min_eig, size_t n, double *out,
-                              size_t out_len, size_t *count, double *clip, uint32_t *mask);
+                              size_t out_len, size_t *n_clipped, double *max_clip_magnitude,
+                              uint32_t *clipped_indices);
 /* Power iteration: the eigenvalue that is greatest in size, and its vector; at most max_iter rounds. */
 uint32_t pel_mat_eigenvector_max(const double *a, size_t a_len, size_t n, uint32_t max_iter, double tol, double *v,
                                  size_t v_len, double *lambda);
@@ -74,10 +75,10 @@ uint32_t pel_condition_number(const double *a, size_t a_len, size_t n, double *o
 /* The damped matrix, and the condition numbers before and after. */
 uint32_t pel_tikhonov_with_report(const double *cov, size_t cov_len, double alpha, size_t n, double *out,
                                   size_t out_len, double *before, double *after);
-/* Track i with the state mu and the covariance cov_i, track j with x and cov_j. The kind is 0 for no distance, 1 for near and 2 for
+/* Track i with the state mu and the covariance p_i, track j with x and p_j. The kind is 0 for no distance, 1 for near and 2 for
    far; the squared distance is written for near and far alone. */
-uint32_t pel_compare(const double *mu, size_t mu_len, const double *x, size_t x_len, const double *cov_i,
-                     size_t cov_i_len, const double *cov_j, size_t cov_j_len, size_t n, double floor, double gate,
+uint32_t pel_compare(const double *mu, size_t mu_len, const double *x, size_t x_len, const double *p_i,
+                     size_t p_i_len, const double *p_j, size_t p_j_len, size_t n, double floor, double gate,
                      uint32_t *kind, double *d2);
 uint32_t pel_mat3_det(const double *m, size_t m_len, double *out);
 uint32_t pel_mat3_inv(const double *m, size_t m_len, double *out, size_t out_len);
@@ -96,7 +97,7 @@ void pel_record(const uint8_t *list, size_t list_len, size_t offset, size_t *sta
    and the verdict, 0 keep, 1 take ours, 2 take theirs, 3 deleted, 4 conflict. The bytes past them stay. full, half and single
    count the rows with three, two and one track. */
 uint32_t pel_merge(const uint8_t *base, size_t base_len, const uint8_t *ours, size_t ours_len, const uint8_t *theirs,
-                   size_t theirs_len, double floor, double gate, uint8_t *buffer, size_t buffer_len, size_t *full,
+                   size_t theirs_len, double floor, double gate, uint8_t *rows, size_t rows_len, size_t *full,
                    size_t *half, size_t *single);
 /* The winning record of a row of four bytes, by its start and length in a list: 1 for ours, 2 for theirs. All three are 0 where
    there is none: another verdict, no such track, a list that is refused, a row of another length. */
