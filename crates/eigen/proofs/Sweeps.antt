@@ -100,6 +100,19 @@ module _ {n : ℕ} {m v m₁ v₁ : List Float} (held : Slices n m v) (e : lengt
   pub slices-swept : stateOf n m₁ v₁ ≡ sweep n (stateOf n m v) → Slices n m₁ v₁
   slices-swept g = next g (rows-symmetric n (stateOf n m v) n (held .symmetric))
 
+-- what m and v hold before row p, from the state s, meets column q
+pub record RowSwept (n p : ℕ) (s : State) (q : ℕ) (m v : List Float) : Type 0 where
+  pub after : p < q
+  pub turns : q ≤ n
+  pub slices : Slices n m v
+  pub swept : stateOf n m v ≡ sweptRow n p s (q - suc p)
+
+-- and before row p meets its columns
+pub record RowsSwept (n : ℕ) (s : State) (p : ℕ) (m v : List Float) : Type 0 where
+  pub turns : p ≤ n
+  pub slices : Slices n m v
+  pub swept : stateOf n m v ≡ sweptRows n s p
+
 -- ---- sweeps until the test stops them
 
 -- before sweep k from s no state has met the test, and t is the state

@@ -1,8 +1,8 @@
 // `mat_symmetric_eigen` of linalg/generic.rs.
 ghost use mathlib.Core.Path.{_≡_};
 ghost use Prim.Native.Nat.{_*_, _≤_};
-ghost use lib.ListN.{length};
 ghost use Rattle.eigen.specs.Eigen.{pairsOf, eigenpairs, matSymmetricEigen, afterPairs};
+ghost use Rattle.eigen.specs.Room.{Lent, Work, Enough};
 ghost use Rattle.eigen.specs.Rows.{stateOf};
 use crate::order::arrange_values;
 use crate::order::arrange_vectors;
@@ -33,7 +33,7 @@ fn pairs(
     values: &mut [f64],
     vectors: &mut [f64],
 ) -> Written
-    requires { ⌜ (length (now m) ≡ n * n) × (length (now v) ≡ n * n) × (length (now e) ≡ n) × (length (now l) ≡ n) × (length (now values) ≡ n) × (length (now vectors) ≡ n * n) ⌝ }
+    requires { ⌜ Work n (now m) (now v) (now e) (now l) × Lent n (now m) (now values) (now vectors) ⌝ }
     ensures { λ r. ⌜ (r, now (values .exit), now (vectors .exit)) ≡ afterPairs (pairsOf n (stateOf n (now (m .entry)) (now (v .entry)))) (now (values .entry)) (now (vectors .entry)) ⌝ }
 {
     diagonal(m, n, e);
@@ -58,7 +58,7 @@ fn eigenpairs_in(
     values: &mut [f64],
     vectors: &mut [f64],
 ) -> Written
-    requires { ⌜ (size ≡ n * n) × (length (now a) ≡ size) × (length (now m) ≡ size) × (length (now v) ≡ size) × (length (now e) ≡ n) × (length (now l) ≡ n) × (length (now values) ≡ n) × (length (now vectors) ≡ size) ⌝ }
+    requires { ⌜ (size ≡ n * n) × Work n (now m) (now v) (now e) (now l) × Lent n (now a) (now values) (now vectors) ⌝ }
     ensures { λ r. ⌜ (r, now (values .exit), now (vectors .exit)) ≡ afterPairs (eigenpairs (now (a .entry)) n) (now (values .entry)) (now (vectors .entry)) ⌝ }
 {
     symmetrize(a, n, m);
@@ -79,7 +79,7 @@ fn eigenpairs_with(
     e: &mut [f64],
     l: &mut [usize],
 ) -> Written
-    requires { ⌜ (n ≤ 16) × (length (now a) ≡ n * n) × (n * n ≤ length (now m)) × (n * n ≤ length (now v)) × (n ≤ length (now e)) × (n ≤ length (now l)) × (length (now values) ≡ n) × (length (now vectors) ≡ n * n) ⌝ }
+    requires { ⌜ (n ≤ 16) × Enough n (now m) (now v) (now e) (now l) × Lent n (now a) (now values) (now vectors) ⌝ }
     ensures { λ r. ⌜ (r, now (values .exit), now (vectors .exit)) ≡ afterPairs (eigenpairs (now (a .entry)) n) (now (values .entry)) (now (vectors .entry)) ⌝ }
 {
     let size = n * n;
@@ -98,7 +98,7 @@ fn eigenpairs_with(
 
 // The same of a matrix of one entry, which no sweep changes: the eigenvalue is the entry, and its vector 1.0.
 fn single_eigenpair(a: &[f64], values: &mut [f64], vectors: &mut [f64]) -> Written
-    requires { ⌜ (length (now a) ≡ 1) × (length (now values) ≡ 1) × (length (now vectors) ≡ 1) ⌝ }
+    requires { ⌜ Lent 1 (now a) (now values) (now vectors) ⌝ }
     ensures { λ r. ⌜ (r, now (values .exit), now (vectors .exit)) ≡ afterPairs (eigenpairs (now (a .entry)) 1) (now (values .entry)) (now (vectors .entry)) ⌝ }
 {
     let x = a[0];
@@ -112,7 +112,7 @@ fn single_eigenpair(a: &[f64], values: &mut [f64], vectors: &mut [f64]) -> Writt
 
 // The same with room for orders to 4.
 fn small_eigenpairs(a: &[f64], n: usize, values: &mut [f64], vectors: &mut [f64]) -> Written
-    requires { ⌜ (n ≤ 4) × (length (now a) ≡ n * n) × (length (now values) ≡ n) × (length (now vectors) ≡ n * n) ⌝ }
+    requires { ⌜ (n ≤ 4) × Lent n (now a) (now values) (now vectors) ⌝ }
     ensures { λ r. ⌜ (r, now (values .exit), now (vectors .exit)) ≡ afterPairs (eigenpairs (now (a .entry)) n) (now (values .entry)) (now (vectors .entry)) ⌝ }
 {
     let mut m = [0.0f64; 16];
@@ -124,7 +124,7 @@ fn small_eigenpairs(a: &[f64], n: usize, values: &mut [f64], vectors: &mut [f64]
 
 // The same with room for orders to 16.
 fn large_eigenpairs(a: &[f64], n: usize, values: &mut [f64], vectors: &mut [f64]) -> Written
-    requires { ⌜ (n ≤ 16) × (length (now a) ≡ n * n) × (length (now values) ≡ n) × (length (now vectors) ≡ n * n) ⌝ }
+    requires { ⌜ (n ≤ 16) × Lent n (now a) (now values) (now vectors) ⌝ }
     ensures { λ r. ⌜ (r, now (values .exit), now (vectors .exit)) ≡ afterPairs (eigenpairs (now (a .entry)) n) (now (values .entry)) (now (vectors .entry)) ⌝ }
 {
     let mut m = [0.0f64; 256];
@@ -136,7 +136,7 @@ fn large_eigenpairs(a: &[f64], n: usize, values: &mut [f64], vectors: &mut [f64]
 
 // Questions 1 and 2 are met: question 4, and then the eigenpairs of a, n by n.
 pub(crate) fn eigenpairs(a: &[f64], n: usize, values: &mut [f64], vectors: &mut [f64]) -> Written
-    requires { ⌜ (n ≤ 16) × (length (now a) ≡ n * n) × (length (now values) ≡ n) × (length (now vectors) ≡ n * n) ⌝ }
+    requires { ⌜ (n ≤ 16) × Lent n (now a) (now values) (now vectors) ⌝ }
     ensures { λ r. ⌜ (r, now (values .exit), now (vectors .exit)) ≡ afterPairs (eigenpairs (now (a .entry)) n) (now (values .entry)) (now (vectors .entry)) ⌝ }
 {
     if n == 1 {

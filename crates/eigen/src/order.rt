@@ -5,6 +5,7 @@ ghost use lib.ListN.{length, take};
 ghost use Rattle.kernel.specs.Lists.{tabulate};
 ghost use Rattle.dense.specs.Matrix.{nth, at, matrix};
 ghost use Rattle.eigen.specs.Eigen.{diagonal, place, spot, insertedAt, order};
+ghost use Rattle.eigen.specs.Room.{Ordering};
 ghost use Rattle.eigen.specs.Rows.{Below};
 use dense::shape::entry;
 
@@ -66,7 +67,7 @@ pub(crate) fn sort(e: &[f64], n: usize, l: &mut [usize])
 
 // Writes the entries of e in the order l.
 pub(crate) fn arrange_values(e: &[f64], l: &[usize], n: usize, y: &mut [f64])
-    requires { ⌜ (length (now e) ≡ n) × (length (now l) ≡ n) × Below n n (now l) × (length (now y) ≡ n) ⌝ }
+    requires { ⌜ (length (now e) ≡ n) × Ordering n (now l) × (length (now y) ≡ n) ⌝ }
     ensures { λ _. ⌜ now (y .exit) ≡ tabulate n (λ k. nth (now (e .entry)) (place (now (l .entry)) k)) ⌝ }
 {
     for k in 0..n {
@@ -76,7 +77,7 @@ pub(crate) fn arrange_values(e: &[f64], l: &[usize], n: usize, y: &mut [f64])
 
 // Writes column i of v, n by n, in the order l.
 fn arrange_row(v: &[f64], l: &[usize], n: usize, i: usize, y: &mut [f64])
-    requires { ⌜ (i < n) × (length (now v) ≡ n * n) × (length (now l) ≡ n) × Below n n (now l) × (length (now y) ≡ n) ⌝ }
+    requires { ⌜ (i < n) × (length (now v) ≡ n * n) × Ordering n (now l) × (length (now y) ≡ n) ⌝ }
     ensures { λ _. ⌜ now (y .exit) ≡ tabulate n (λ k. at (now (v .entry)) n (place (now (l .entry)) k) i) ⌝ }
 {
     for k in 0..n {
@@ -86,7 +87,7 @@ fn arrange_row(v: &[f64], l: &[usize], n: usize, i: usize, y: &mut [f64])
 
 // Writes the rows of v, n by n, as columns, in the order l.
 pub(crate) fn arrange_vectors(v: &[f64], l: &[usize], n: usize, out: &mut [f64])
-    requires { ⌜ (length (now v) ≡ n * n) × (length (now l) ≡ n) × Below n n (now l) × (length (now out) ≡ n * n) ⌝ }
+    requires { ⌜ (length (now v) ≡ n * n) × Ordering n (now l) × (length (now out) ≡ n * n) ⌝ }
     ensures { λ _. ⌜ now (out .exit) ≡ matrix n n (λ i k. at (now (v .entry)) n (place (now (l .entry)) k) i) ⌝ }
 {
     for i in 0..n {

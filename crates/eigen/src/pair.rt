@@ -4,6 +4,7 @@ ghost use mathlib.Core.List.{[], _∷_};
 ghost use lib.ListN.{length};
 ghost use Rattle.eigen.specs.Eigen.{begun, tolerance, settled, eigenpairs, afterPairs};
 ghost use Rattle.eigen.specs.Pair.{planeState, turnedPlane, descended, planePairs};
+ghost use Rattle.eigen.specs.Room.{Lent};
 ghost use Rattle.eigen.specs.Rotation.{rotated};
 use crate::Plane;
 use crate::Rotation;
@@ -130,7 +131,7 @@ fn write_plane(s: Plane, values: &mut [f64], vectors: &mut [f64]) -> Written
 
 // Questions 1 and 2 are met: question 4, and then the eigenpairs of a, 2 by 2.
 pub(crate) fn plane_eigenpairs(a: &[f64], values: &mut [f64], vectors: &mut [f64]) -> Written
-    requires { ⌜ (length (now a) ≡ 4) × (length (now values) ≡ 2) × (length (now vectors) ≡ 4) ⌝ }
+    requires { ⌜ Lent 2 (now a) (now values) (now vectors) ⌝ }
     ensures { λ r. ⌜ (r, now (values .exit), now (vectors .exit)) ≡ afterPairs (eigenpairs (now (a .entry)) 2) (now (values .entry)) (now (vectors .entry)) ⌝ }
 {
     let p = eigenplane(a[0], a[1], a[2], a[3]);

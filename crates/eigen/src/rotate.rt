@@ -3,6 +3,7 @@ ghost use mathlib.Core.Path.{_≡_};
 ghost use Prim.Native.Nat.{_+_, _*_, _<_};
 ghost use lib.ListN.{length, set};
 ghost use Rattle.eigen.specs.Rotation.{rotated};
+ghost use Rattle.eigen.specs.Room.{Crossing};
 ghost use Rattle.eigen.specs.Rows.{Slices, turnedRows, withCorners, mirrored, stateOf};
 use crate::Rotation;
 use crate::angle::is_negligible;
@@ -19,7 +20,7 @@ fn put(m: &mut [f64], n: usize, i: usize, j: usize, x: f64)
 
 // Turns rows p and q of m, n by n.
 fn turn_rows(m: &mut [f64], n: usize, p: usize, q: usize, g: Rotation)
-    requires { ⌜ (p < q) × (q < n) × (length (now m) ≡ n * n) ⌝ }
+    requires { ⌜ Crossing n p q × (length (now m) ≡ n * n) ⌝ }
     ensures { λ _. ⌜ now (m .exit) ≡ turnedRows g n p q (now (m .entry)) ⌝ }
 {
     for j in 0..n {
@@ -32,7 +33,7 @@ fn turn_rows(m: &mut [f64], n: usize, p: usize, q: usize, g: Rotation)
 
 // Puts app and aqq on the diagonal of m, n by n, and 0.0 where their rows and columns cross.
 fn set_corners(m: &mut [f64], n: usize, p: usize, q: usize, app: f64, aqq: f64)
-    requires { ⌜ (p < q) × (q < n) × (length (now m) ≡ n * n) ⌝ }
+    requires { ⌜ Crossing n p q × (length (now m) ≡ n * n) ⌝ }
     ensures { λ _. ⌜ now (m .exit) ≡ withCorners n p q app aqq (now (m .entry)) ⌝ }
 {
     put(m, n, p, p, app);
@@ -54,7 +55,7 @@ fn mirror(m: &mut [f64], n: usize, p: usize)
 
 // Rotates the pair (p, q) of m, n by n, and of the vectors v, or skips it.
 pub(crate) fn rotate(m: &mut [f64], v: &mut [f64], n: usize, p: usize, q: usize)
-    requires { ⌜ (p < q) × (q < n) × Slices n (now m) (now v) ⌝ }
+    requires { ⌜ Crossing n p q × Slices n (now m) (now v) ⌝ }
     ensures { λ _. ⌜ stateOf n (now (m .exit)) (now (v .exit)) ≡ rotated n p q (stateOf n (now (m .entry)) (now (v .entry))) ⌝ }
 {
     let app = entry(m, n, p, p);

@@ -2,8 +2,7 @@
 ghost use mathlib.Core.Path.{_≡_};
 ghost use Prim.Native.Nat.{_*_, _≤_};
 ghost use lib.ListN.{length};
-ghost use mathlib.Core.Bool.{true};
-ghost use Rattle.dense.specs.Matrix.{side};
+ghost use Rattle.repair.specs.Mending.{Mending};
 ghost use Rattle.repair.specs.Repair.{repair, nearestPsd, afterRepair};
 use crate::Repaired;
 use crate::answer::done;
@@ -31,7 +30,7 @@ fn repair_in(
     v: &mut [f64],
     out: &mut [f64],
 ) -> Repaired
-    requires { ⌜ (side n ≡ true) × (length (now cov) ≡ n * n) × (length (now e) ≡ n) × (length (now v) ≡ n * n) × (length (now out) ≡ n * n) ⌝ }
+    requires { ⌜ Mending n (now cov) (now out) × (length (now e) ≡ n) × (length (now v) ≡ n * n) ⌝ }
     ensures { λ r. ⌜ (r, now (out .exit)) ≡ afterRepair (repair (now (cov .entry)) floor n) (now (out .entry)) ⌝ }
 {
     match mat_symmetric_eigen(cov, n, e, v) {
@@ -47,7 +46,7 @@ fn repair_in(
 
 // The same with room for orders to 4.
 fn small_repair(cov: &[f64], floor: f64, n: usize, out: &mut [f64]) -> Repaired
-    requires { ⌜ (side n ≡ true) × (n ≤ 4) × (length (now cov) ≡ n * n) × (length (now out) ≡ n * n) ⌝ }
+    requires { ⌜ Mending n (now cov) (now out) × (n ≤ 4) ⌝ }
     ensures { λ r. ⌜ (r, now (out .exit)) ≡ afterRepair (repair (now (cov .entry)) floor n) (now (out .entry)) ⌝ }
 {
     let mut e = [0.0f64; 4];
@@ -58,7 +57,7 @@ fn small_repair(cov: &[f64], floor: f64, n: usize, out: &mut [f64]) -> Repaired
 
 // The same with room for orders to 16.
 fn large_repair(cov: &[f64], floor: f64, n: usize, out: &mut [f64]) -> Repaired
-    requires { ⌜ (side n ≡ true) × (length (now cov) ≡ n * n) × (length (now out) ≡ n * n) ⌝ }
+    requires { ⌜ Mending n (now cov) (now out) ⌝ }
     ensures { λ r. ⌜ (r, now (out .exit)) ≡ afterRepair (repair (now (cov .entry)) floor n) (now (out .entry)) ⌝ }
 {
     let mut e = [0.0f64; 16];
@@ -69,7 +68,7 @@ fn large_repair(cov: &[f64], floor: f64, n: usize, out: &mut [f64]) -> Repaired
 
 // Questions 1, 2 and 3 are met: question 4, and then the repair, with the room that the order needs.
 fn repair(cov: &[f64], floor: f64, n: usize, out: &mut [f64]) -> Repaired
-    requires { ⌜ (side n ≡ true) × (length (now cov) ≡ n * n) × (length (now out) ≡ n * n) ⌝ }
+    requires { ⌜ Mending n (now cov) (now out) ⌝ }
     ensures { λ r. ⌜ (r, now (out .exit)) ≡ afterRepair (repair (now (cov .entry)) floor n) (now (out .entry)) ⌝ }
 {
     if n == 2 {

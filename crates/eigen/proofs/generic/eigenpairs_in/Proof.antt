@@ -23,8 +23,8 @@ settle-requires c κs =
     let made = symmetric start-vectors in
     let x = entered made in
     record {
-      matrix-size = made .symmetrize .kept .1 .1 .0 ∙ x .pre .2 ∙ x .pre .0;
-      vectors-size = start-vectors .identity .kept .1 .0 ∙ x .pre .3 ∙ x .pre .0;
+      matrix-size = made .symmetrize .kept .1 .1 .0 ∙ x .pre .1 .matrix-room;
+      vectors-size = start-vectors .identity .kept .1 .0 ∙ x .pre .1 .vectors-room;
       symmetric = subst (Symmetric (x .args .n)) (sym (made .symmetrize .ensures)) (symmetrized-symmetric (x .args .a .now) (x .args .n));
     }
 

@@ -8,10 +8,17 @@ use Rattle.eigen.proofs.generic.eigenpairs_with.Tie as tie
 
 eigenpairs-in-requires : tie.Need-eigenpairs-in-requires
 eigenpairs-in-requires c κs =
-    let start-place = c .before .before .before .before .before .before .before .before .before .before .before .before .before in
-    let start = start-place in
-    let pre = start .pre in
-    (refl, pre .1, length-take-le _ _ (pre .2), length-take-le _ _ (pre .3), length-take-le _ _ (pre .4), length-take-le _ _ (pre .5), pre .6, pre .7)
+    let pre = c .before .before .before .before .before .before .before .before .before .before .before .before .before .pre in
+    let enough = pre .1 in (
+      refl,
+      record {
+        matrix-room = length-take-le _ _ (enough .matrix-fits);
+        vectors-room = length-take-le _ _ (enough .vectors-fit);
+        values-room = length-take-le _ _ (enough .values-fit);
+        order-room = length-take-le _ _ (enough .order-fits);
+      },
+      pre .2,
+    )
 
 pub eigenpairs-with-spec : {M : Type 1} → statement M
 eigenpairs-with-spec =

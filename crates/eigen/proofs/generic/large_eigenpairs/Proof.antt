@@ -8,7 +8,8 @@ use Rattle.eigen.proofs.generic.large_eigenpairs.Tie as tie
 eigenpairs-with-requires : tie.Need-eigenpairs-with-requires
 eigenpairs-with-requires c κs =
     let pre = c .before .before .before .before .before .before .before .before .before .pre in
-    (omega arith, pre .1, omega (arith, mul-le-mul (pre .0) (pre .0)), omega (arith, mul-le-mul (pre .0) (pre .0)), omega arith, omega arith, pre .2, pre .3)
+    let square = mul-le-mul (pre .0) (pre .0) in
+    (omega arith, record { matrix-fits = omega arith; vectors-fit = omega arith; values-fit = omega arith; order-fits = omega arith }, pre .1)
 
 pub large-eigenpairs-spec : {M : Type 1} → statement M
 large-eigenpairs-spec =

@@ -52,8 +52,10 @@ eigenpairs-requires c κs =
     let else3 = c .before .before in
     let else2 = second else3 in
     let x = entered (first else2) .args in
-    let l = two-long (x .values .now) (x .vectors .now) (x .n) (x .n * x .n) (wide else3) in
-    (side-high (x .n) (sided (first else2)), long-length (x .a .now) (x .n * x .n) (shaped else2), l .0, l .1)
+    let l = two-long (x .values .now) (x .vectors .now) (x .n) (x .n * x .n) (wide else3) in (
+      side-high (x .n) (sided (first else2)),
+      record { matrix-size = long-length (x .a .now) (x .n * x .n) (shaped else2); values-size = l .0; vectors-size = l .1 },
+    )
 
 returns-4 : tie.Need-returns-4
 unfolding matSymmetricEigen

@@ -1,6 +1,7 @@
 -- `pairs` meets its contract: the diagonal decides, and then its order arranges the answer.
 use mathlib.Core.Path.{_∙_}
 use borrow.Author.Needs.{needs}
+use Rattle.eigen.specs.Room.{Ordering}
 use Rattle.eigen.proofs.Pairs.{sorted-below, pairs-refused, pairs-made}
 use Rattle.eigen.proofs.generic.pairs.Statement.{statement}
 use Rattle.eigen.proofs.generic.pairs.Tie as tie
@@ -18,6 +19,12 @@ tested c = c .before .before .before .before
 abbrev sorted : tie.After-arrange-values → tie.After-sort
 sorted c = c .before .before .before .before .before .before
 
+-- the order of the diagonal
+ordered : (c : tie.After-sort) → Ordering (entered (measured (tested c)) .args .n) (c .sort .last .1 .1 .0)
+ordered c =
+    let x = entered (measured (tested c)) in
+    record { size = c .sort .kept .1 .1 .0 ∙ x .pre .0 .order-room; below = sorted-below _ (x .args .n) (c .sort .ensures) }
+
 returns : tie.Need-returns
 returns c =
     let read = measured (c .before) in
@@ -29,13 +36,13 @@ arrange-values-requires c κs =
     let call = c .before .before .before .before .before in
     let read = measured (tested call) in
     let x = entered read in
-    (read .diagonal .kept .1 .1 .0 ∙ x .pre .2, call .sort .kept .1 .1 .0 ∙ x .pre .3, sorted-below _ (x .args .n) (call .sort .ensures), x .pre .4)
+    (read .diagonal .kept .1 .1 .0 ∙ x .pre .0 .values-room, ordered call, x .pre .1 .values-size)
 
 arrange-vectors-requires : tie.Need-arrange-vectors-requires
 arrange-vectors-requires c κs =
     let call = sorted (c .before .before .before .before) in
     let x = entered (measured (tested call)) in
-    (x .pre .1, call .sort .kept .1 .1 .0 ∙ x .pre .3, sorted-below _ (x .args .n) (call .sort .ensures), x .pre .5)
+    (x .pre .0 .vectors-room, ordered call, x .pre .1 .vectors-size)
 
 returns-2 : tie.Need-returns-2
 returns-2 c =

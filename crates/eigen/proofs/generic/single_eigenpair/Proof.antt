@@ -12,7 +12,12 @@ returns-2 : tie.Need-returns-2
 returns-2 c =
     let start = c .before .before .before .before .before .before in
     let x = start .args in
-    rw (single-eigenpairs (x .a .now), met (c .before .is-finite .ensures) (c .if1 .left), single-stored (x .values .now) _ (start .pre .1), single-stored (x .vectors .now) _ (start .pre .2))
+    rw (
+      single-eigenpairs (x .a .now),
+      met (c .before .is-finite .ensures) (c .if1 .left),
+      single-stored (x .values .now) _ (start .pre .values-size),
+      single-stored (x .vectors .now) _ (start .pre .vectors-size),
+    )
 
 pub single-eigenpair-spec : {M : Type 1} → statement M
 single-eigenpair-spec =

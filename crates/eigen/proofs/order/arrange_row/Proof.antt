@@ -22,7 +22,7 @@ entry-requires c κs =
     let start = at-loop .before .before .before .before in
     let x = start .args in
     let k = at-loop .loop .k in
-    omega (arith, cell (x .n) (x .n) {i = place (x .l .now) k} {j = x .i} (start .pre .3 k (omega arith)) (start .pre .0))
+    omega (arith, cell (x .n) (x .n) {i = place (x .l .now) k} {j = x .i} (start .pre .2 .below k (omega arith)) (start .pre .0))
 
 loop-again : tie.Need-loop-again Inv-loop μ-loop
 loop-again c = entry-written (c .before .before .before .loop .inv) (c .before .before .loop-test .taken) (c .entry .ensures)
@@ -33,5 +33,5 @@ returns c = every-entry (c .before .loop .inv) (c .loop-test .left)
 pub arrange-row-spec : {M : Type 1} → statement M
 arrange-row-spec =
     tie.close
-    (tie.spec Inv-loop μ-loop (λ c. no-entry (c .before .before .before .pre .4)) (λ c. omega arith) (λ c. omega arith) entry-requires (λ c. omega arith)
+    (tie.spec Inv-loop μ-loop (λ c. no-entry (c .before .before .before .pre .3)) (λ c. omega arith) (λ c. omega arith) entry-requires (λ c. omega arith)
     (λ c. omega arith) (λ c. omega arith) (λ c. omega arith) loop-again (λ c. c .before .loop .inv .entries .size) returns)

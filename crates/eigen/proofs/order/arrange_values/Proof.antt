@@ -16,7 +16,7 @@ abbrev μ-loop : tie.MeasureT-loop
 
 value-at-requires : tie.Need-value-at-requires Inv-loop μ-loop
 unfolding Below
-value-at-requires c κs = let h = c .before .before .before .before .before .pre .2 (c .before .loop .k) (omega arith) in (omega arith, omega arith)
+value-at-requires c κs = let h = c .before .before .before .before .before .pre .1 .below (c .before .loop .k) (omega arith) in (omega arith, omega arith)
 
 loop-again : tie.Need-loop-again Inv-loop μ-loop
 loop-again c = entry-written (c .before .before .loop .inv) (c .before .loop-test .taken) (c .value-at .ensures)
@@ -27,5 +27,5 @@ returns c = every-entry (c .before .loop .inv) (c .loop-test .left)
 pub arrange-values-spec : {M : Type 1} → statement M
 arrange-values-spec =
     tie.close
-    (tie.spec Inv-loop μ-loop (λ c. no-entry (c .before .before .before .pre .3)) value-at-requires (λ c. omega arith) (λ c. omega arith)
+    (tie.spec Inv-loop μ-loop (λ c. no-entry (c .before .before .before .pre .2)) value-at-requires (λ c. omega arith) (λ c. omega arith)
     (λ c. omega arith) (λ c. omega arith) loop-again (λ c. c .before .loop .inv .entries .size) returns)

@@ -20,7 +20,7 @@ arrange-row-requires : tie.Need-arrange-row-requires Inv-loop μ-loop
 arrange-row-requires c κs =
     let at-loop = c .before .before in
     let pre = at-loop .before .before .before .before .pre in
-    (c .before .loop-test .taken, pre .0, pre .1, pre .2, row-lent (at-loop .loop .inv) (c .before .loop-test .taken))
+    (c .before .loop-test .taken, pre .0, pre .1, row-lent (at-loop .loop .inv) (c .before .loop-test .taken))
 
 loop-again : tie.Need-loop-again Inv-loop μ-loop
 loop-again c = let turn = c .before .before .before .before in row-written (turn .before .loop .inv) (turn .loop-test .taken) (c .before .before .arrange-row .ensures)
@@ -31,6 +31,6 @@ returns c = every-row (c .before .loop .inv) (c .loop-test .left)
 pub arrange-vectors-spec : {M : Type 1} → statement M
 arrange-vectors-spec =
     tie.close
-    (tie.spec Inv-loop μ-loop (λ c. no-row (c .before .before .before .pre .3)) (λ c. omega (arith, fits c)) (λ c. omega (arith, fits c)) (λ c. omega (arith, fits c))
+    (tie.spec Inv-loop μ-loop (λ c. no-row (c .before .before .before .pre .2)) (λ c. omega (arith, fits c)) (λ c. omega (arith, fits c)) (λ c. omega (arith, fits c))
     (λ c. omega arith) (λ c. omega arith) (λ c. omega (arith, fits c)) arrange-row-requires (λ c. omega arith) (λ c. omega arith) loop-again
     (λ c. c .before .loop .inv .rows .size) returns)

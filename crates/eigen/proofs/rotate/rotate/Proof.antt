@@ -27,7 +27,7 @@ start-of c = entered (tested (turned c) .before)
 
 -- the matrix keeps its size
 wide : (c : tie.After-set-corners) → let n = start-of c .args .n in length (c .set-corners .last .0) ≡ n * n
-wide c = c .set-corners .kept .0 ∙ turned c .turn-rows .kept .0 ∙ start-of c .pre .2 .matrix-size
+wide c = c .set-corners .kept .0 ∙ turned c .turn-rows .kept .0 ∙ start-of c .pre .1 .matrix-size
 
 entry-requires : tie.Need-entry-requires
 entry-requires c κs = let x = c .before .before .before .args in omega (arith, cell (x .n) (x .n) {i = x .p} {j = x .p} (omega arith) (omega arith))
@@ -48,15 +48,15 @@ returns c =
     (read .entry3 .ensures) (c .before .is-negligible .ensures) (c .if1 .taken)
 
 mirror-requires : tie.Need-mirror-requires
-mirror-requires c κs = let corners = c .before .before .before in (omega (arith, start-of corners .pre .0, start-of corners .pre .1), wide corners)
+mirror-requires c κs = let corners = c .before .before .before in (omega (arith, start-of corners .pre .0 .ordered, start-of corners .pre .0 .within), wide corners)
 
 mirror-requires-2 : tie.Need-mirror-requires-2
 mirror-requires-2 c κs =
     let mirrored = c .before .before .before in
-    (start-of (cornered mirrored) .pre .1, mirrored .mirror .kept .0 ∙ wide (cornered mirrored))
+    (start-of (cornered mirrored) .pre .0 .within, mirrored .mirror .kept .0 ∙ wide (cornered mirrored))
 
 turn-rows-requires-2 : tie.Need-turn-rows-requires-2
-turn-rows-requires-2 c κs = let pre = start-of (cornered (c .before .before .before .before .before .before .before)) .pre in (pre .0, pre .1, pre .2 .vectors-size)
+turn-rows-requires-2 c κs = let pre = start-of (cornered (c .before .before .before .before .before .before .before)) .pre in (pre .0, pre .1 .vectors-size)
 
 returns-2 : tie.Need-returns-2
 returns-2 c =
@@ -69,7 +69,7 @@ returns-2 c =
     let read = test .before in
     let start = entered read in
     let x = start .args in
-    made (x .n) (x .p) (x .q) (x .m .now) (x .v .now) (start .pre .0) (start .pre .1) (start .pre .2 .symmetric)
+    made (x .n) (x .p) (x .q) (x .m .now) (x .v .now) (start .pre .0 .ordered) (start .pre .0 .within) (start .pre .1 .symmetric)
     (read .before .before .before .before .entry .ensures) (read .before .before .entry2 .ensures) (read .entry3 .ensures) (test .is-negligible .ensures)
     (rows .before .before .before .if1 .left) (rows .before .before .rotation .ensures) (rows .turn-rows .ensures) (corners .set-corners .ensures)
     (mirrored .mirror .ensures) (mirror2 .mirror2 .ensures) (last .turn-rows2 .ensures)

@@ -39,7 +39,7 @@ old : (c : tie.At-loop Inv-loop μ-loop) (i : ℕ) → let x = entered c .args i
 old c i h l = let x = entered c .args in turn-next (x .g) (x .n) (x .p) (x .q) (x .m .now) (c .loop .j) i h l (c .loop .inv .1)
 
 loop-holds : tie.Need-loop-holds Inv-loop μ-loop
-loop-holds c = (omega arith, turn-none _ _ _ _ _ (c .before .pre .0) (c .before .pre .1) (c .before .pre .2))
+loop-holds c = (omega arith, let pre = c .before .pre in turn-none _ _ _ _ _ (pre .0 .ordered) (pre .0 .within) (pre .1))
 
 put-requires-2 : tie.Need-put-requires-2 Inv-loop μ-loop
 put-requires-2 c κs =
@@ -58,14 +58,14 @@ loop-again c =
     let at-q = both .entry2 .ensures ∙ old at-loop (x .q) (omega arith) (omega arith) in (
       omega arith,
       rw (after-put2 .put2 .ensures, after-put .put .ensures)
-          (turn-more (x .g) (x .n) (x .p) (x .q) (x .m .now) (start .pre .0) (start .pre .1) (at-loop .loop .j) (omega arith) at-p at-q (at-loop .loop .inv .1)),
+          (turn-more (x .g) (x .n) (x .p) (x .q) (x .m .now) (start .pre .0 .ordered) (start .pre .0 .within) (at-loop .loop .j) (omega arith) at-p at-q (at-loop .loop .inv .1)),
     )
 
 same-length : tie.Need-same-length Inv-loop μ-loop
-same-length c = c .before .loop .inv .1 .size ∙ sym (entered (c .before) .pre .2)
+same-length c = c .before .loop .inv .1 .size ∙ sym (entered (c .before) .pre .1)
 
 returns : tie.Need-returns Inv-loop μ-loop
-returns c = let pre = entered (c .before) .pre in turn-all _ _ _ _ _ (pre .0) (pre .1) (c .before .loop .j) (c .loop-test .left) (c .before .loop .inv .1)
+returns c = let pre = entered (c .before) .pre in turn-all _ _ _ _ _ (pre .0 .ordered) (pre .0 .within) (c .before .loop .j) (c .loop-test .left) (c .before .loop .inv .1)
 
 pub turn-rows-spec : {M : Type 1} → statement M
 turn-rows-spec =

@@ -1,17 +1,17 @@
 -- `sweep_row` meets its contract: before turn q the row has met the columns before column q.
-use Prim.Native.Nat.{suc, _-_, _<_, _≤_}
+use Prim.Native.Nat.{suc, _-_}
 use native.Mathlib.Omega.{arith}
 use native.Mathlib.Nat.{le-antisymm}
-use mathlib.Core.Path.{_≡_, sym, ap, _∙_}
+use mathlib.Core.Path.{sym, ap, _∙_}
 use Rattle.eigen.specs.Eigen.{sweptRow}
 use Rattle.eigen.specs.Rotation.{State}
-use Rattle.eigen.specs.Rows.{Slices, stateOf}
-use Rattle.eigen.proofs.Sweeps.{slices-rotated, row-none, row-more}
+use Rattle.eigen.specs.Rows.{stateOf}
+use Rattle.eigen.proofs.Sweeps.{RowSwept, slices-rotated, row-none, row-more}
 use Rattle.eigen.proofs.sweep.sweep_row.Statement.{statement}
 use Rattle.eigen.proofs.sweep.sweep_row.Tie as tie
 
 abbrev Inv-loop : tie.InvT-loop
-Inv-loop m₀ v₀ n p q₀ m v q = (p < q) × (q ≤ n) × Slices n m v × (stateOf n m v ≡ sweptRow n p (stateOf n m₀ v₀) (q - suc p))
+Inv-loop m₀ v₀ n p q₀ m v q = RowSwept n p (stateOf n m₀ v₀) q m v
 
 abbrev μ-loop : tie.MeasureT-loop
 μ-loop m₀ v₀ n p q₀ m v q = n - q
@@ -24,10 +24,10 @@ abbrev first : tie.Start Inv-loop μ-loop → State
 first c = stateOf (c .args .n) (c .args .m .now) (c .args .v .now)
 
 loop-holds : tie.Need-loop-holds Inv-loop μ-loop
-loop-holds c = let start = c .before .before in (omega arith, omega arith, start .pre .1, row-none (start .args .n) (start .args .p) (first start))
+loop-holds c = let start = c .before .before in record { after = omega arith; turns = omega arith; slices = start .pre .1; swept = row-none (start .args .n) (start .args .p) (first start) }
 
 rotate-requires : tie.Need-rotate-requires Inv-loop μ-loop
-rotate-requires c κs = let held = c .before .before .before .loop .inv in (held .0, omega arith, held .2)
+rotate-requires c κs = let held = c .before .before .before .loop .inv in (record { ordered = held .after; within = omega arith }, held .slices)
 
 loop-again : tie.Need-loop-again Inv-loop μ-loop
 loop-again c =
@@ -35,23 +35,24 @@ loop-again c =
     let at-loop = after-rotate .before .before .before .before in
     let start = entered at-loop in
     let turn = at-loop .loop in
-    let call = after-rotate .rotate in (
-      omega arith,
-      omega arith,
-      slices-rotated (turn .inv .2) (call .kept .0) (call .kept .1 .0) (start .args .p) (turn .q) (call .ensures),
-      row-more (start .args .n) (start .args .p) (turn .q) (first start) (turn .inv .0) (turn .inv .3) (call .ensures),
-    )
+    let call = after-rotate .rotate in
+    record {
+      after = omega arith;
+      turns = omega arith;
+      slices = slices-rotated (turn .inv .slices) (call .kept .0) (call .kept .1 .0) (start .args .p) (turn .q) (call .ensures);
+      swept = row-more (start .args .n) (start .args .p) (turn .q) (first start) (turn .inv .after) (turn .inv .swept) (call .ensures);
+    }
 
 returns : tie.Need-returns Inv-loop μ-loop
 returns c =
     let at-loop = c .before in
     let start = entered at-loop in
     let x = start .args in
-    at-loop .loop .inv .3 ∙ ap (λ q. sweptRow (x .n) (x .p) (first start) (q - suc (x .p))) (le-antisymm (at-loop .loop .inv .1) (c .loop-test .left))
+    at-loop .loop .inv .swept ∙ ap (λ q. sweptRow (x .n) (x .p) (first start) (q - suc (x .p))) (le-antisymm (at-loop .loop .inv .turns) (c .loop-test .left))
 
 pub sweep-row-spec : {M : Type 1} → statement M
 sweep-row-spec =
     tie.close
     (tie.spec Inv-loop μ-loop (λ c. omega arith) loop-holds rotate-requires (λ c. omega arith) (λ c. omega arith) loop-again
-    (λ c. c .before .loop .inv .2 .matrix-size ∙ sym (entered (c .before) .pre .1 .matrix-size))
-    (λ c. c .before .loop .inv .2 .vectors-size ∙ sym (entered (c .before) .pre .1 .vectors-size)) returns)
+    (λ c. c .before .loop .inv .slices .matrix-size ∙ sym (entered (c .before) .pre .1 .matrix-size))
+    (λ c. c .before .loop .inv .slices .vectors-size ∙ sym (entered (c .before) .pre .1 .vectors-size)) returns)

@@ -54,7 +54,7 @@ returns-3 c =
     rw (sided (first (asked .before)), shaped (asked .before), unmet (asked .are-finite .ensures) (c .before .if3 .taken), c .refused3 .ensures)
 
 repair-requires : tie.Need-repair-requires
-repair-requires c κs = let else3 = c .before in let l = sizes (second else3) in (sided (first (second else3)), l .0, l .1)
+repair-requires c κs = let else3 = c .before in let l = sizes (second else3) in record { order = sided (first (second else3)); matrix-size = l .0; out-size = l .1 }
 
 returns-4 : tie.Need-returns-4
 unfolding nearestPsd

@@ -11,7 +11,7 @@ use Rattle.repair.proofs.regularize.large_repair.Tie as tie
 
 -- the order, and its square
 order : (c : tie.Start) → c .args .n ≤ 16
-order c = side-high (c .args .n) (c .pre .0)
+order c = side-high (c .args .n) (c .pre .order)
 
 size : (c : tie.Start) → c .args .n * c .args .n ≤ 256
 size c = square-size (c .args .n) (order c)
@@ -21,7 +21,7 @@ repair-in-requires c κs =
     let start = c .before .before .before .before .before in
     let o = order start in
     let s = size start in
-    (start .pre .0, start .pre .1, length-take-le _ _ (omega arith), length-take-le _ _ (omega arith), start .pre .2)
+    (start .pre, length-take-le _ _ (omega arith), length-take-le _ _ (omega arith))
 
 pub large-repair-spec : {M : Type 1} → statement M
 large-repair-spec =

@@ -9,7 +9,7 @@ plane-repair-requires : tie.Need-plane-repair-requires
 plane-repair-requires c κs =
     let start = c .before .before .before .before in
     let two = same-square (c .before .if1 .taken) in
-    (start .pre .1 ∙ two, start .pre .2 ∙ two)
+    (start .pre .matrix-size ∙ two, start .pre .out-size ∙ two)
 
 returns : tie.Need-returns
 returns c = let called = c .before .before in rw (called .before .before .if1 .taken) (called .plane-repair .ensures)

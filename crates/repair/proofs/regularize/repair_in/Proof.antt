@@ -17,13 +17,13 @@ paired c = c .before .before .before .before .before .before
 -- questions 1 and 2 are met
 asked : (c : tie.After-mat-symmetric-eigen)
     → let x = entered c .args in matSymmetricEigen (x .cov .now) (x .n) (x .e .now) (x .v .now) ≡ eigenpairs (x .cov .now) (x .n)
-asked c = let pre = entered c .pre in pairs-asked _ (entered c .args .floor) _ _ _ (pre .0) (pre .1) (pre .2) (pre .3)
+asked c = let pre = entered c .pre in pairs-asked _ (entered c .args .floor) _ _ _ (pre .0 .order) (pre .0 .matrix-size) (pre .1) (pre .2)
 
 report-requires : tie.Need-report-requires
 report-requires c κs =
     let call = paired (c .before) in
     let start = entered call in
-    (side-high (start .args .n) (start .pre .0), call .mat-symmetric-eigen .kept .1 .1 .0 ∙ start .pre .2)
+    (side-high (start .args .n) (start .pre .0 .order), call .mat-symmetric-eigen .kept .1 .1 .0 ∙ start .pre .1)
 
 returns : tie.Need-returns
 returns c =

@@ -20,7 +20,7 @@ repair-in-requires c κs =
     let start = c .before .before .before .before .before in
     let o = order start in
     let s = size start in
-    (start .pre .0, start .pre .2, length-take-le _ _ (omega arith), length-take-le _ _ (omega arith), start .pre .3)
+    (start .pre .0, length-take-le _ _ (omega arith), length-take-le _ _ (omega arith))
 
 pub small-repair-spec : {M : Type 1} → statement M
 small-repair-spec =
