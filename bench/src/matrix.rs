@@ -1,6 +1,6 @@
 //! The matrix calls beside the source's functions at one order after the other.
 use crate::timer::line;
-use nolan::flat;
+use nolan::linalg::regularize::{RegularizationError, RegularizationReport};
 use nolan::linalg::{generic, mat3, regularize};
 use oracle::ffi;
 use oracle::rng::Rng;
@@ -156,58 +156,47 @@ pub fn covariances<const N: usize>() -> Vec<Case<N>> {
     cases
 }
 
-/// The calls that rotate, on covariances.
-fn rotating<const N: usize>() {
+/// What the source's two functions that rotate are, for one order.
+type Eigenpairs<const N: usize> = fn(&[[f64; N]; N]) -> Option<([f64; N], [[f64; N]; N])>;
+type Repair<const N: usize> = fn(&[[f64; N]; N], f64) -> Result<RegularizationReport<N>, RegularizationError>;
+
+/// The calls that rotate, on covariances, beside the source's two functions under a remark on how these are called.
+fn rotating_beside<const N: usize>(
+    remark: &str,
+    eigen: impl Fn(&[[f64; N]; N]) -> Option<([f64; N], [[f64; N]; N])>,
+    repair: impl Fn(&[[f64; N]; N], f64) -> Result<RegularizationReport<N>, RegularizationError>,
+) {
     let cases = covariances::<N>();
     let mut memory = [[0.0; N]; N];
     let matrix = black_box(memory.as_flattened_mut());
     let mut vector = [0.0; N];
     let vector = black_box(&mut vector);
     compare(
-        "mat_symmetric_eigen",
+        &format!("mat_symmetric_eigen{remark}"),
         &cases,
         |c| ffi::mat_symmetric_eigen(c.a.as_flattened(), N, vector, matrix),
-        |c| generic::mat_symmetric_eigen(&c.a),
+        |c| eigen(&c.a),
     );
     let mut report = ffi::Report { count: 0, clip: 0.0, mask: 0 };
     let report = black_box(&mut report);
     compare(
-        "nearest_psd",
+        &format!("nearest_psd{remark}"),
         &cases,
         |c| ffi::nearest_psd(c.a.as_flattened(), 1.0, N, matrix, report),
-        |c| regularize::nearest_psd(&c.a, 1.0),
+        |c| repair(&c.a, 1.0),
     );
 }
 
-/// The same beside the source's functions behind a table by the order, which is then a number for both: what an inlined constant order is worth.
-fn rotating_by_number<const N: usize>() {
-    assert!(N <= 2, "there is room for eight numbers");
-    let cases = covariances::<N>();
-    let mut memory = [[0.0; N]; N];
-    let matrix = black_box(memory.as_flattened_mut());
-    let mut vector = [0.0; N];
-    let vector = black_box(&mut vector);
-    let given = |c: &Case<N>, call: fn(&[usize]) -> flat::Theirs, length: usize| {
-        let mut out = [0.0; 8];
-        let slices = [c.a.as_flattened()];
-        let given = flat::Given { slices: &slices, number: 1.0, ..Default::default() };
-        call(&[black_box(N)])(&given, &mut out[..length]);
-        out[0]
-    };
-    compare(
-        "mat_symmetric_eigen, by a number,",
-        &cases,
-        |c| ffi::mat_symmetric_eigen(c.a.as_flattened(), N, vector, matrix),
-        |c| given(c, flat::at::mat_symmetric_eigen, N + N * N),
-    );
-    let mut report = ffi::Report { count: 0, clip: 0.0, mask: 0 };
-    let report = black_box(&mut report);
-    compare(
-        "nearest_psd, by a number,",
-        &cases,
-        |c| ffi::nearest_psd(c.a.as_flattened(), 1.0, N, matrix, report),
-        |c| given(c, flat::at::nearest_psd, N * N + 3),
-    );
+/// Both sides are called: the compiler does not see which function of the source a pointer leads to.
+fn rotating<const N: usize>() {
+    let eigen: Eigenpairs<N> = black_box(generic::mat_symmetric_eigen);
+    let repair: Repair<N> = black_box(regularize::nearest_psd);
+    rotating_beside::<N>("", eigen, repair);
+}
+
+/// The source's functions are put where they are used, with the order as a constant.
+fn rotating_inlined<const N: usize>() {
+    rotating_beside::<N>(", inlined,", generic::mat_symmetric_eigen, regularize::nearest_psd);
 }
 
 /// The calls of order 3 alone.
@@ -247,6 +236,6 @@ pub fn run_rotating() {
     rotating::<6>();
     rotating::<9>();
     rotating::<16>();
-    rotating_by_number::<1>();
-    rotating_by_number::<2>();
+    rotating_inlined::<1>();
+    rotating_inlined::<2>();
 }
