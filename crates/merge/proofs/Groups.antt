@@ -6,7 +6,7 @@ use native.Mathlib.Nat.{add-zero, le-antisymm}
 use native.Mathlib.Numerals.{add-one}
 use native.Mathlib.Omega.{arith}
 use mathlib.Core.Path.{_≡_, refl, sym, ap, subst, _∙_}
-use mathlib.Core.Bool.{Bool, true, false, _&&_, cond}
+use mathlib.Core.Bool.{Bool, true, false, _&&_}
 use mathlib.Core.List.{List, [], _∷_, _++_, flatMap}
 use lib.ListN.{length, getD, set, take, drop, length-append, take-append-drop}
 use lib.Seq.{drop-cons}
@@ -17,7 +17,6 @@ use Rattle.kernel.proofs.Lists.{length-tabulate, tabulate-more}
 use Rattle.merge.proofs.Bytes.{rows-length, rest-byte}
 use Rattle.merge.proofs.Writing.{selected-few}
 use Rattle.merge.specs.Rows.{Row, rowBytes, verdict, Equal, selected}
-use Rattle.merge.specs.Demand3.{howMany}
 use Rattle.merge.specs.Steps.{rowsBytes, onlyIf, Appended, RowsRoom}
 
 pub appended-length : {rows : List Row} {at r : ℕ} {old new : List ℕ} → Appended rows at old r new → 4 * (at + length rows) ≤ length old → length new ≡ length old
@@ -124,10 +123,6 @@ module _ (test : ℕ → Bool) (f : ℕ → Row) where
   selected-turn {k = k} w h room b =
       let next = appended-same (selected-more k) (appended-more (selected k test f) (onlyIf (test k) (f k)) (w .rows) (omega (arith, selected-few k test f)) b) in
       record { turns = omega arith; long = selected-length (k + 1) next (omega arith); rows = next }
-
-pub howMany-more : (n : ℕ) (test : ℕ → Bool) → howMany (n + 1) test ≡ howMany n test + cond (test n) 1 0
-unfolding howMany
-howMany-more n test = rw add-one refl
 
 pub verdict-there : (b o t : Bool) (e : Equal)
     → verdict b o t (record { oursBase = o && (b && e .oursBase); theirsBase = t && (b && e .theirsBase); oursTheirs = o && (t && e .oursTheirs) }) ≡ verdict b o t e
