@@ -1,5 +1,5 @@
 -- `partners_by` meets its contract: the tables of partners stand in front of two arrays.
-use Prim.Native.Nat.{_*_, _≤_}
+use Prim.Native.Nat.{_*_}
 use native.Mathlib.Omega.{arith}
 use native.Mathlib.Nat.{mul-le-mul}
 use mathlib.Core.Path.{_≡_, sym}
