@@ -1,3 +1,4 @@
 pub mod Distance
 pub mod Fields
 pub mod Examples
+pub mod Room

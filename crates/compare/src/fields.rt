@@ -9,6 +9,7 @@ ghost use Rattle.dense.specs.Answer.{Leaves};
 ghost use Rattle.dense.specs.Matrix.{long};
 ghost use Rattle.tracks.specs.Layout.{fields};
 ghost use Rattle.compare.specs.Fields.{lowerField, covarianceEntry, trackCovariance, wholeCovariance};
+ghost use Rattle.compare.specs.Room.{HasFields, RowRoom, CovarianceRoom};
 use dense::Written;
 use dense::shape::is_matrix;
 use dense::shape::is_side;
@@ -25,7 +26,7 @@ fn lower_field(d: usize, i: usize, j: usize) -> usize
 
 // Entry (i, j) of the covariance of the track of dimension d whose fields are v.
 fn covariance_entry(v: &[f64], d: usize, i: usize, j: usize) -> f64
-    requires { ⌜ (i < d) × (j < d) × (d ≤ 16) × (fields d ≤ length (now v)) ⌝ }
+    requires { ⌜ HasFields d (now v) × (i < d) × (j < d) ⌝ }
     ensures { λ r. ⌜ r ≡ covarianceEntry d (now (v .entry)) i j ⌝ }
 {
     if j <= i {
@@ -38,7 +39,7 @@ fn covariance_entry(v: &[f64], d: usize, i: usize, j: usize) -> f64
 
 // Writes row i of that covariance.
 fn covariance_row(v: &[f64], d: usize, i: usize, y: &mut [f64])
-    requires { ⌜ (i < d) × (d ≤ 16) × (fields d ≤ length (now v)) × (length (now y) ≡ d) ⌝ }
+    requires { ⌜ RowRoom d i (now v) (now y) ⌝ }
     ensures { λ _. ⌜ now (y .exit) ≡ tabulate d (covarianceEntry d (now (v .entry)) i) ⌝ }
 {
     for j in 0..d {
@@ -48,7 +49,7 @@ fn covariance_row(v: &[f64], d: usize, i: usize, y: &mut [f64])
 
 // Writes that covariance.
 fn mirror(v: &[f64], d: usize, out: &mut [f64])
-    requires { ⌜ (d ≤ 16) × (fields d ≤ length (now v)) × (length (now out) ≡ d * d) ⌝ }
+    requires { ⌜ CovarianceRoom d (now v) (now out) ⌝ }
     ensures { λ _. ⌜ now (out .exit) ≡ trackCovariance d (now (v .entry)) ⌝ }
 {
     for i in 0..d {

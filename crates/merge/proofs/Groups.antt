@@ -1,11 +1,12 @@
--- Rows that are written one after the other: `appended-more` joins two runs of rows, `appended-length` says that the buffer keeps its length, `tabulated-turn` and `selected-turn` are the
--- turns of loops. `verdict-put`: a verdict beside its row's indices. `verdict-there`: a verdict looks only at records that are there.
+-- Rows that are written one after the other: `appended-more` joins two runs of rows, `appended-length` says that the buffer keeps its length. `Growing` is what a loop that writes them
+-- has done before turn k: `no-turn` begins it, `tabulated-turn` and `selected-turn` are its turns, `every-turn` ends it. `verdict-put`: a verdict beside its row's indices.
+-- `verdict-there`: a verdict looks only at records that are there.
 use Prim.Native.Nat.{ℕ, suc, _+_, _*_, _<_, _≤_}
-use native.Mathlib.Nat.{add-zero}
+use native.Mathlib.Nat.{add-zero, le-antisymm}
 use native.Mathlib.Numerals.{add-one}
 use native.Mathlib.Omega.{arith}
 use mathlib.Core.Path.{_≡_, refl, sym, ap, subst, _∙_}
-use mathlib.Core.Bool.{Bool, true, false, _&&_, cond}
+use mathlib.Core.Bool.{Bool, true, false, _&&_}
 use mathlib.Core.List.{List, [], _∷_, _++_, flatMap}
 use lib.ListN.{length, getD, set, take, drop, length-append, take-append-drop}
 use lib.Seq.{drop-cons}
@@ -16,8 +17,7 @@ use Rattle.kernel.proofs.Lists.{length-tabulate, tabulate-more}
 use Rattle.merge.proofs.Bytes.{rows-length, rest-byte}
 use Rattle.merge.proofs.Writing.{selected-few}
 use Rattle.merge.specs.Rows.{Row, rowBytes, verdict, Equal, selected}
-use Rattle.merge.specs.Demand3.{howMany}
-use Rattle.merge.specs.Steps.{rowsBytes, onlyIf, Appended}
+use Rattle.merge.specs.Steps.{rowsBytes, onlyIf, Appended, RowsRoom}
 
 pub appended-length : {rows : List Row} {at r : ℕ} {old new : List ℕ} → Appended rows at old r new → 4 * (at + length rows) ≤ length old → length new ≡ length old
 appended-length {rows} {at} {r} {old} a h = ap length (a .bytes) ∙ length-over old (4 * at) (rowsBytes rows) (omega (arith, rows-length rows))
@@ -75,6 +75,18 @@ verdict-put l a {u = u} p q r e h =
 
 -- ---- the rows of a group, one more in each turn
 
+-- the rows of k of n turns stand from row `at` on, r is the row after them, and the buffer keeps its length
+pub record Growing (group : ℕ → List Row) (n at : ℕ) (old : List ℕ) (k r : ℕ) (new : List ℕ) : Type 0 where
+  pub turns : k ≤ n
+  pub long : length new ≡ length old
+  pub rows : Appended (group k) at old r new
+
+pub no-turn : {group : ℕ → List Row} {n at : ℕ} {old : List ℕ} → group 0 ≡ [] → Growing group n at old 0 at old
+no-turn {at = at} {old = old} e = record { turns = omega arith; long = refl; rows = appended-same (sym e) (appended-none at old) }
+
+pub every-turn : {group : ℕ → List Row} {n at k r : ℕ} {old new : List ℕ} → Growing group n at old k r new → n ≤ k → Appended (group n) at old r new
+every-turn {group} {n} {at} {k} {r} {old} {new} w h = subst (λ (i : ℕ). Appended (group i) at old r new) (le-antisymm (w .turns) h) (w .rows)
+
 module _ (f : ℕ → Row) where
   pub tabulated : (n : ℕ) {old new : List ℕ} → new ≡ over old 0 (rowsBytes (tabulate n f)) → Appended (tabulate n f) 0 old n new
   tabulated n e = record { next = omega (arith, length-tabulate n f); bytes = e }
@@ -87,12 +99,12 @@ module _ (f : ℕ → Row) where
   tabulated-rest n {old} a k h =
       ap (λ (l : List ℕ). getD l k 0) (a .bytes) ∙ rest-byte old (rowsBytes (tabulate n f)) k (omega (arith, rows-length (tabulate n f), length-tabulate n f))
 
-  pub tabulated-turn : (n : ℕ) {x : ℕ} {old new newer : List ℕ} → Appended (tabulate n f) 0 old n new → 4 * (n + 1) ≤ length old → Appended (f n ∷ []) n new x newer
-      → (length newer ≡ length old) × Appended (tabulate (n + 1) f) 0 old (n + 1) newer
-  tabulated-turn n {x} {old} a h b =
-      let all = appended-more (tabulate n f) (f n ∷ []) a (omega (arith, a .next)) b in
-      let next = tabulated (n + 1) (all .bytes ∙ ap (λ (g : List Row). over old 0 (rowsBytes g)) (sym (tabulate-more n f))) in
-      (tabulated-length (n + 1) next h, next)
+  pub tabulated-turn : {n k x : ℕ} {old new newer : List ℕ} → Growing (λ i. tabulate i f) n 0 old k k new → k < n → 4 * n ≤ length old → Appended (f k ∷ []) k new x newer
+      → Growing (λ i. tabulate i f) n 0 old (k + 1) (k + 1) newer
+  tabulated-turn {n} {k} {x} {old} w h room b =
+      let all = appended-more (tabulate k f) (f k ∷ []) (w .rows) (omega (arith, w .rows .next)) b in
+      let next = tabulated (k + 1) (all .bytes ∙ ap (λ (g : List Row). over old 0 (rowsBytes g)) (sym (tabulate-more k f))) in
+      record { turns = omega arith; long = tabulated-length (k + 1) next (omega arith); rows = next }
 
 module _ (test : ℕ → Bool) (f : ℕ → Row) where
   selected-more : (n : ℕ) → selected n test f ++ onlyIf (test n) (f n) ≡ selected (n + 1) test f
@@ -103,22 +115,14 @@ module _ (test : ℕ → Bool) (f : ℕ → Row) where
   selected-length n a h = appended-length a (omega (arith, selected-few n test f))
 
   -- there is room for one more
-  pub selected-room : {n m at r : ℕ} {old new : List ℕ} → n < m → Appended (selected n test f) at old r new → m ≤ 32 → at ≤ 64 → 4 * (at + m) ≤ length old → length new ≡ length old
-      → (r ≤ 96) × (4 * r + 4 ≤ length new)
-  selected-room {n} h a few start room e = let k = selected-few n test f in (omega (arith, a .next), omega (arith, a .next))
+  pub selected-room : {n at k r : ℕ} {old new : List ℕ} → Growing (λ i. selected i test f) n at old k r new → k < n → RowsRoom n at old → (r ≤ 96) × (4 * r + 4 ≤ length new)
+  selected-room {k = k} w h room = let few = selected-few k test f in (omega (arith, w .rows .next), omega (arith, w .rows .next))
 
-  pub selected-turn : (n : ℕ) {at r x : ℕ} {old new newer : List ℕ} → Appended (selected n test f) at old r new → 4 * (at + (n + 1)) ≤ length old → Appended (onlyIf (test n) (f n)) r new x newer
-      → (length newer ≡ length old) × Appended (selected (n + 1) test f) at old x newer
-  selected-turn n a h b =
-      let next = appended-same (selected-more n) (appended-more (selected n test f) (onlyIf (test n) (f n)) a (omega (arith, selected-few n test f)) b) in
-      (selected-length (n + 1) next h, next)
-
-  pub selected-all : {n m at r : ℕ} {old new : List ℕ} → n ≡ m → Appended (selected n test f) at old r new → Appended (selected m test f) at old r new
-  selected-all {n} {m} {at} {r} {old} {new} e a = subst (λ (k : ℕ). Appended (selected k test f) at old r new) e a
-
-pub howMany-more : (n : ℕ) (test : ℕ → Bool) → howMany (n + 1) test ≡ howMany n test + cond (test n) 1 0
-unfolding howMany
-howMany-more n test = rw add-one refl
+  pub selected-turn : {n at k r x : ℕ} {old new newer : List ℕ} → Growing (λ i. selected i test f) n at old k r new → k < n → RowsRoom n at old → Appended (onlyIf (test k) (f k)) r new x newer
+      → Growing (λ i. selected i test f) n at old (k + 1) x newer
+  selected-turn {k = k} w h room b =
+      let next = appended-same (selected-more k) (appended-more (selected k test f) (onlyIf (test k) (f k)) (w .rows) (omega (arith, selected-few k test f)) b) in
+      record { turns = omega arith; long = selected-length (k + 1) next (omega arith); rows = next }
 
 pub verdict-there : (b o t : Bool) (e : Equal)
     → verdict b o t (record { oursBase = o && (b && e .oursBase); theirsBase = t && (b && e .theirsBase); oursTheirs = o && (t && e .oursTheirs) }) ≡ verdict b o t e

@@ -33,6 +33,54 @@ pub record Sizes (values : List Float) (n f : ℕ) : Type 0 where
   pub few : n ≤ 32
   pub values-long : n * f ≤ length values
 
+-- That the track with the state mu and the covariance p can be compared, and that q is room for the covariance of another.
+pub record Comparable (terms : Terms) (mu p q : List Float) : Type 0 where
+  pub compares : Compares terms
+  pub state : length mu ≡ terms .d
+  pub covariance : length p ≡ terms .d * terms .d
+  pub room : length q ≡ terms .d * terms .d
+
+-- The same with the fields v of the other track.
+pub record OneKey (terms : Terms) (mu p v q : List Float) : Type 0 where
+  pub track : Comparable terms mu p q
+  pub other : length v ≡ terms .f
+
+-- And with n other tracks, and room for their keys.
+pub record SomeKeys (terms : Terms) (mu p vs : List Float) (n : ℕ) (q keys : List Float) : Type 0 where
+  pub track : Comparable terms mu p q
+  pub others : Sizes vs n (terms .f)
+  pub room : length keys ≡ n
+
+-- That the track with the fields u can be compared with n others, and that there is room for their keys.
+pub record KeyRow (terms : Terms) (u vs : List Float) (n : ℕ) (keys : List Float) : Type 0 where
+  pub compares : Compares terms
+  pub track : length u ≡ terms .f
+  pub others : Sizes vs n (terms .f)
+  pub room : length keys ≡ n
+
+-- That the tracks of two lists can be compared, and those of three.
+pub record TwoValues (terms : Terms) (us : List Float) (m : ℕ) (vs : List Float) (n : ℕ) : Type 0 where
+  pub compares : Compares terms
+  pub firsts : Sizes us m (terms .f)
+  pub seconds : Sizes vs n (terms .f)
+
+pub record ThreeValues (terms : Terms) (base : List Float) (m : ℕ) (ours : List Float) (n : ℕ) (theirs : List Float) (l : ℕ) : Type 0 where
+  pub compares : Compares terms
+  pub of-base : Sizes base m (terms .f)
+  pub of-ours : Sizes ours n (terms .f)
+  pub of-theirs : Sizes theirs l (terms .f)
+
+-- That keys stand in front of an array.
+pub record KeysInFront (size : ℕ) (keys array : List Float) : Type 0 where
+  pub long : length array ≡ 1024
+  pub front : take size array ≡ keys
+
+-- That there are keys for m first and n second tracks in front of a slice.
+pub record KeysFor (m n : ℕ) (keys : List Float) : Type 0 where
+  pub few-firsts : m ≤ 32
+  pub few-seconds : n ≤ 32
+  pub long : m * n ≤ length keys
+
 -- The key of the track with the state mu and the covariance p, and the track with the fields v; and that of two tracks by their fields.
 abbrev pub keyFrom : Terms → List Float → List Float → List Float → Float
 keyFrom terms mu p v = let d = terms .d in nearSquare (compared mu (trackState d v) p (trackCovariance d v) d (terms .floor) (terms .gate))

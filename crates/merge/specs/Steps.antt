@@ -43,6 +43,11 @@ pub record Located (l offsets : List ℕ) : Type 0 where
   pub places : (j : ℕ) → j ≤ trackCount (held l) → getD offsets j 0 ≡ offset l j
   pub room : length offsets ≡ 33
 
+-- That track i is one of such a list.
+pub record LocatedTrack (l offsets : List ℕ) (i : ℕ) : Type 0 where
+  pub located : Located l offsets
+  pub index : i < trackCount (held l)
+
 -- That a list is read: where its n tracks stand, and that the values hold their fields in front.
 pub record Read (l offsets : List ℕ) (values : List Float) (n : ℕ) : Type 0 where
   pub located : Located l offsets
@@ -118,6 +123,18 @@ pub record Appended (group : List Row) (at : ℕ) (old : List ℕ) (r : ℕ) (ne
   pub next : r ≡ at + length group
   pub bytes : new ≡ over old (4 * at) (rowsBytes group)
 
+-- That a buffer has room for the rows of n tracks from row `at` on, and for those of m, n and l tracks.
+pub record RowsRoom (n at : ℕ) (rows : List ℕ) : Type 0 where
+  pub few : n ≤ 32
+  pub start : at ≤ 64
+  pub room : 4 * (at + n) ≤ length rows
+
+pub record AllRowsRoom (m n l : ℕ) (rows : List ℕ) : Type 0 where
+  pub few-base : m ≤ 32
+  pub few-ours : n ≤ 32
+  pub few-theirs : l ≤ 32
+  pub room : 4 * (m + n + l) ≤ length rows
+
 -- ---- verdicts
 
 -- Three accepted lists of one dimension, and where their tracks stand.
@@ -134,6 +151,27 @@ Index l i = TrackOrNone (trackCount (held l)) i
 
 abbrev pub Indices : List ℕ → List ℕ → List ℕ → List ℕ → ℕ → Type 0
 Indices base ours theirs rows total = (r : ℕ) → r < total → Index base (baseIn rows r) × Index ours (oursIn rows r) × Index theirs (theirsIn rows r)
+
+-- That i and j are indices of two located lists of one dimension.
+pub record TwoIndices (a a-offsets : List ℕ) (i : ℕ) (b b-offsets : List ℕ) (j : ℕ) : Type 0 where
+  pub of-first : Located a a-offsets
+  pub first : Index a i
+  pub of-second : Located b b-offsets
+  pub second : Index b j
+  pub one-dimension : held a .dimension ≡ held b .dimension
+
+-- That i, j and k are indices of three lists, and that those of the first rows of a buffer are, whose verdicts are to be written.
+pub record ThreeIndices (base base-offsets : List ℕ) (i : ℕ) (ours ours-offsets : List ℕ) (j : ℕ) (theirs theirs-offsets : List ℕ) (k : ℕ) : Type 0 where
+  pub lists : Lists base base-offsets ours ours-offsets theirs theirs-offsets
+  pub of-base : Index base i
+  pub of-ours : Index ours j
+  pub of-theirs : Index theirs k
+
+pub record RowsToDecide (base base-offsets ours ours-offsets theirs theirs-offsets : List ℕ) (total : ℕ) (rows : List ℕ) : Type 0 where
+  pub lists : Lists base base-offsets ours ours-offsets theirs theirs-offsets
+  pub few : total ≤ 96
+  pub room : 4 * total ≤ length rows
+  pub indices : Indices base ours theirs rows total
 
 -- The verdict on three tracks of three lists, and row r of a buffer with its verdict.
 abbrev pub verdictHeld : List ℕ → List ℕ → List ℕ → ℕ → ℕ → ℕ → ℕ

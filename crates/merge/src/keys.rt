@@ -3,13 +3,12 @@ ghost use mathlib.Core.Path.{_≡_};
 ghost use Prim.Native.Nat.{_*_};
 ghost use lib.Dec.{eqb};
 ghost use lib.Ieee.{nan};
-ghost use lib.ListN.{length, take};
 ghost use Rattle.kernel.specs.Lists.{tabulate};
 ghost use Rattle.dense.specs.Matrix.{rowOf};
 ghost use Rattle.pairing.specs.Keys.{nobody};
 ghost use Rattle.pairing.specs.Search.{isFree};
 ghost use Rattle.merge.specs.Candidates.{nearSquare};
-ghost use Rattle.merge.specs.PairSteps.{Compares, Sizes, keyFrom, keyAmong, keysFrom, keysBetween};
+ghost use Rattle.merge.specs.PairSteps.{OneKey, SomeKeys, KeyRow, TwoValues, KeysInFront, keyFrom, keyAmong, keysFrom, keysBetween};
 use crate::parts::both_free;
 use compare::Compared;
 use compare::Comparison;
@@ -45,7 +44,7 @@ fn near_square(c: Comparison) -> f64
 
 // The key of the track with the state mu and the covariance p, and the track with the fields v. The slice q is room for that track's covariance.
 fn key(mu: &[f64], p: &[f64], v: &[f64], terms: Terms, q: &mut [f64]) -> f64
-    requires { ⌜ Compares terms × (length (now mu) ≡ terms .d) × (length (now p) ≡ terms .d * terms .d) × (length (now v) ≡ terms .f) × (length (now q) ≡ terms .d * terms .d) ⌝ }
+    requires { ⌜ OneKey terms (now mu) (now p) (now v) (now q) ⌝ }
     ensures { λ r. ⌜ r ≡ keyFrom terms (now (mu .entry)) (now (p .entry)) (now (v .entry)) ⌝ }
 {
     let d = terms.d;
@@ -69,8 +68,7 @@ fn put_keys(
     q: &mut [f64],
     keys: &mut [f64],
 )
-    requires { ⌜ Compares terms × (length (now mu) ≡ terms .d) × (length (now p) ≡ terms .d * terms .d) × (length (now q) ≡ terms .d * terms .d) ⌝ }
-    requires { ⌜ Sizes (now vs) n (terms .f) × (length (now keys) ≡ n) ⌝ }
+    requires { ⌜ SomeKeys terms (now mu) (now p) (now vs) n (now q) (now keys) ⌝ }
     ensures { λ _. ⌜ now (keys .exit) ≡ keysFrom terms (eqb first nobody) (now (mu .entry)) (now (p .entry)) (now (vs .entry)) partners n ⌝ }
 {
     let f = terms.f;
@@ -94,7 +92,7 @@ fn key_row(
     terms: Terms,
     keys: &mut [f64],
 )
-    requires { ⌜ Compares terms × (length (now u) ≡ terms .f) × Sizes (now vs) n (terms .f) × (length (now keys) ≡ n) ⌝ }
+    requires { ⌜ KeyRow terms (now u) (now vs) n (now keys) ⌝ }
     ensures { λ _. ⌜ now (keys .exit) ≡ tabulate n (λ j. keyAmong terms (eqb first nobody) (isFree partners j) (now (u .entry)) (rowOf (now (vs .entry)) (terms .f) j)) ⌝ }
 {
     let mut p = [0.0f64; 81];
@@ -125,8 +123,8 @@ pub(crate) fn keys_between(
     n: usize,
     terms: Terms,
 ) -> [f64; 1024]
-    requires { ⌜ Compares terms × Sizes (now us) m (terms .f) × Sizes (now vs) n (terms .f) ⌝ }
-    ensures { λ r. ⌜ (length r ≡ 1024) × (take (m * n) r ≡ keysBetween terms (now (us .entry)) «us_partners» m (now (vs .entry)) «vs_partners» n) ⌝ }
+    requires { ⌜ TwoValues terms (now us) m (now vs) n ⌝ }
+    ensures { λ r. ⌜ KeysInFront (m * n) (keysBetween terms (now (us .entry)) «us_partners» m (now (vs .entry)) «vs_partners» n) r ⌝ }
 {
     let mut keys = [0.0f64; 1024];
     let f = terms.f;

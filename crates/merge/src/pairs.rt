@@ -1,10 +1,10 @@
 // The partners of the tracks of two lists, and the three pairings of a merge.
 ghost use mathlib.Core.Path.{_≡_};
-ghost use Prim.Native.Nat.{_*_, _≤_};
-ghost use lib.ListN.{length, take};
+ghost use Prim.Native.Nat.{_*_};
+ghost use lib.ListN.{take};
 ghost use Rattle.pairing.specs.Keys.{fromKeys};
 ghost use Rattle.merge.specs.Merge.{partnersIn};
-ghost use Rattle.merge.specs.PairSteps.{Compares, Sizes, partnersOf, pairingsIn, pairedValues};
+ghost use Rattle.merge.specs.PairSteps.{ThreeValues, KeysFor, partnersOf, pairingsIn, pairedValues};
 use crate::keys::Terms;
 use crate::keys::keys_between;
 use pairing::NOBODY;
@@ -25,7 +25,7 @@ pub(crate) struct Pairings {
 
 // The partners of m first and n second tracks, by the keys in front of a slice.
 fn partners_by(keys: &[f64], m: usize, n: usize) -> Partners
-    requires { ⌜ (m ≤ 32) × (n ≤ 32) × (m * n ≤ length (now keys)) ⌝ }
+    requires { ⌜ KeysFor m n (now keys) ⌝ }
     ensures { λ r. ⌜ partnersOf r m n ≡ partnersIn (fromKeys (take (m * n) (now (keys .entry))) m n) ⌝ }
 {
     let mut firsts = [NOBODY; 32];
@@ -45,7 +45,7 @@ pub(crate) fn pair_all(
     l: usize,
     terms: Terms,
 ) -> Pairings
-    requires { ⌜ Compares terms × Sizes (now «base_values») m (terms .f) × Sizes (now «ours_values») n (terms .f) × Sizes (now «theirs_values») l (terms .f) ⌝ }
+    requires { ⌜ ThreeValues terms (now «base_values») m (now «ours_values») n (now «theirs_values») l ⌝ }
     ensures { λ r. ⌜ pairingsIn r m n l ≡ pairedValues terms (now («base_values» .entry)) m (now («ours_values» .entry)) n (now («theirs_values» .entry)) l ⌝ }
 {
     let free = [NOBODY; 32];

@@ -1,19 +1,18 @@
 // A track's own bytes, as a part of its list; whether two tracks are equal, and whether two are free.
 ghost use mathlib.Core.Path.{_≡_};
 ghost use mathlib.Core.Bool.{_&&_};
-ghost use Prim.Native.Nat.{_<_};
 ghost use lib.Dec.{eqb};
 ghost use Rattle.pairing.specs.Keys.{nobody};
 ghost use Rattle.tracks.specs.Record.{offset, recordAt, OwnBytes};
-ghost use Rattle.merge.specs.Tracks.{trackCount, equalTracks};
+ghost use Rattle.merge.specs.Tracks.{equalTracks};
 ghost use Rattle.merge.specs.Rows.{isTrack};
-ghost use Rattle.merge.specs.Steps.{held, Located, Index};
+ghost use Rattle.merge.specs.Steps.{held, LocatedTrack, TwoIndices};
 use pairing::NOBODY;
 use tracks::record::same_record;
 
 // The record of track i, where the offsets of its list are known.
 pub(crate) fn track_part<'a>(list: &'a [u8], offsets: &[usize], i: usize) -> &'a [u8]
-    requires { ⌜ Located (now list) (now offsets) × (i < trackCount (held (now list))) ⌝ }
+    requires { ⌜ LocatedTrack (now list) (now offsets) i ⌝ }
     ensures { λ r. ⌜ (now r ≡ recordAt (now (list .entry)) (offset (now (list .entry)) i)) × OwnBytes (list .entry) (offset (now (list .entry)) i) r ⌝ }
 {
     let start = offsets[i];
@@ -30,7 +29,7 @@ pub(crate) fn same_tracks(
     b_offsets: &[usize],
     j: u8,
 ) -> bool
-    requires { ⌜ Located (now a) (now «a_offsets») × Index (now a) i × Located (now b) (now «b_offsets») × Index (now b) j × (held (now a) .dimension ≡ held (now b) .dimension) ⌝ }
+    requires { ⌜ TwoIndices (now a) (now «a_offsets») i (now b) (now «b_offsets») j ⌝ }
     ensures { λ r. ⌜ r ≡ (isTrack i && (isTrack j && equalTracks (held (now (a .entry))) i (held (now (b .entry))) j)) ⌝ }
 {
     if i == NOBODY {

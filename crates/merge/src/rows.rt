@@ -5,7 +5,7 @@ ghost use Prim.Native.Nat.{_+_, _*_, _≤_};
 ghost use lib.ListN.{length};
 ghost use Rattle.kernel.specs.Lists.{over};
 ghost use Rattle.merge.specs.Rows.{rowsOf};
-ghost use Rattle.merge.specs.Steps.{undecided, undecidedRow, rowsBytes, baseGroup, oursGroup, theirsGroup, onlyIf, Appended, tablesIn};
+ghost use Rattle.merge.specs.Steps.{undecided, undecidedRow, rowsBytes, baseGroup, oursGroup, theirsGroup, onlyIf, Appended, RowsRoom, AllRowsRoom, tablesIn};
 use crate::pairs::Pairings;
 use crate::pairs::Partners;
 use crate::parts::both_free;
@@ -29,7 +29,7 @@ fn put_row(wanted: bool, i: u8, j: u8, k: u8, r: usize, rows: &mut [u8]) -> usiz
 
 // Writes the rows of m base tracks, by their partners in ours and in theirs.
 fn base_rows(base_ours: Partners, base_theirs: Partners, m: usize, rows: &mut [u8])
-    requires { ⌜ (m ≤ 32) × (4 * m ≤ length (now rows)) ⌝ }
+    requires { ⌜ RowsRoom m 0 (now rows) ⌝ }
     ensures { λ _. ⌜ now (rows .exit) ≡ over (now (rows .entry)) 0 (rowsBytes (baseGroup («base_ours» .firsts) («base_theirs» .firsts) m)) ⌝ }
 {
     let ours_of = base_ours.firsts;
@@ -47,7 +47,7 @@ fn ours_rows(
     at: usize,
     rows: &mut [u8],
 ) -> usize
-    requires { ⌜ (n ≤ 32) × (at ≤ 64) × (4 * (at + n) ≤ length (now rows)) ⌝ }
+    requires { ⌜ RowsRoom n at (now rows) ⌝ }
     ensures { λ r. ⌜ Appended (oursGroup («base_ours» .seconds) («ours_theirs» .firsts) n) at (now (rows .entry)) r (now (rows .exit)) ⌝ }
 {
     let base_of = base_ours.seconds;
@@ -67,7 +67,7 @@ fn theirs_rows(
     at: usize,
     rows: &mut [u8],
 ) -> usize
-    requires { ⌜ (l ≤ 32) × (at ≤ 64) × (4 * (at + l) ≤ length (now rows)) ⌝ }
+    requires { ⌜ RowsRoom l at (now rows) ⌝ }
     ensures { λ r. ⌜ Appended (theirsGroup («base_theirs» .seconds) («ours_theirs» .seconds) l) at (now (rows .entry)) r (now (rows .exit)) ⌝ }
 {
     let base_of = base_theirs.seconds;
@@ -88,7 +88,7 @@ fn theirs_rows(
 
 // Writes the rows of m, n and l tracks, by the partners of the three pairings, and gives how many there are.
 pub(crate) fn write_rows(p: Pairings, m: usize, n: usize, l: usize, rows: &mut [u8]) -> usize
-    requires { ⌜ (m ≤ 32) × (n ≤ 32) × (l ≤ 32) × (4 * (m + n + l) ≤ length (now rows)) ⌝ }
+    requires { ⌜ AllRowsRoom m n l (now rows) ⌝ }
     ensures { λ r. ⌜ Appended (rowsOf undecided (tablesIn p) m n l) 0 (now (rows .entry)) r (now (rows .exit)) ⌝ }
 {
     let base_ours = p.base_ours;

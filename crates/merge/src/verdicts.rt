@@ -1,9 +1,7 @@
 // The verdicts of rows whose indices stand, each by the records of its tracks.
 ghost use mathlib.Core.Path.{_≡_};
-ghost use Prim.Native.Nat.{_*_, _≤_};
-ghost use lib.ListN.{length};
 ghost use Rattle.kernel.specs.Lists.{over, tabulate};
-ghost use Rattle.merge.specs.Steps.{Lists, Index, Indices, verdictHeld, decidedRow, rowsBytes};
+ghost use Rattle.merge.specs.Steps.{ThreeIndices, RowsToDecide, verdictHeld, decidedRow, rowsBytes};
 use crate::parts::same_tracks;
 use crate::verdict::verdict;
 use pairing::NOBODY;
@@ -20,8 +18,7 @@ fn verdict_on(
     theirs_offsets: &[usize],
     k: u8,
 ) -> u8
-    requires { ⌜ Lists (now base) (now «base_offsets») (now ours) (now «ours_offsets») (now theirs) (now «theirs_offsets») ⌝ }
-    requires { ⌜ Index (now base) i × Index (now ours) j × Index (now theirs) k ⌝ }
+    requires { ⌜ ThreeIndices (now base) (now «base_offsets») i (now ours) (now «ours_offsets») j (now theirs) (now «theirs_offsets») k ⌝ }
     ensures { λ r. ⌜ r ≡ verdictHeld (now (base .entry)) (now (ours .entry)) (now (theirs .entry)) i j k ⌝ }
 {
     let ours_base = same_tracks(ours, ours_offsets, j, base, base_offsets, i);
@@ -48,8 +45,7 @@ pub(crate) fn write_verdicts(
     total: usize,
     rows: &mut [u8],
 )
-    requires { ⌜ Lists (now base) (now «base_offsets») (now ours) (now «ours_offsets») (now theirs) (now «theirs_offsets») ⌝ }
-    requires { ⌜ (total ≤ 96) × (4 * total ≤ length (now rows)) × Indices (now base) (now ours) (now theirs) (now rows) total ⌝ }
+    requires { ⌜ RowsToDecide (now base) (now «base_offsets») (now ours) (now «ours_offsets») (now theirs) (now «theirs_offsets») total (now rows) ⌝ }
     ensures { λ _. ⌜ now (rows .exit) ≡ over (now (rows .entry)) 0 (rowsBytes (tabulate total (decidedRow (now (base .entry)) (now (ours .entry)) (now (theirs .entry)) (now (rows .entry))))) ⌝ }
 {
     for r in 0..total {

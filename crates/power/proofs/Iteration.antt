@@ -21,7 +21,7 @@ use Rattle.linalg.specs.Norms.{norm}
 use Rattle.power.specs.Power.{times, dotProduct, rayleigh, residual, advanced, signOf, roundValue}
 use Rattle.power.specs.Power.{vanishes, isSmall, converges, afterRounds, isLast, eigenpair, refined, concluded, lastRound}
 use Rattle.power.specs.Power.{iterated, evenVector, dominant, matEigenvectorMax}
-use Rattle.power.specs.Room.{Multiplied, Rounded}
+use Rattle.power.specs.Room.{Multiplied, Measured, Rounded}
 use Rattle.power.proofs.Stops.{ends-stopped, ends-unstopped}
 
 length-times : (a : List Float) (n : ℕ) (x : List Float) {w : List Float} → w ≡ times a n x → length w ≡ n
@@ -38,24 +38,24 @@ module _ {n : ℕ} {a v w : List Float} (m : Multiplied n a v w) where
   pub product-size : length w ≡ n
   product-size = length-times a n v (m .product)
 
-  module _ {size : Float} (s : size ≡ norm w n) where
-    -- the size is the norm of the product
-    sized : size ≡ norm (times a n v) n
-    sized = s ∙ ap (λ (x : List Float). norm x n) (m .product)
+module _ {n : ℕ} {a v w : List Float} {size : Float} (m : Measured n a v w size) where
+  -- the size is the norm of the product
+  sized : size ≡ norm (times a n v) n
+  sized = m .measure ∙ ap (λ (x : List Float). norm x n) (m .multiplied .product)
 
-    valued : {d g : Float} → d ≡ dotProduct w v n → g ≡ signOf d → mul g size ≡ roundValue a n v
-    unfolding roundValue
-    valued d g = rw (g, d, sized, m .product)
+  valued : {d g : Float} → d ≡ dotProduct w v n → g ≡ signOf d → mul g size ≡ roundValue a n v
+  unfolding roundValue
+  valued d g = rw (g, d, sized, m .multiplied .product)
 
-    moved : {u : List Float} → u ≡ tabulate n (λ i. div (nth w i) size) → u ≡ advanced a n v
-    unfolding advanced
-    moved e = e ∙ rw (sized, m .product)
+  moved : {u : List Float} → u ≡ tabulate n (λ i. div (nth w i) size) → u ≡ advanced a n v
+  unfolding advanced
+  moved e = e ∙ rw (sized, m .multiplied .product)
 
-    pub round-made : {tol d g r : Float} {u x : List Float} {q : Bool} → d ≡ dotProduct w v n → g ≡ signOf d → u ≡ tabulate n (λ i. div (nth w i) size) → x ≡ times a n u
-        → r ≡ norm (tabulate n (λ i. sub (nth x i) (mul (mul g size) (nth u i)))) n → q ≡ isSmall tol (mul g size) r
-        → Rounded a n tol v q u x
-    unfolding converges residual
-    round-made ed eg eu ex er eq = record { converged = eq ∙ rw (er, ex, valued ed eg, moved eu); vector = moved eu; product = ex }
+  pub round-made : {tol d g r : Float} {u x : List Float} {q : Bool} → d ≡ dotProduct w v n → g ≡ signOf d → u ≡ tabulate n (λ i. div (nth w i) size) → x ≡ times a n u
+      → r ≡ norm (tabulate n (λ i. sub (nth x i) (mul (mul g size) (nth u i)))) n → q ≡ isSmall tol (mul g size) r
+      → Rounded a n tol v q u x
+  unfolding converges residual
+  round-made ed eg eu ex er eq = record { converged = eq ∙ rw (er, ex, valued ed eg, moved eu); vector = moved eu; product = ex }
 
 -- ---- all rounds
 

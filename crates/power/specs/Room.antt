@@ -6,6 +6,7 @@ use mathlib.Core.Path.{_≡_}
 use lib.Ieee.{Float}
 use lib.ListN.{length}
 use Rattle.dense.specs.Matrix.{side}
+use Rattle.linalg.specs.Norms.{norm}
 use Rattle.power.specs.Power.{times, advanced, converges}
 
 -- a matrix a, n by n, with room for another
@@ -27,6 +28,11 @@ pub record Multiplied (n : ℕ) (a v w : List Float) : Type 0 where
   pub matrix : length a ≡ n * n
   pub vector : length v ≡ n
   pub product : w ≡ times a n v
+
+-- the same with the size of the product, which is its norm
+pub record Measured (n : ℕ) (a v w : List Float) (size : Float) : Type 0 where
+  pub multiplied : Multiplied n a v w
+  pub measure : size ≡ norm w n
 
 -- a matrix a, n by n, with room for another and for two vectors
 pub record Spaces (n : ℕ) (a g v w : List Float) : Type 0 where

@@ -7,7 +7,7 @@ ghost use Rattle.kernel.specs.Lists.{tabulate};
 ghost use Rattle.dense.specs.Matrix.{nth, side};
 ghost use Rattle.linalg.specs.Norms.{norm};
 ghost use Rattle.power.specs.Power.{signOf, isSmall, eigenpair, iterated, evenVector, dominant};
-ghost use Rattle.power.specs.Room.{Vectors, Multiplied, Rounded};
+ghost use Rattle.power.specs.Room.{Vectors, Multiplied, Measured, Rounded};
 use crate::vector::divide;
 use crate::vector::fill;
 use crate::vector::norm;
@@ -53,7 +53,7 @@ fn is_small(tol: f64, lambda: f64, r: f64) -> bool
 
 // One round from v, whose product has the norm size; whether it has converged.
 fn round(a: &[f64], n: usize, tol: f64, size: f64, v: &mut [f64], w: &mut [f64]) -> bool
-    requires { ⌜ Multiplied n (now a) (now v) (now w) × (size ≡ norm (now w) n) ⌝ }
+    requires { ⌜ Measured n (now a) (now v) (now w) size ⌝ }
     ensures { λ r. ⌜ Rounded (now (a .entry)) n tol (now (v .entry)) r (now (v .exit)) (now (w .exit)) ⌝ }
 {
     let lambda = sign_of(dot(w, v, n)) * size;

@@ -35,11 +35,14 @@ returns-2 c = rw (sided (c .before .before .before), unmet (c .before .is-track 
 mirror-requires : tie.Need-mirror-requires
 mirror-requires c κs =
     let two = c .before in
-    let x = start-of two .args in (
-      side-high (x .d) (sided (two .before .before .before)),
-      leb-true (fields (x .d)) (length (x .v .now)) (and-left _ (long (x .out .now) (x .d * x .d)) (shaped two)),
-      long-length (x .out .now) (x .d * x .d) (and-right (leb (fields (x .d)) (length (x .v .now))) _ (shaped two)),
-    )
+    let x = start-of two .args in
+    record {
+      track = record {
+        few = side-high (x .d) (sided (two .before .before .before));
+        enough = leb-true (fields (x .d)) (length (x .v .now)) (and-left _ (long (x .out .now) (x .d * x .d)) (shaped two));
+      };
+      room = long-length (x .out .now) (x .d * x .d) (and-right (leb (fields (x .d)) (length (x .v .now))) _ (shaped two));
+    }
 
 returns-3 : tie.Need-returns-3
 unfolding wholeCovariance

@@ -21,7 +21,7 @@ entered c = c .before .before .before .before .before .before
 
 -- the state of the second track
 state : (c : tie.Start) → length (trackState (c .args .terms .d) (c .args .v .now)) ≡ c .args .terms .d
-state c = length-state (c .args .terms) (c .pre .0) (c .args .v .now) (c .pre .3)
+state c = length-state (c .args .terms) (c .pre .track .compares) (c .args .v .now) (c .pre .other)
 
 answers : (c : tie.After-compare)
     → let x = entered (filled c) .args in
@@ -32,11 +32,11 @@ answers c =
     let start = entered (filled c) in
     let x = start .args in
     let t = x .terms in
-    let h = start .pre in
+    let h = start .pre .track in
     c .compare .ensures
-    ∙ compares t (h .0) (x .mu .now) _ (x .p .now) _ (h .1) (state start) (h .2) (whole .kept .1 .1 .0 ∙ h .4)
+    ∙ compares t (h .compares) (x .mu .now) _ (x .p .now) _ (h .state) (state start) (h .covariance) (whole .kept .1 .1 .0 ∙ h .room)
     ∙ ap (λ (q : List Float). Answered (compared (x .mu .now) (trackState (t .d) (x .v .now)) (x .p .now) q (t .d) (t .floor) (t .gate)))
-    (covariance-left t (h .0) (x .v .now) (x .q .now) (h .3) (h .4) (whole .ensures))
+    (covariance-left t (h .compares) (x .v .now) (x .q .now) (start .pre .other) (h .room) (whole .ensures))
 
 returns : tie.Need-returns
 returns c =

@@ -28,10 +28,10 @@ start-of c = entered (c .before .before)
 
 -- the square of the dimension
 size : (c : tie.Start) → c .args .terms .d * c .args .terms .d ≤ 81
-size c = covariance-entries (c .pre .0)
+size c = covariance-entries (c .pre .compares)
 
 state : (c : tie.Start) → length (trackState (c .args .terms .d) (c .args .u .now)) ≡ c .args .terms .d
-state c = length-state (c .args .terms) (c .pre .0) (c .args .u .now) (c .pre .1)
+state c = length-state (c .args .terms) (c .pre .compares) (c .args .u .now) (c .pre .track)
 
 -- the covariance, which the call left in front of the array
 abbrev covariance : tie.Start → List Float
@@ -40,7 +40,7 @@ covariance c = trackCovariance (c .args .terms .d) (c .args .u .now)
 left : (c : tie.After-whole-covariance) → c .whole-covariance .last .1 .1 .0 ≡ covariance (start-of c)
 left c =
     let start = start-of c in
-    covariance-left (start .args .terms) (start .pre .0) (start .args .u .now) _ (start .pre .1) (length-take-le _ _ (size start)) (c .whole-covariance .ensures)
+    covariance-left (start .args .terms) (start .pre .compares) (start .args .u .now) _ (start .pre .track) (length-take-le _ _ (size start)) (c .whole-covariance .ensures)
 
 array-share-prefix-p : tie.Need-array-share-prefix-p
 array-share-prefix-p c =
@@ -63,7 +63,11 @@ put-keys-requires c κs =
     let w = written (c .before .before .before) in
     let start = start-of w in
     let h = start .pre in
-    ((h .0, state start, length-in-front w _, length-take-le _ _ (size start)), (h .2, h .3))
+    record {
+      track = record { compares = h .compares; state = state start; covariance = length-in-front w _; room = length-take-le _ _ (size start) };
+      others = h .others;
+      room = h .room;
+    }
 
 returns : tie.Need-returns
 returns c =

@@ -1,9 +1,12 @@
 -- `pair_all` meets its contract: three pairings, the third among those that the first two left free.
 use denote.Ref.{now}
-use Prim.Native.Nat.{ℕ, _*_, _≤_}
+use Prim.Native.Nat.{ℕ}
 use native.Mathlib.Nat.{mul-le-mul}
 use native.Mathlib.Omega.{arith}
-use mathlib.Core.Path.{_≡_, sym}
+use mathlib.Core.List.{List}
+use mathlib.Core.Path.{sym}
+use lib.Ieee.{Float}
+use Rattle.merge.specs.PairSteps.{Sizes, KeysInFront, KeysFor}
 use Rattle.merge.proofs.Paired.{all-paired}
 use Rattle.merge.proofs.pairs.pair_all.Statement.{statement}
 use Rattle.merge.proofs.pairs.pair_all.Tie as tie
@@ -21,18 +24,18 @@ second c = c .before .before .before
 abbrev start-of : tie.After-partners-by2 → tie.Start
 start-of c = begun (first (c .before .before))
 
--- m * n keys lie within the array
-within : {m n k : ℕ} → k ≡ 1024 → m ≤ 32 → n ≤ 32 → m * n ≤ k
-within e h k = omega (arith, mul-le-mul h k)
+-- the keys of two lists lie within the array
+keyed : {us vs keys array : List Float} {m n f size : ℕ} → Sizes us m f → Sizes vs n f → KeysInFront size keys array → KeysFor m n array
+keyed a b k = record { few-firsts = a .few; few-seconds = b .few; long = omega (arith, k .long, mul-le-mul (a .few) (b .few)) }
 
 requires : tie.Need-keys-between-requires
-requires c κs = let p = c .before .before .before .pre in (p .0, p .1, p .2)
+requires c κs = let p = c .before .before .before .pre in record { compares = p .compares; firsts = p .of-base; seconds = p .of-ours }
 
 requires-2 : tie.Need-keys-between-requires-2
-requires-2 c κs = let p = begun (c .before .before) .pre in (p .0, p .1, p .3)
+requires-2 c κs = let p = begun (c .before .before) .pre in record { compares = p .compares; firsts = p .of-base; seconds = p .of-theirs }
 
 requires-3 : tie.Need-keys-between-requires-3
-requires-3 c κs = let p = start-of (c .before .before) .pre in (p .0, p .2, p .3)
+requires-3 c κs = let p = start-of (c .before .before) .pre in record { compares = p .compares; firsts = p .of-ours; seconds = p .of-theirs }
 
 returns : tie.Need-returns
 returns c =
@@ -41,18 +44,18 @@ returns c =
     let s = start-of bt in
     let x = s .args in
     let p = s .pre in
-    all-paired (x .terms) (now (x .base-values)) (now (x .ours-values)) (now (x .theirs-values)) (x .m) (x .n) (x .l) (p .1 .few) (p .2 .few) (p .3 .few)
+    all-paired (x .terms) (now (x .base-values)) (now (x .ours-values)) (now (x .theirs-values)) (x .m) (x .n) (x .l) (p .of-base .few) (p .of-ours .few) (p .of-theirs .few)
     (bo .partners-by .result) (bt .partners-by2 .result) (c .partners-by3 .result)
     (bo .before .before .keys-between .result) (bt .before .before .keys-between2 .result) (c .before .before .keys-between3 .result)
-    (bo .before .before .keys-between .ensures .1) (bo .partners-by .ensures) (bt .before .before .keys-between2 .ensures .1) (bt .partners-by2 .ensures)
-    (c .before .before .keys-between3 .ensures .1) (c .partners-by3 .ensures)
+    (bo .before .before .keys-between .ensures .front) (bo .partners-by .ensures) (bt .before .before .keys-between2 .ensures .front) (bt .partners-by2 .ensures)
+    (c .before .before .keys-between3 .ensures .front) (c .partners-by3 .ensures)
 
 pub pair-all-spec : {M : Type 1} → statement M
 pair-all-spec =
     tie.close
-    (tie.spec requires (λ c. sym (c .before .keys-between .ensures .0))
-    (λ c κs. let p = begun (c .before) .pre in (p .1 .few, p .2 .few, within (c .before .keys-between .ensures .0) (p .1 .few) (p .2 .few)))
-    requires-2 (λ c. sym (c .before .keys-between2 .ensures .0))
-    (λ c κs. let p = begun (first (c .before)) .pre in (p .1 .few, p .3 .few, within (c .before .keys-between2 .ensures .0) (p .1 .few) (p .3 .few)))
-    requires-3 (λ c. sym (c .before .keys-between3 .ensures .0))
-    (λ c κs. let p = start-of (second (c .before)) .pre in (p .2 .few, p .3 .few, within (c .before .keys-between3 .ensures .0) (p .2 .few) (p .3 .few))) returns)
+    (tie.spec requires (λ c. sym (c .before .keys-between .ensures .long))
+    (λ c κs. let p = begun (c .before) .pre in keyed (p .of-base) (p .of-ours) (c .before .keys-between .ensures))
+    requires-2 (λ c. sym (c .before .keys-between2 .ensures .long))
+    (λ c κs. let p = begun (first (c .before)) .pre in keyed (p .of-base) (p .of-theirs) (c .before .keys-between2 .ensures))
+    requires-3 (λ c. sym (c .before .keys-between3 .ensures .long))
+    (λ c κs. let p = start-of (second (c .before)) .pre in keyed (p .of-ours) (p .of-theirs) (c .before .keys-between3 .ensures)) returns)

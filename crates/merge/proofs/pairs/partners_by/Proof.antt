@@ -1,5 +1,5 @@
 -- `partners_by` meets its contract: the tables of partners stand in front of two arrays.
-use Prim.Native.Nat.{_*_, _≤_}
+use Prim.Native.Nat.{_*_}
 use native.Mathlib.Omega.{arith}
 use native.Mathlib.Nat.{mul-le-mul}
 use mathlib.Core.Path.{_≡_, sym}
@@ -12,12 +12,13 @@ use Rattle.merge.proofs.pairs.partners_by.Tie as tie
 
 -- the keys in front
 in-front : (c : tie.Start) → length (take (c .args .m * c .args .n) (c .args .keys .now)) ≡ c .args .m * c .args .n
-in-front c = length-take-le _ (c .args .keys .now) (c .pre .2)
+in-front c = length-take-le _ (c .args .keys .now) (c .pre .long)
 
 requires : tie.Need-pair-tracks-requires
 requires c κs =
     let s = c .before .before .before .before in
-    (s .pre .0, s .pre .1, record { all-keys = in-front s; all-firsts = new-long (s .pre .0); all-seconds = new-long (s .pre .1) })
+    let p = s .pre in
+    (p .few-firsts, p .few-seconds, record { all-keys = in-front s; all-firsts = new-long (p .few-firsts); all-seconds = new-long (p .few-seconds) })
 
 returns : tie.Need-returns
 returns c =
@@ -29,6 +30,6 @@ returns c =
 pub partners-by-spec : {M : Type 1} → statement M
 partners-by-spec =
     tie.close
-    (tie.spec (λ c. omega (arith, mul-le-mul (c .before .pre .0) (c .before .pre .1))) (λ c. sym (in-front (c .before .before)))
-    (λ c. c .before .before .pre .0) (λ c. sym (new-long (c .before .before .before .pre .0))) (λ c. c .before .before .before .pre .1)
-    (λ c. sym (new-long (c .before .before .before .before .pre .1))) requires returns)
+    (tie.spec (λ c. omega (arith, mul-le-mul (c .before .pre .few-firsts) (c .before .pre .few-seconds))) (λ c. sym (in-front (c .before .before)))
+    (λ c. c .before .before .pre .few-firsts) (λ c. sym (new-long (c .before .before .before .pre .few-firsts))) (λ c. c .before .before .before .pre .few-seconds)
+    (λ c. sym (new-long (c .before .before .before .before .pre .few-seconds))) requires returns)

@@ -29,16 +29,16 @@ there l (inl h) n = h
 there l (inr e) n = absurd (n e)
 
 first : (c : tie.Else2) → start-of c .args .i < trackCount (held (now (start-of c .args .a)))
-first c = there _ (start-of c .pre .1) (c .before .if1 .left)
+first c = there _ (start-of c .pre .first) (c .before .if1 .left)
 
 second : (c : tie.Else2) → start-of c .args .j < trackCount (held (now (start-of c .args .b)))
-second c = there _ (start-of c .pre .3) (c .if2 .left)
+second c = there _ (start-of c .pre .second) (c .if2 .left)
 
 part-requires : tie.Need-track-part-requires
-part-requires c κs = (start-of c .pre .0, first c)
+part-requires c κs = record { located = start-of c .pre .of-first; index = first c }
 
 part-requires-2 : tie.Need-track-part-requires-2
-part-requires-2 c κs = (start-of (c .before) .pre .2, second (c .before))
+part-requires-2 c κs = record { located = start-of (c .before) .pre .of-second; index = second (c .before) }
 
 returns-3 : tie.Need-returns-3
 returns-3 c =
@@ -53,8 +53,8 @@ returns-3 c =
     ∙ ap (λ (u : List ℕ). sameBytes u (now (c .before .track-part2 .result))) (c .before .before .track-part .ensures .0)
     ∙ ap (sameBytes (recordAt (now (x .a)) (offset (now (x .a)) (x .i)))) (c .before .track-part2 .ensures .0)
     ∙ records-compared (now (x .a)) (now (x .b)) (λ n. omega (arith, k .before .before .before .shared-slice-known .given n))
-    (λ n. omega (arith, k .before .shared-slice-known3 .given n)) (held (now (x .a))) (held (now (x .b))) (s .pre .0 .accepted) (s .pre .2 .accepted) (s .pre .4) (x .i) (x .j)
-    (first e) (second e))
+    (λ n. omega (arith, k .before .shared-slice-known3 .given n)) (held (now (x .a))) (held (now (x .b))) (s .pre .of-first .accepted) (s .pre .of-second .accepted)
+    (s .pre .one-dimension) (x .i) (x .j) (first e) (second e))
 
 pub same-tracks-spec : {M : Type 1} → statement M
 same-tracks-spec = tie.close (tie.spec returns returns-2 part-requires part-requires-2 (λ c κs. search needs) returns-3)

@@ -1,21 +1,19 @@
 -- `ours_rows` meets its contract: before turn j the rows of those of the first j tracks of ours are written that have no base track.
-use mathlib.Core.Path.{_≡_, refl}
-use Prim.Native.Nat.{ℕ, _-_, _≤_}
-use native.Mathlib.Nat.{le-antisymm}
+use mathlib.Core.Path.{refl}
+use Prim.Native.Nat.{ℕ, _-_}
 use native.Mathlib.Omega.{arith}
 use mathlib.Core.Bool.{Bool}
-use denote.Ref.{now}
-use lib.ListN.{length, getD}
+use lib.ListN.{getD}
 use Rattle.pairing.specs.Keys.{nobody}
 use Rattle.pairing.specs.Search.{isFree}
 use Rattle.merge.specs.Rows.{Row, selected}
-use Rattle.merge.specs.Steps.{undecidedRow, oursGroup, Appended}
-use Rattle.merge.proofs.Groups.{appended-none, selected-room, selected-turn, selected-all}
+use Rattle.merge.specs.Steps.{undecidedRow, oursGroup}
+use Rattle.merge.proofs.Groups.{Growing, no-turn, selected-room, selected-turn, every-turn}
 use Rattle.merge.proofs.rows.ours_rows.Statement.{statement}
 use Rattle.merge.proofs.rows.ours_rows.Tie as tie
 
 abbrev Inv-loop : tie.InvT-loop
-Inv-loop n at rows₀ base-of theirs-of r₀ j₀ rows r j = (j ≤ n) × (length rows ≡ length rows₀) × Appended (oursGroup base-of theirs-of j) at rows₀ r rows
+Inv-loop n at rows₀ base-of theirs-of r₀ j₀ rows r j = Growing (oursGroup base-of theirs-of) n at rows₀ j r rows
 
 abbrev μ-loop : tie.MeasureT-loop
 μ-loop n at rows₀ base-of theirs-of r₀ j₀ rows r j = n - j
@@ -36,31 +34,23 @@ at-row c j = undecidedRow nobody j (getD (c .args .ours-theirs .firsts) j 0)
 
 loop-holds : tie.Need-loop-holds Inv-loop μ-loop
 unfolding selected
-loop-holds c = let x = c .before .before .before .args in (omega arith, refl, appended-none (x .at) (now (x .rows)))
+loop-holds c = no-turn refl
 
 put-row-requires : tie.Need-put-row-requires Inv-loop μ-loop
-put-row-requires c κs =
-    let i = turn c .loop in
-    let s = begun (turn c) in
-    selected-room (wanted s) (at-row s) {n = i .j} (omega arith) (i .inv .2) (s .pre .0) (s .pre .1) (s .pre .2) (i .inv .1)
+put-row-requires c κs = let s = begun (turn c) in selected-room (wanted s) (at-row s) (turn c .loop .inv) (omega arith) (s .pre)
 
 -- the turn's row is one more, or none is
 loop-again : tie.Need-loop-again Inv-loop μ-loop
 loop-again c =
     let t = c .before .before .before in
-    let i = turn t .loop in
     let s = begun (turn t) in
-    let next = selected-turn (wanted s) (at-row s) (i .j) (i .inv .2) (omega (arith, s .pre .2)) (c .before .before .put-row .ensures) in
-    (omega arith, next .0, next .1)
+    selected-turn (wanted s) (at-row s) (turn t .loop .inv) (omega arith) (s .pre) (c .before .before .put-row .ensures)
 
 returns : tie.Need-returns Inv-loop μ-loop
-returns c =
-    let i = c .before .loop in
-    let s = begun (c .before) in
-    selected-all (wanted s) (at-row s) (le-antisymm (i .inv .0) (c .loop-test .left)) (i .inv .2)
+returns c = every-turn (c .before .loop .inv) (c .loop-test .left)
 
 pub ours-rows-spec : {M : Type 1} → statement M
 ours-rows-spec =
     tie.close
     (tie.spec Inv-loop μ-loop loop-holds (λ c. omega arith) (λ c. omega arith) (λ c. omega arith) put-row-requires (λ c. omega arith) (λ c. omega arith)
-    loop-again (λ c. c .before .loop .inv .1) returns)
+    loop-again (λ c. c .before .loop .inv .long) returns)

@@ -39,10 +39,10 @@ without-base c = withoutBase (tablesIn (c .args .p))
 
 -- the buffer keeps its length
 base-length : (c : tie.After-base-rows) → length (c .base-rows .last .1 .1 .1 .0) ≡ length (now (begun c .args .rows))
-base-length c = let s = begun c in tabulated-length (base-row s) (s .args .m) (tabulated (base-row s) (s .args .m) (c .base-rows .ensures)) (omega (arith, s .pre .3))
+base-length c = let s = begun c in tabulated-length (base-row s) (s .args .m) (tabulated (base-row s) (s .args .m) (c .base-rows .ensures)) (omega (arith, s .pre .room))
 
 ours-requires : tie.Need-ours-rows-requires
-ours-requires c κs = let p = begun (based c) .pre in (p .1, omega (arith, p .0), omega (arith, p .3, base-length (based c)))
+ours-requires c κs = let p = begun (based c) .pre in record { few = p .few-ours; start = omega (arith, p .few-base); room = omega (arith, p .room, base-length (based c)) }
 
 theirs-requires : tie.Need-theirs-rows-requires
 theirs-requires c κs =
@@ -52,8 +52,8 @@ theirs-requires c κs =
     let p = s .pre in
     let few = selected-few (s .args .n) (without-base s) (ours-row s) in
     let next = o .ours-rows .ensures .next in
-    let long = selected-length (without-base s) (ours-row s) (s .args .n) (o .ours-rows .ensures) (omega (arith, p .3, base-length b)) in
-    (p .2, omega (arith, few, next, p .0, p .1), omega (arith, few, next, long, p .3, base-length b))
+    let long = selected-length (without-base s) (ours-row s) (s .args .n) (o .ours-rows .ensures) (omega (arith, p .room, base-length b)) in
+    record { few = p .few-theirs; start = omega (arith, few, next, p .few-base, p .few-ours); room = omega (arith, few, next, long, p .room, base-length b) }
 
 returns : tie.Need-returns
 unfolding rowsOf
@@ -61,7 +61,7 @@ returns c =
     let o = oursed (c .before .before .before) in
     let b = based (o .before) in
     let s = begun b in
-    let room = s .pre .3 in
+    let room = s .pre .room in
     let few = selected-few (s .args .n) (without-base s) (ours-row s) in
     let rest = appended-more _ _ (o .ours-rows .ensures) (omega (arith, few, room, base-length b)) (c .before .before .theirs-rows .ensures) in
     appended-more _ _ (tabulated (base-row s) (s .args .m) (b .base-rows .ensures)) (omega (arith, room, length-tabulate (s .args .m) (base-row s))) rest
@@ -69,4 +69,4 @@ returns c =
 pub write-rows-spec : {M : Type 1} → statement M
 write-rows-spec =
     tie.close
-    (tie.spec (λ c κs. let p = start-of (c .before) .pre in (p .0, omega (arith, p .3))) ours-requires theirs-requires (λ c. search needs) returns)
+    (tie.spec (λ c κs. let p = start-of (c .before) .pre in record { few = p .few-base; start = omega arith; room = omega (arith, p .room) }) ours-requires theirs-requires (λ c. search needs) returns)

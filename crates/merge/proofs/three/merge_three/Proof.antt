@@ -85,13 +85,18 @@ pair-all-requires : tie.Need-pair-all-requires
 pair-all-requires c κs =
     let a = entered c .pre in
     let g = size-is c in
-    (compares-of a g (met-18 (asked c .before)), sizes-of (a .of-base) (a .base-dimension) g, sizes-of (a .of-ours) (a .ours-dimension) g, sizes-of (a .of-theirs) (a .theirs-dimension) g)
+    record {
+      compares = compares-of a g (met-18 (asked c .before));
+      of-base = sizes-of (a .of-base) (a .base-dimension) g;
+      of-ours = sizes-of (a .of-ours) (a .ours-dimension) g;
+      of-theirs = sizes-of (a .of-theirs) (a .theirs-dimension) g;
+    }
 
 write-rows-requires : tie.Need-write-rows-requires
 write-rows-requires c κs =
     let f = c .before .before in
     let a = entered f .pre in
-    (few-read (a .of-base), few-read (a .of-ours), few-read (a .of-theirs), omega (arith, asked f .if2 .left))
+    record { few-base = few-read (a .of-base); few-ours = few-read (a .of-ours); few-theirs = few-read (a .of-theirs); room = omega (arith, asked f .if2 .left) }
 
 -- the rows stand in the buffer, and then their verdicts
 placed : (c : tie.After-write-rows) → let s = entered (sized c) in Appended (rows-with s undecided) 0 (old s) (c .write-rows .result) (c .write-rows .last .1 .1 .1 .1 .0)
@@ -119,7 +124,7 @@ write-verdicts-requires c κs =
     let fit = rows-fit (b s) (o s) (t s) (s .args .floor) (s .args .gate) (old s) undecided (placed w) (room (sized w)) in
     let is = indices-in (b s) (o s) (t s) (s .args .floor) (s .args .gate) (few-located (a .of-base .located)) (few-located (a .of-ours .located)) (few-located (a .of-theirs .located))
     (old s) undecided (placed w) in
-    (lists-of a, (omega (arith, fit .0, number-of (s .pre), few-of (s .pre)), fit .1, is))
+    record { lists = lists-of a; few = omega (arith, fit .0, number-of (s .pre), few-of (s .pre)); room = fit .1; indices = is }
 
 count-rows-requires : tie.Need-count-rows-requires
 unfolding mergedRows

@@ -14,13 +14,20 @@ abbrev start-of : tie.After-shared-slice-known6 → tie.Start
 start-of c = c .before .before .before .before .before .before
 
 same-requires : tie.Need-same-tracks-requires
-same-requires c κs = let p = start-of c .pre in (p .0 .of-ours, p .1 .1, p .0 .of-base, p .1 .0, p .0 .ours-dimension)
+same-requires c κs =
+    let p = start-of c .pre in
+    record { of-first = p .lists .of-ours; first = p .of-ours; of-second = p .lists .of-base; second = p .of-base; one-dimension = p .lists .ours-dimension }
 
 same-requires-2 : tie.Need-same-tracks-requires-2
-same-requires-2 c κs = let p = start-of (c .before) .pre in (p .0 .of-theirs, p .1 .2, p .0 .of-base, p .1 .0, p .0 .theirs-dimension)
+same-requires-2 c κs =
+    let p = start-of (c .before) .pre in
+    record { of-first = p .lists .of-theirs; first = p .of-theirs; of-second = p .lists .of-base; second = p .of-base; one-dimension = p .lists .theirs-dimension }
 
 same-requires-3 : tie.Need-same-tracks-requires-3
-same-requires-3 c κs = let p = start-of (c .before .before) .pre in (p .0 .of-ours, p .1 .1, p .0 .of-theirs, p .1 .2, p .0 .ours-dimension ∙ sym (p .0 .theirs-dimension))
+same-requires-3 c κs =
+    let p = start-of (c .before .before) .pre in
+    let one = p .lists .ours-dimension ∙ sym (p .lists .theirs-dimension) in
+    record { of-first = p .lists .of-ours; first = p .of-ours; of-second = p .lists .of-theirs; second = p .of-theirs; one-dimension = one }
 
 returns : tie.Need-returns
 unfolding verdictOn

@@ -1,21 +1,20 @@
 -- `write_verdicts` meets its contract: before turn r the verdicts of the first r rows are written.
-use mathlib.Core.Path.{_≡_, refl, sym, ap, subst, _∙_}
+use mathlib.Core.Path.{_≡_, refl, sym, subst, _∙_}
 use Prim.Native.Nat.{ℕ, _+_, _*_, _-_, _≤_}
-use native.Mathlib.Nat.{le-antisymm}
 use native.Mathlib.Omega.{arith}
 use mathlib.Core.Bool.{true}
 use denote.Ref.{now}
-use lib.ListN.{length, getD}
-use Rattle.kernel.specs.Lists.{over, tabulate}
+use lib.ListN.{getD}
+use Rattle.kernel.specs.Lists.{tabulate}
 use Rattle.merge.specs.Rows.{Row}
-use Rattle.merge.specs.Steps.{Index, verdictHeld, decidedRow, rowsBytes, Appended}
-use Rattle.merge.proofs.Groups.{appended-none, appended-one, tabulated-turn, tabulated-rest, verdict-put}
+use Rattle.merge.specs.Steps.{Index, verdictHeld, decidedRow}
+use Rattle.merge.proofs.Groups.{Growing, no-turn, appended-one, tabulated-turn, tabulated-rest, every-turn, verdict-put}
 use Rattle.merge.proofs.verdicts.write_verdicts.Statement.{statement}
 use Rattle.merge.proofs.verdicts.write_verdicts.Tie as tie
 
 abbrev Inv-loop : tie.InvT-loop
 Inv-loop base base-offsets ours ours-offsets theirs theirs-offsets total rows₀ r₀ rows r =
-    (r ≤ total) × (length rows ≡ length rows₀) × Appended (tabulate r (decidedRow base ours theirs rows₀)) 0 rows₀ r rows
+    Growing (λ k. tabulate k (decidedRow base ours theirs rows₀)) total 0 rows₀ r r rows
 
 abbrev μ-loop : tie.MeasureT-loop
 μ-loop base base-offsets ours ours-offsets theirs theirs-offsets total rows₀ r₀ rows r = total - r
@@ -33,11 +32,11 @@ at-row c = let x = c .args in decidedRow (now (x .base)) (now (x .ours)) (now (x
 
 -- the turn's row is still as it was
 still : (c : tie.At-loop Inv-loop μ-loop) (k : ℕ) → 4 * c .loop .r ≤ k → getD (c .loop .rows) k 0 ≡ getD (now (begun c .args .rows)) k 0
-still c k h = tabulated-rest (at-row (begun c)) (c .loop .r) (c .loop .inv .2) k h
+still c k h = tabulated-rest (at-row (begun c)) (c .loop .r) (c .loop .inv .rows) k h
 
 loop-holds : tie.Need-loop-holds Inv-loop μ-loop
 unfolding tabulate
-loop-holds c = (omega arith, refl, appended-none 0 (now (c .before .before .before .before .before .before .before .args .rows)))
+loop-holds c = no-turn refl
 
 verdict-requires : tie.Need-verdict-on-requires Inv-loop μ-loop
 verdict-requires c κs =
@@ -45,14 +44,13 @@ verdict-requires c κs =
     let s = begun t in
     let x = s .args in
     let r = t .loop .r in
-    let i = s .pre .1 .2 r (omega arith) in (
-      s .pre .0,
-      (
-        subst (Index (now (x .base))) (sym (still t (4 * r) (omega arith))) (i .0),
-        subst (Index (now (x .ours))) (sym (still t (4 * r + 1) (omega arith))) (i .1),
-        subst (Index (now (x .theirs))) (sym (still t (4 * r + 2) (omega arith))) (i .2),
-      ),
-    )
+    let i = s .pre .indices r (omega arith) in
+    record {
+      lists = s .pre .lists;
+      of-base = subst (Index (now (x .base))) (sym (still t (4 * r) (omega arith))) (i .0);
+      of-ours = subst (Index (now (x .ours))) (sym (still t (4 * r + 1) (omega arith))) (i .1);
+      of-theirs = subst (Index (now (x .theirs))) (sym (still t (4 * r + 2) (omega arith))) (i .2);
+    }
 
 -- the turn's row has its verdict
 loop-again : tie.Need-loop-again Inv-loop μ-loop
@@ -61,24 +59,20 @@ loop-again c =
     let s = begun t in
     let x = s .args in
     let i = t .loop in
-    let room = s .pre .1 .1 in
+    let room = s .pre .room in
     let first = still t (4 * i .r) (omega arith) in
     let second = still t (4 * i .r + 1) (omega arith) in
     let third = still t (4 * i .r + 2) (omega arith) in
     let decided = c .verdict-on .ensures ∙ (λ z. verdictHeld (now (x .base)) (now (x .ours)) (now (x .theirs)) (first z) (second z) (third z)) in
-    let put = verdict-put (i .rows) (4 * i .r) first second third decided (omega (arith, i .inv .1, room)) in
-    let next = tabulated-turn (at-row s) (i .r) (i .inv .2) (omega (arith, room)) (appended-one true (at-row s (i .r)) refl refl put) in
-    (omega arith, next .0, next .1)
+    let put = verdict-put (i .rows) (4 * i .r) first second third decided (omega (arith, i .inv .long, room)) in
+    tabulated-turn (at-row s) (i .inv) (omega arith) room (appended-one true (at-row s (i .r)) refl refl put)
 
 returns : tie.Need-returns Inv-loop μ-loop
-returns c =
-    let i = c .before .loop in
-    let s = begun (c .before) in
-    i .inv .2 .bytes ∙ ap (λ (k : ℕ). over (now (s .args .rows)) 0 (rowsBytes (tabulate k (at-row s)))) (le-antisymm (i .inv .0) (c .loop-test .left))
+returns c = every-turn (c .before .loop .inv) (c .loop-test .left) .bytes
 
 pub write-verdicts-spec : {M : Type 1} → statement M
 write-verdicts-spec =
     tie.close
     (tie.spec Inv-loop μ-loop loop-holds (λ c. omega arith) (λ c. omega arith) (λ c. omega arith) (λ c. omega arith) (λ c. omega arith) (λ c. omega arith)
     (λ c. omega arith) (λ c. omega arith) verdict-requires (λ c. omega arith) (λ c. omega arith) (λ c. omega arith) (λ c. omega arith) (λ c. omega arith)
-    loop-again (λ c. c .before .loop .inv .1) returns)
+    loop-again (λ c. c .before .loop .inv .long) returns)

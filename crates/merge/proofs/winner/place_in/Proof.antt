@@ -1,6 +1,6 @@
 -- `place_in` meets its contract: both lists are checked, and then the track's part is found by its offsets.
 use borrow.Author.Needs.{needs}
-use Prim.Native.Nat.{ℕ, _<_}
+use Prim.Native.Nat.{ℕ}
 use native.Mathlib.Omega.{arith}
 use mathlib.Core.Path.{_≡_, refl, ap, _∙_}
 use mathlib.Core.List.{List}
@@ -10,7 +10,7 @@ use Rattle.kernel.specs.Answer.{answered}
 use Rattle.tracks.specs.Read.{contents}
 use Rattle.tracks.specs.Record.{offset}
 use Rattle.merge.specs.Tracks.{trackCount}
-use Rattle.merge.specs.Steps.{held, Located}
+use Rattle.merge.specs.Steps.{held, Located, LocatedTrack}
 use Rattle.merge.specs.declared.winner.Place.the-variants.{At}
 use Rattle.merge.proofs.Located.{few-located, starts}
 use Rattle.merge.proofs.Winning.{list-located, list-refused, place-refused, place-other-refused, place-missing, place-there}
@@ -47,8 +47,9 @@ located c = list-located (list-of c) zeros refl (checked (both c) .track-offsets
 accepted : (c : tie.After-enum-told) → contents (other-of (read c)) ≡ answered (held (other-of (read c)))
 accepted c = list-located (other-of (read c)) zeros refl (both (read c) .before .track-offsets2 .ensures) (c .enum-told .given .1) .0 .accepted
 
-there : (c : tie.Else1) → start-of (both (read (c .before))) .args .i < trackCount (held (list-of (read (c .before))))
-there c = omega (arith, located (read (c .before)) .1, c .if1 .left)
+there : (c : tie.Else1)
+    → let k = read (c .before) in LocatedTrack (list-of k) (checked (both k) .track-offsets .last .1 .0) (start-of (both k) .args .i)
+there c = let l = located (read (c .before)) in record { located = l .0; index = omega (arith, l .1, c .if1 .left) }
 
 returns : tie.Need-returns
 returns c =
@@ -56,13 +57,13 @@ returns c =
     place-missing (list-of k) (other-of k) _ (located k .0 .accepted) (accepted (c .before)) (omega (arith, located k .1, c .if1 .taken))
 
 track-part-requires : tie.Need-track-part-requires
-track-part-requires c κs = (located (read (c .before .before)) .0, there (c .before))
+track-part-requires c κs = there (c .before)
 
 mul-start : tie.Need-mul-t19
-mul-start c = let e = c .before .before in omega (arith, there e, few-located (located (read (e .before)) .0))
+mul-start c = let t = there (c .before .before) in omega (arith, few-located (t .located))
 
 read-start : tie.Need-array-read-t22
-read-start c = let e = c .before .before in omega (arith, there e, few-located (located (read (e .before)) .0))
+read-start c = let t = there (c .before .before) in omega (arith, few-located (t .located))
 
 returns-2 : tie.Need-returns-2
 returns-2 c =
@@ -71,9 +72,9 @@ returns-2 c =
     let l = list-of k in
     let i = start-of (both k) .args .i in
     let size = length (c .track-part .result .now) in
-    ap (λ (s : ℕ). At s size) (starts (located k .0) (there e))
+    ap (λ (s : ℕ). At s size) (starts (there e))
     ∙ ap (λ (p : List ℕ). At (offset l i) (length p)) (c .track-part .ensures .0)
-    ∙ place-there l (other-of k) i (located k .0 .accepted) (accepted (e .before)) (there e)
+    ∙ place-there l (other-of k) i (located k .0 .accepted) (accepted (e .before)) (there e .index)
 
 returns-3 : tie.Need-returns-3
 returns-3 c =

@@ -18,19 +18,19 @@ divided c = c .before .before .before .before .before
 
 -- the next vector has n entries
 wide : (c : tie.After-divide) → length (c .divide .last .1 .1 .1 .0) ≡ entered (summed c) .args .n
-wide c = c .divide .kept .1 .1 .1 .0 ∙ entered (summed c) .pre .0 .vector
+wide c = c .divide .kept .1 .1 .1 .0 ∙ entered (summed c) .pre .multiplied .vector
 
 times-requires : tie.Need-times-requires
 times-requires c κs =
     let after-divide = c .before .before .before .before in
-    let held = entered (summed after-divide) .pre .0 in
+    let held = entered (summed after-divide) .pre .multiplied in
     record { order = held .order; matrix = held .matrix; left = wide after-divide; right = product-size held }
 
 residual-requires : tie.Need-residual-requires
 residual-requires c κs =
     let after-times = c .before .before .before .before in
     let after-divide = divided after-times in
-    (after-times .times .kept .1 .1 .1 .0 ∙ product-size (entered (summed after-divide) .pre .0), wide after-divide)
+    (after-times .times .kept .1 .1 .1 .0 ∙ product-size (entered (summed after-divide) .pre .multiplied), wide after-divide)
 
 returns : tie.Need-returns
 returns c =
@@ -38,13 +38,12 @@ returns c =
     let after-times = after-residual .before .before .before .before .before in
     let after-divide = divided after-times in
     let after-dot = summed after-divide in
-    let start = entered after-dot in
-    round-made (start .pre .0) (start .pre .1) (after-dot .dot .ensures) (after-divide .before .before .before .sign-of .ensures) (after-divide .divide .ensures)
+    round-made (entered after-dot .pre) (after-dot .dot .ensures) (after-divide .before .before .before .sign-of .ensures) (after-divide .divide .ensures)
     (after-times .times .ensures) (after-residual .residual .ensures) (c .is-small .ensures)
 
 pub round-spec : {M : Type 1} → statement M
 round-spec =
     tie.close
-    (tie.spec (λ c κs. let held = c .before .before .before .before .before .pre .0 in (product-size held, held .vector)) (λ c κs. search needs)
-    (λ c κs. let held = entered (c .before .before .before) .pre .0 in (product-size held, held .vector)) times-requires residual-requires (λ c κs. search needs)
+    (tie.spec (λ c κs. let held = c .before .before .before .before .before .pre .multiplied in (product-size held, held .vector)) (λ c κs. search needs)
+    (λ c κs. let held = entered (c .before .before .before) .pre .multiplied in (product-size held, held .vector)) times-requires residual-requires (λ c κs. search needs)
     (λ c. search needs) (λ c. search needs) returns)

@@ -55,7 +55,8 @@ round-requires c κs =
     let after-norm = c .before .before .before in
     let turn = turned after-norm in
     let pre = entered turn .pre in
-    (record { order = pre .order; matrix = pre .matrix; vector = turn .loop .inv .vector; product = turn .loop .inv .product }, after-norm .norm .ensures)
+    let held = turn .loop .inv in
+    record { multiplied = record { order = pre .order; matrix = pre .matrix; vector = held .vector; product = held .product }; measure = after-norm .norm .ensures }
 
 dot-requires : tie.Need-dot-requires Inv-loop μ-loop
 dot-requires c κs =
