@@ -61,16 +61,6 @@ fn load(s: &[u8]) -> [f64; ENTRIES] {
     a
 }
 
-// Whether the entries of out are those at the start of s.
-fn agrees(s: &[u8], out: &[f64]) -> bool {
-    for i in 0..out.len() {
-        if !replay::is_same(out[i], number(s, i)) {
-            return false;
-        }
-    }
-    true
-}
-
 // Whether the record s is answered as it says, with these slices; after is what it says of out after the call.
 fn is_met(
     s: &[u8],
@@ -88,15 +78,16 @@ fn is_met(
     let told = number(s, 10);
     if ITERATING <= call {
         let rounds = (number(s, 3) % 0x1_0000_0000) as u32;
-        return iterating::answer(call, rounds, n, x, a, out) == told && agrees(after, out);
+        return iterating::answer(call, rounds, n, x, a, out) == told
+            && replay::are_same(out, after);
     }
     if call == COMPARISON {
-        return comparison::compared(a, b, c, n, x, out) == told && agrees(after, out);
+        return comparison::compared(a, b, c, n, x, out) == told && replay::are_same(out, after);
     }
     if SPECTRAL <= call {
-        return spectral::answer(call, n, x, a, out) == told && agrees(after, out);
+        return spectral::answer(call, n, x, a, out) == told && replay::are_same(out, after);
     }
-    calls::answer(call, m, k, n, x, a, b, c, out) == told && agrees(after, out)
+    calls::answer(call, m, k, n, x, a, b, c, out) == told && replay::are_same(out, after)
 }
 
 // The same with the slices out of the record.
