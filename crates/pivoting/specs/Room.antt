@@ -1,11 +1,9 @@
--- What the functions inside the crate ask of their slices, and what a reduction tells: the parts of private contracts by name. No caller of the crate reads them.
+-- What the functions inside the crate ask of their slices: the parts of private contracts by name. No caller of the crate reads them.
 use Prim.Native.Nat.{ℕ, _+_, _*_, _<_, _≤_}
-use mathlib.Core.Bool.{Bool, true}
 use mathlib.Core.List.{List}
 use mathlib.Core.Path.{_≡_}
 use lib.Ieee.{Float}
 use lib.ListN.{length}
-use Rattle.pivoting.specs.Pivot.{Stage}
 
 -- two rows of w entries, with a column k
 pub record TwoRows (w k : ℕ) (x y : List Float) : Type 0 where
@@ -37,11 +35,6 @@ pub record Column (n w k : ℕ) (m s x : List Float) : Type 0 where
   pub diagonal : k < n
   pub column : k < w
   pub room : Elimination n w m s x
-
--- that an answer is a test's, and where it is yes, that what is left is the stage that was wanted
-pub record Reaches (test answer : Bool) (left wanted : Stage) : Type 0 where
-  pub told : answer ≡ test
-  pub reached : answer ≡ true → left ≡ wanted
 
 -- a matrix a, n by n, with right sides b and room for the solution, both n by r
 pub record System (n r : ℕ) (a b out : List Float) : Type 0 where

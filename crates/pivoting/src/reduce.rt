@@ -4,7 +4,8 @@ ghost use Prim.Native.Nat.{_<_, _≤_};
 ghost use Rattle.dense.specs.Matrix.{nth, at, matrix};
 ghost use Rattle.pivoting.specs.Pivot.{pivot, taken, stage, pivoted};
 ghost use Rattle.pivoting.specs.Solve.{clearedEntry, stepEntry, column, reduced};
-ghost use Rattle.pivoting.specs.Room.{Clearing, PivotRow, Elimination, Column, Reaches};
+ghost use Rattle.linalg.specs.Room.{Reaches};
+ghost use Rattle.pivoting.specs.Room.{Clearing, PivotRow, Elimination, Column};
 use crate::choice::choose;
 use crate::choice::is_taken;
 use crate::choice::swap_norms;
@@ -36,7 +37,7 @@ fn step(m: &mut [f64], x: &mut [f64], n: usize, w: usize, k: usize, p: usize)
 // Question 6 in column k of m, n by w, with norms s; where it is met the column is reduced. x is room for a row.
 fn reduce_column(m: &mut [f64], s: &mut [f64], x: &mut [f64], n: usize, w: usize, k: usize) -> bool
     requires { ⌜ Column n w k (now m) (now s) (now x) ⌝ }
-    ensures { λ r. ⌜ Reaches (taken (pivot (now (m .entry)) (now (s .entry)) n w k)) r (stage (now (m .exit)) (now (s .exit))) (column n w k (stage (now (m .entry)) (now (s .entry)))) ⌝ }
+    ensures { λ r. ⌜ Reaches (taken (pivot (now (m .entry)) (now (s .entry)) n w k)) r (stage (now (m .exit)) (now (s .exit)) ≡ column n w k (stage (now (m .entry)) (now (s .entry)))) ⌝ }
 {
     let best = choose(m, s, n, w, k);
     if !is_taken(best) {
@@ -51,7 +52,7 @@ fn reduce_column(m: &mut [f64], s: &mut [f64], x: &mut [f64], n: usize, w: usize
 // Question 6 in the first n columns of m, n by w, with norms s; where it is met all are reduced. x is room for a row.
 pub(crate) fn reduce(m: &mut [f64], s: &mut [f64], x: &mut [f64], n: usize, w: usize) -> bool
     requires { ⌜ (n ≤ w) × Elimination n w (now m) (now s) (now x) ⌝ }
-    ensures { λ r. ⌜ Reaches (pivoted n w (reduced n w (stage (now (m .entry)) (now (s .entry)))) n) r (stage (now (m .exit)) (now (s .exit))) (reduced n w (stage (now (m .entry)) (now (s .entry))) n) ⌝ }
+    ensures { λ r. ⌜ Reaches (pivoted n w (reduced n w (stage (now (m .entry)) (now (s .entry)))) n) r (stage (now (m .exit)) (now (s .exit)) ≡ reduced n w (stage (now (m .entry)) (now (s .entry))) n) ⌝ }
 {
     for k in 0..n {
         if !reduce_column(m, s, x, n, w, k) {
