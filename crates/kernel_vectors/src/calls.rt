@@ -1,9 +1,8 @@
-// The matrix calls by their numbers in a record.
+// The calls of linalg by their numbers in a record, and what every call's answer becomes.
 use dense::Number;
 use dense::Written;
 use linalg::generic;
 use linalg::regularize;
-use pivoting::generic as solvers;
 
 pub(crate) fn written(answer: Written) -> u64 {
     match answer {
@@ -54,14 +53,6 @@ pub(crate) fn answer(
             out,
         ),
         12 => written(generic::mat_cholesky(a, n, out)),
-        13 => written(regularize::tikhonov(a, x, n, out)),
-        14 => entered(mat3::mat3_det(a), out),
-        15 => written(mat3::mat3_inv(a, out)),
-        16 => written(mat3::mat3_solve(a, b, out)),
-        17 => written(solvers::row_inf_norms(a, n, out)),
-        18 => written(solvers::mat_solve(a, b, n, out)),
-        19 => written(solvers::mat_inv(a, n, out)),
-        20 => entered(solvers::mat_det(a, n), out),
-        _ => entered(solvers::mahalanobis_distance_squared(a, b, c, n), out),
+        _ => written(regularize::tikhonov(a, x, n, out)),
     }
 }

@@ -5,6 +5,8 @@
 mod calls;
 mod comparison;
 mod iterating;
+mod names;
+mod solving;
 mod spectral;
 
 use kernel::bytes;
@@ -14,8 +16,11 @@ const HEAD: usize = 11;
 // The most entries of a slice, one of a wrong length included.
 const ENTRIES: usize = 272;
 
-// Those from SPECTRAL on rotate, then comes the comparison of two tracks, and those from ITERATING on iterate.
+// Those before SOLVING are linalg's. Those from SPECTRAL on rotate, then comes the comparison of two tracks, and those from
+// ITERATING on iterate.
 const CALLS: usize = 30;
+
+const SOLVING: usize = 14;
 
 const SPECTRAL: usize = 22;
 
@@ -61,14 +66,26 @@ fn load(s: &[u8]) -> [f64; ENTRIES] {
     a
 }
 
-// Whether the entries of out are those at the start of s.
-fn agrees(s: &[u8], out: &[f64]) -> bool {
-    for i in 0..out.len() {
-        if !replay::is_same(out[i], number(s, i)) {
-            return false;
-        }
+// The number that the call of the record s answers, with these slices.
+fn answer(s: &[u8], call: usize, a: &[f64], b: &[f64], c: &[f64], out: &mut [f64]) -> u64 {
+    let m = number(s, 2) as usize;
+    let k = number(s, 3) as usize;
+    let n = number(s, 4) as usize;
+    let x = replay::double(number(s, 5));
+    if ITERATING <= call {
+        let rounds = (number(s, 3) % 0x1_0000_0000) as u32;
+        return iterating::answer(call, rounds, n, x, a, out);
     }
-    true
+    if call == COMPARISON {
+        return comparison::compared(a, b, c, n, x, out);
+    }
+    if SPECTRAL <= call {
+        return spectral::answer(call, n, x, a, out);
+    }
+    if SOLVING <= call {
+        return solving::answer(call, a, b, c, n, out);
+    }
+    calls::answer(call, m, k, n, x, a, b, c, out)
 }
 
 // Whether the record s is answered as it says, with these slices; after is what it says of out after the call.
@@ -81,22 +98,7 @@ fn is_met(
     out: &mut [f64],
     after: &[u8],
 ) -> bool {
-    let m = number(s, 2) as usize;
-    let k = number(s, 3) as usize;
-    let n = number(s, 4) as usize;
-    let x = replay::double(number(s, 5));
-    let told = number(s, 10);
-    if ITERATING <= call {
-        let rounds = (number(s, 3) % 0x1_0000_0000) as u32;
-        return iterating::answer(call, rounds, n, x, a, out) == told && agrees(after, out);
-    }
-    if call == COMPARISON {
-        return comparison::compared(a, b, c, n, x, out) == told && agrees(after, out);
-    }
-    if SPECTRAL <= call {
-        return spectral::answer(call, n, x, a, out) == told && agrees(after, out);
-    }
-    calls::answer(call, m, k, n, x, a, b, c, out) == told && agrees(after, out)
+    answer(s, call, a, b, c, out) == number(s, 10) && replay::are_same(out, after)
 }
 
 // The same with the slices out of the record.
@@ -176,45 +178,9 @@ fn replay_input(cases: &mut [u64; CALLS], differences: &mut [u64; CALLS]) {
     }
 }
 
-// Writes the name of a call, and answers whether it could.
-fn print_name(call: usize) -> bool {
-    match call {
-        0 => io::write_all(1, b"mat_mul "),
-        1 => io::write_all(1, b"mat_transpose "),
-        2 => io::write_all(1, b"mat_ata "),
-        3 => io::write_all(1, b"mat_frobenius "),
-        4 => io::write_all(1, b"mat_symmetrize "),
-        5 => io::write_all(1, b"mat_trace "),
-        6 => io::write_all(1, b"mat_trace_product "),
-        7 => io::write_all(1, b"mat_trace_cube "),
-        8 => io::write_all(1, b"mat_vec_mul "),
-        9 => io::write_all(1, b"mat_quadratic_form "),
-        10 => io::write_all(1, b"vec_norm "),
-        11 => io::write_all(1, b"mahalanobis_distance_squared_with_inv "),
-        12 => io::write_all(1, b"mat_cholesky "),
-        13 => io::write_all(1, b"tikhonov "),
-        14 => io::write_all(1, b"mat3_det "),
-        15 => io::write_all(1, b"mat3_inv "),
-        16 => io::write_all(1, b"mat3_solve "),
-        17 => io::write_all(1, b"row_inf_norms "),
-        18 => io::write_all(1, b"mat_solve "),
-        19 => io::write_all(1, b"mat_inv "),
-        20 => io::write_all(1, b"mat_det "),
-        21 => io::write_all(1, b"mahalanobis_distance_squared "),
-        22 => io::write_all(1, b"mat_symmetric_eigen "),
-        23 => io::write_all(1, b"nearest_psd "),
-        24 => io::write_all(1, b"eigenvalue_floor "),
-        25 => io::write_all(1, b"compare "),
-        26 => io::write_all(1, b"mat_eigenvector_max "),
-        27 => io::write_all(1, b"mat_largest_singular_value "),
-        28 => io::write_all(1, b"condition_number "),
-        _ => io::write_all(1, b"tikhonov_with_report "),
-    }
-}
-
 fn print_calls(cases: [u64; CALLS], differences: [u64; CALLS]) {
     for call in 0..CALLS {
-        print_name(call);
+        names::print_name(call);
         io::print_decimal(1, cases[call]);
         io::write_all(1, b" cases ");
         io::print_decimal(1, differences[call]);

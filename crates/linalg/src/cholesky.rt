@@ -1,11 +1,12 @@
 // The Cholesky factor, made row by row in a slice that starts out as +0.0 throughout.
 ghost use mathlib.Core.Path.{_≡_};
 ghost use mathlib.Core.Bool.{true, false};
-ghost use Prim.Native.Nat.{_+_, _*_, _<_, _≤_};
+ghost use Prim.Native.Nat.{_+_, _*_, _≤_};
 ghost use lib.ListN.{length, replicate};
 ghost use Rattle.kernel.specs.Constants.{nought};
 ghost use Rattle.dense.specs.Fill.{Padded};
 ghost use Rattle.linalg.specs.Cholesky.{isPivot, inner, withLeft, reachedPivot, factor, definite};
+ghost use Rattle.linalg.specs.Room.{Factoring, Reaches};
 use dense::shape::entry;
 use dense::shape::part;
 use dense::vector::copy;
@@ -32,7 +33,7 @@ fn inner(l: &[f64], n: usize, i: usize, j: usize) -> f64
 
 // Makes the entries of row i left of the diagonal.
 fn left_entries(a: &[f64], n: usize, i: usize, l: &mut [f64])
-    requires { ⌜ (i < n) × (length (now a) ≡ n * n) × (length (now l) ≡ n * n) × Padded (factor (now a) n i) (now l) ⌝ }
+    requires { ⌜ Factoring (now a) n i (now l) ⌝ }
     ensures { λ _. ⌜ Padded (withLeft (now (a .entry)) n (factor (now (a .entry)) n i) i i) (now (l .exit)) ⌝ }
 {
     for j in 0..i {
@@ -42,8 +43,8 @@ fn left_entries(a: &[f64], n: usize, i: usize, l: &mut [f64])
 
 // Makes row i where its pivot is met, and says whether it is.
 fn factor_row(a: &[f64], n: usize, i: usize, l: &mut [f64]) -> bool
-    requires { ⌜ (i < n) × (length (now a) ≡ n * n) × (length (now l) ≡ n * n) × Padded (factor (now a) n i) (now l) ⌝ }
-    ensures { λ r. ⌜ (r ≡ isPivot (reachedPivot (now (a .entry)) n (withLeft (now (a .entry)) n (factor (now (a .entry)) n i) i i) i)) × (r ≡ true → Padded (factor (now (a .entry)) n (i + 1)) (now (l .exit))) ⌝ }
+    requires { ⌜ Factoring (now a) n i (now l) ⌝ }
+    ensures { λ r. ⌜ Reaches (isPivot (reachedPivot (now (a .entry)) n (withLeft (now (a .entry)) n (factor (now (a .entry)) n i) i i) i)) r (Padded (factor (now (a .entry)) n (i + 1)) (now (l .exit))) ⌝ }
 {
     left_entries(a, n, i, l);
     let d = entry(a, n, i, i) - inner(l, n, i, i);
@@ -57,7 +58,7 @@ fn factor_row(a: &[f64], n: usize, i: usize, l: &mut [f64]) -> bool
 // Makes the factor of a, n by n, where all pivots are met, and says whether they are.
 fn factor_rows(a: &[f64], n: usize, l: &mut [f64]) -> bool
     requires { ⌜ (length (now a) ≡ n * n) × (now l ≡ replicate (n * n) nought) ⌝ }
-    ensures { λ r. ⌜ (r ≡ definite (now (a .entry)) n n) × (r ≡ true → now (l .exit) ≡ factor (now (a .entry)) n n) ⌝ }
+    ensures { λ r. ⌜ Reaches (definite (now (a .entry)) n n) r (now (l .exit) ≡ factor (now (a .entry)) n n) ⌝ }
 {
     for i in 0..n {
         if !factor_row(a, n, i, l) {

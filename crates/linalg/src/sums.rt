@@ -7,6 +7,7 @@ ghost use Rattle.kernel.specs.Constants.{nought};
 ghost use Rattle.dense.specs.Matrix.{nth, at, total, sumFrom, sumRowsFrom, matrix};
 ghost use Rattle.linalg.specs.Products.{productEntry};
 ghost use Rattle.linalg.specs.Sums.{traceCube, quadraticForm, difference};
+ghost use Rattle.linalg.specs.Room.{Cell};
 use crate::product::product;
 use crate::vector::subtract;
 use dense::shape::entry;
@@ -73,7 +74,7 @@ pub(crate) fn quadratic_form(x: &[f64], a: &[f64], n: usize) -> f64
 
 // Adds the terms of m_ij to the trace of the cube of m, n by n.
 fn cube_cell(start: f64, m: &[f64], n: usize, i: usize, j: usize) -> f64
-    requires { ⌜ (i < n) × (j < n) × (length (now m) ≡ n * n) ⌝ }
+    requires { ⌜ Cell n i j (now m) ⌝ }
     ensures { λ r. ⌜ r ≡ sumFrom start n (λ k. mul (mul (at (now (m .entry)) n i j) (at (now (m .entry)) n j k)) (at (now (m .entry)) n k i)) ⌝ }
 {
     let mut s = start;

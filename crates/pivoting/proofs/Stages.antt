@@ -1,5 +1,6 @@
 -- Laws of the elimination. `stepped` and `columned`: a step and a column from their parts. `Columns`: k of n columns are reduced, each with a pivot;
 -- `columns-more` reduces one more, `columns-never` is refused, and `columns-all` says it of the end. `SameLengths`: what is lent keeps its lengths.
+-- `Eliminating`: both, as a loop over the columns holds them; `eliminating-none` begins it.
 use Prim.Native.Nat.{ℕ, zero, suc, _+_, _-_, _<_, _≤_}
 use native.Mathlib.Omega.{arith}
 use native.Mathlib.Numerals.{add-one}
@@ -7,7 +8,7 @@ use native.Mathlib.Nat.{add-suc, add-zero, le-antisymm}
 use native.Mathlib.Decide.{ℕ-discrete}
 use mathlib.Core.Bool.{Bool, true, false, cond}
 use mathlib.Core.List.{List}
-use mathlib.Core.Path.{_≡_, sym, ap, _∙_}
+use mathlib.Core.Path.{_≡_, refl, sym, ap, _∙_}
 use borrow.Author.Tests.{eq-eqb, ne-eqb}
 use lib.Dec.{eqb}
 use lib.Ieee.{Float}
@@ -86,3 +87,12 @@ pub record SameLengths (m₀ s₀ x₀ m s x : List Float) : Type 0 where
 pub lengths-kept : {m₀ s₀ x₀ m s x m₁ s₁ x₁ : List Float} → SameLengths m₀ s₀ x₀ m s x → length m₁ ≡ length m → length s₁ ≡ length s → length x₁ ≡ length x
     → SameLengths m₀ s₀ x₀ m₁ s₁ x₁
 lengths-kept l e f g = record { rows = e ∙ l .rows; norms = f ∙ l .norms; row = g ∙ l .row }
+
+-- what a loop over the columns holds: the first k are reduced, and what is lent is as long as it was
+pub record Eliminating (n w : ℕ) (f : ℕ → Stage) (k : ℕ) (m₀ s₀ x₀ m s x : List Float) : Type 0 where
+  pub columns : Columns n w f k m s
+  pub lengths : SameLengths m₀ s₀ x₀ m s x
+
+pub eliminating-none : {n w : ℕ} {f : ℕ → Stage} {m s x : List Float} → stage m s ≡ f 0 → Eliminating n w f 0 m s x m s x
+unfolding pivoted
+eliminating-none e = record { columns = record { turns = omega arith; pivots = refl; here = e }; lengths = record { rows = refl; norms = refl; row = refl } }

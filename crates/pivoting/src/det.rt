@@ -8,6 +8,7 @@ ghost use Rattle.dense.specs.Matrix.{nth, at, matrix};
 ghost use Rattle.kernel.specs.Lists.{tabulate};
 ghost use Rattle.pivoting.specs.Pivot.{stage};
 ghost use Rattle.pivoting.specs.Det.{lessEntry, loweredEntry, lowerEntry, flipped, lowered, determinant, product};
+ghost use Rattle.pivoting.specs.Room.{TwoRows, Clearing, PivotRow, Elimination};
 use crate::choice::choose;
 use crate::choice::is_taken;
 use crate::choice::swap_norms;
@@ -29,7 +30,7 @@ fn row_of(m: &[f64], n: usize, p: usize, y: &mut [f64])
 
 // Takes from y, right of column k, its entry in column k over that of x, times x.
 fn lower_entries(x: &[f64], n: usize, k: usize, y: &mut [f64])
-    requires { ⌜ (k < n) × (length (now x) ≡ n) × (length (now y) ≡ n) ⌝ }
+    requires { ⌜ TwoRows n k (now x) (now y) ⌝ }
     ensures { λ _. ⌜ now (y .exit) ≡ tabulate n (lessEntry (nth (now (x .entry))) (nth (now (y .entry))) k) ⌝ }
 {
     let factor = y[k] / x[k];
@@ -40,7 +41,7 @@ fn lower_entries(x: &[f64], n: usize, k: usize, y: &mut [f64])
 
 // Row i, from row k on, of a step in column k, from y: the pivot row x where i is k, else y less its part of x.
 fn lower_row(x: &[f64], n: usize, k: usize, i: usize, y: &mut [f64])
-    requires { ⌜ (k < n) × (length (now x) ≡ n) × (length (now y) ≡ n) ⌝ }
+    requires { ⌜ TwoRows n k (now x) (now y) ⌝ }
     ensures { λ _. ⌜ now (y .exit) ≡ tabulate n (loweredEntry (nth (now (x .entry))) (nth (now (y .entry))) k i) ⌝ }
 {
     if i == k {
@@ -52,7 +53,7 @@ fn lower_row(x: &[f64], n: usize, k: usize, i: usize, y: &mut [f64])
 
 // Row k of m, n by n, becomes x, and every row below it loses its part of x.
 fn lower_rows(x: &[f64], m: &mut [f64], n: usize, k: usize)
-    requires { ⌜ (k < n) × (length (now x) ≡ n) × (length (now m) ≡ n * n) ⌝ }
+    requires { ⌜ Clearing n n k (now x) (now m) ⌝ }
     ensures { λ _. ⌜ now (m .exit) ≡ matrix n n (λ i j. cond (ltb i k) (at (now (m .entry)) n i j) (loweredEntry (nth (now (x .entry))) (at (now (m .entry)) n i) k i j)) ⌝ }
 {
     for i in k..n {
@@ -63,7 +64,7 @@ fn lower_rows(x: &[f64], m: &mut [f64], n: usize, k: usize)
 
 // The step in column k of m, n by n, with its pivot in row p; x takes the pivot row.
 fn lower(m: &mut [f64], x: &mut [f64], n: usize, k: usize, p: usize)
-    requires { ⌜ (k < n) × (p < n) × (length (now m) ≡ n * n) × (length (now x) ≡ n) ⌝ }
+    requires { ⌜ PivotRow n n p k (now m) (now x) ⌝ }
     ensures { λ _. ⌜ now (m .exit) ≡ matrix n n (lowerEntry (now (m .entry)) n k p) ⌝ }
 {
     row_of(m, n, p, x);
@@ -84,7 +85,7 @@ fn flipped(s: f64, k: usize, p: usize) -> f64
 // Question 6 in each column of m, n by n, with norms s, and then the product of the pivots with its sign; 0.0 where it is
 // not met. x is room for a row.
 fn product(m: &mut [f64], s: &mut [f64], x: &mut [f64], n: usize) -> f64
-    requires { ⌜ (length (now m) ≡ n * n) × (length (now s) ≡ n) × (length (now x) ≡ n) ⌝ }
+    requires { ⌜ Elimination n n (now m) (now s) (now x) ⌝ }
     ensures { λ r. ⌜ r ≡ product n (lowered n (stage (now (m .entry)) (now (s .entry)))) ⌝ }
 {
     let mut sign = 1.0;

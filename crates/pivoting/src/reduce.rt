@@ -1,11 +1,11 @@
 // Gauss–Jordan elimination in place.
 ghost use mathlib.Core.Path.{_≡_};
-ghost use mathlib.Core.Bool.{true};
-ghost use Prim.Native.Nat.{_*_, _<_, _≤_};
-ghost use lib.ListN.{length};
+ghost use Prim.Native.Nat.{_<_, _≤_};
 ghost use Rattle.dense.specs.Matrix.{nth, at, matrix};
 ghost use Rattle.pivoting.specs.Pivot.{pivot, taken, stage, pivoted};
 ghost use Rattle.pivoting.specs.Solve.{clearedEntry, stepEntry, column, reduced};
+ghost use Rattle.linalg.specs.Room.{Reaches};
+ghost use Rattle.pivoting.specs.Room.{Clearing, PivotRow, Elimination, Column};
 use crate::choice::choose;
 use crate::choice::is_taken;
 use crate::choice::swap_norms;
@@ -15,7 +15,7 @@ use crate::rows::reduce_row;
 
 // Row k of m, n by w, becomes x, and every other row loses its entry in column k times x.
 fn reduce_rows(x: &[f64], m: &mut [f64], n: usize, w: usize, k: usize)
-    requires { ⌜ (k < w) × (length (now x) ≡ w) × (length (now m) ≡ n * w) ⌝ }
+    requires { ⌜ Clearing n w k (now x) (now m) ⌝ }
     ensures { λ _. ⌜ now (m .exit) ≡ matrix n w (λ i. clearedEntry (nth (now (x .entry))) (at (now (m .entry)) w i) k i) ⌝ }
 {
     for i in 0..n {
@@ -26,7 +26,7 @@ fn reduce_rows(x: &[f64], m: &mut [f64], n: usize, w: usize, k: usize)
 
 // The step in column k of m, n by w, with its pivot in row p; x takes the divided pivot row.
 fn step(m: &mut [f64], x: &mut [f64], n: usize, w: usize, k: usize, p: usize)
-    requires { ⌜ (k < n) × (k < w) × (p < n) × (length (now m) ≡ n * w) × (length (now x) ≡ w) ⌝ }
+    requires { ⌜ (k < n) × PivotRow n w p k (now m) (now x) ⌝ }
     ensures { λ _. ⌜ now (m .exit) ≡ matrix n w (stepEntry (now (m .entry)) w k p) ⌝ }
 {
     divided_row(m, n, w, p, k, x);
@@ -36,8 +36,8 @@ fn step(m: &mut [f64], x: &mut [f64], n: usize, w: usize, k: usize, p: usize)
 
 // Question 6 in column k of m, n by w, with norms s; where it is met the column is reduced. x is room for a row.
 fn reduce_column(m: &mut [f64], s: &mut [f64], x: &mut [f64], n: usize, w: usize, k: usize) -> bool
-    requires { ⌜ (k < n) × (k < w) × (length (now m) ≡ n * w) × (length (now s) ≡ n) × (length (now x) ≡ w) ⌝ }
-    ensures { λ r. ⌜ (r ≡ taken (pivot (now (m .entry)) (now (s .entry)) n w k)) × (r ≡ true → stage (now (m .exit)) (now (s .exit)) ≡ column n w k (stage (now (m .entry)) (now (s .entry)))) ⌝ }
+    requires { ⌜ Column n w k (now m) (now s) (now x) ⌝ }
+    ensures { λ r. ⌜ Reaches (taken (pivot (now (m .entry)) (now (s .entry)) n w k)) r (stage (now (m .exit)) (now (s .exit)) ≡ column n w k (stage (now (m .entry)) (now (s .entry)))) ⌝ }
 {
     let best = choose(m, s, n, w, k);
     if !is_taken(best) {
@@ -51,8 +51,8 @@ fn reduce_column(m: &mut [f64], s: &mut [f64], x: &mut [f64], n: usize, w: usize
 
 // Question 6 in the first n columns of m, n by w, with norms s; where it is met all are reduced. x is room for a row.
 pub(crate) fn reduce(m: &mut [f64], s: &mut [f64], x: &mut [f64], n: usize, w: usize) -> bool
-    requires { ⌜ (n ≤ w) × (length (now m) ≡ n * w) × (length (now s) ≡ n) × (length (now x) ≡ w) ⌝ }
-    ensures { λ r. ⌜ (r ≡ pivoted n w (reduced n w (stage (now (m .entry)) (now (s .entry)))) n) × (r ≡ true → stage (now (m .exit)) (now (s .exit)) ≡ reduced n w (stage (now (m .entry)) (now (s .entry))) n) ⌝ }
+    requires { ⌜ (n ≤ w) × Elimination n w (now m) (now s) (now x) ⌝ }
+    ensures { λ r. ⌜ Reaches (pivoted n w (reduced n w (stage (now (m .entry)) (now (s .entry)))) n) r (stage (now (m .exit)) (now (s .exit)) ≡ reduced n w (stage (now (m .entry)) (now (s .entry))) n) ⌝ }
 {
     for k in 0..n {
         if !reduce_column(m, s, x, n, w, k) {

@@ -8,6 +8,7 @@ ghost use Rattle.kernel.specs.Number.{sub, mul};
 ghost use Rattle.dense.specs.Matrix.{nth, at, matrix};
 ghost use Rattle.kernel.specs.Lists.{tabulate};
 ghost use Rattle.pivoting.specs.Solve.{dividedEntry, clearedEntry};
+ghost use Rattle.pivoting.specs.Room.{TwoRows, PivotRow};
 use dense::shape::entry;
 use dense::vector::copy;
 
@@ -23,7 +24,7 @@ fn subtract_scaled(s: f64, x: &[f64], n: usize, y: &mut [f64])
 
 // Row i of a Gauss–Jordan step in column k, from y: the divided pivot row x where i is k, else y less its entry in column k times x.
 pub(crate) fn reduce_row(x: &[f64], w: usize, k: usize, i: usize, y: &mut [f64])
-    requires { ⌜ (k < w) × (length (now x) ≡ w) × (length (now y) ≡ w) ⌝ }
+    requires { ⌜ TwoRows w k (now x) (now y) ⌝ }
     ensures { λ _. ⌜ now (y .exit) ≡ tabulate w (clearedEntry (nth (now (x .entry))) (nth (now (y .entry))) k i) ⌝ }
 {
     if i == k {
@@ -36,7 +37,7 @@ pub(crate) fn reduce_row(x: &[f64], w: usize, k: usize, i: usize, y: &mut [f64])
 
 // Writes row p of m, n by w, divided by its entry in column k.
 pub(crate) fn divided_row(m: &[f64], n: usize, w: usize, p: usize, k: usize, y: &mut [f64])
-    requires { ⌜ (p < n) × (k < w) × (length (now m) ≡ n * w) × (length (now y) ≡ w) ⌝ }
+    requires { ⌜ PivotRow n w p k (now m) (now y) ⌝ }
     ensures { λ _. ⌜ now (y .exit) ≡ tabulate w (dividedEntry (now (m .entry)) w p k) ⌝ }
 {
     let d = entry(m, w, p, k);

@@ -6,6 +6,7 @@ ghost use Rattle.kernel.specs.Lists.{tabulate};
 ghost use Rattle.dense.specs.Answer.{Leaves};
 ghost use Rattle.dense.specs.Matrix.{at, matrix};
 ghost use Rattle.pivoting.specs.Solve.{augmentedEntry, augmented, solved};
+ghost use Rattle.pivoting.specs.Room.{System, SystemIn, SystemTo};
 use crate::norms::row_norms;
 use crate::norms::some_scale;
 use crate::reduce::reduce;
@@ -80,7 +81,7 @@ fn solve_in(
     x: &mut [f64],
     out: &mut [f64],
 ) -> Written
-    requires { ⌜ (w ≡ n + r) × (length (now a) ≡ n * n) × (length (now b) ≡ n * r) × (length (now m) ≡ n * w) × (length (now s) ≡ n) × (length (now x) ≡ w) × (length (now out) ≡ n * r) ⌝ }
+    requires { ⌜ SystemIn n r w (now a) (now b) (now m) (now s) (now x) (now out) ⌝ }
     ensures { λ q. ⌜ Leaves (solved (now (a .entry)) (now (b .entry)) n r) (now (out .entry)) q (now (out .exit)) ⌝ }
 {
     row_norms(a, n, s);
@@ -97,7 +98,7 @@ fn solve_in(
 
 // The same with room for orders to 4.
 fn small_solve(a: &[f64], b: &[f64], n: usize, r: usize, out: &mut [f64]) -> Written
-    requires { ⌜ (n ≤ 4) × (r ≤ 4) × (length (now a) ≡ n * n) × (length (now b) ≡ n * r) × (length (now out) ≡ n * r) ⌝ }
+    requires { ⌜ SystemTo 4 n r (now a) (now b) (now out) ⌝ }
     ensures { λ q. ⌜ Leaves (solved (now (a .entry)) (now (b .entry)) n r) (now (out .entry)) q (now (out .exit)) ⌝ }
 {
     let mut m = [0.0f64; 32];
@@ -110,7 +111,7 @@ fn small_solve(a: &[f64], b: &[f64], n: usize, r: usize, out: &mut [f64]) -> Wri
 
 // The same with room for orders to 16.
 fn large_solve(a: &[f64], b: &[f64], n: usize, r: usize, out: &mut [f64]) -> Written
-    requires { ⌜ (n ≤ 16) × (r ≤ 16) × (length (now a) ≡ n * n) × (length (now b) ≡ n * r) × (length (now out) ≡ n * r) ⌝ }
+    requires { ⌜ SystemTo 16 n r (now a) (now b) (now out) ⌝ }
     ensures { λ q. ⌜ Leaves (solved (now (a .entry)) (now (b .entry)) n r) (now (out .entry)) q (now (out .exit)) ⌝ }
 {
     let mut m = [0.0f64; 512];
@@ -123,7 +124,7 @@ fn large_solve(a: &[f64], b: &[f64], n: usize, r: usize, out: &mut [f64]) -> Wri
 
 // The same with the room that the order needs.
 pub(crate) fn solve(a: &[f64], b: &[f64], n: usize, r: usize, out: &mut [f64]) -> Written
-    requires { ⌜ (n ≤ 16) × (r ≤ n) × (length (now a) ≡ n * n) × (length (now b) ≡ n * r) × (length (now out) ≡ n * r) ⌝ }
+    requires { ⌜ (n ≤ 16) × (r ≤ n) × System n r (now a) (now b) (now out) ⌝ }
     ensures { λ q. ⌜ Leaves (solved (now (a .entry)) (now (b .entry)) n r) (now (out .entry)) q (now (out .exit)) ⌝ }
 {
     if n <= 4 {

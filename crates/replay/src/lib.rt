@@ -2,7 +2,8 @@
 ghost use mathlib.Core.Path.{_≡_};
 ghost use Prim.Native.Nat.{_+_, _%_, _^_};
 ghost use lib.Ieee.{binary64, ofBits};
-ghost use Rattle.replay.specs.Replay.{same};
+ghost use Rattle.replay.specs.Replay.{same, allSame};
+use kernel::bytes;
 use kernel::constants;
 
 // The double with the bit pattern p; of a NaN's pattern, a NaN.
@@ -23,6 +24,23 @@ pub fn is_same(x: f64, p: u64) -> bool
         return constants::INFINITY_BITS < p % constants::SIGN_BIT;
     }
     f64::to_bits(x) == p
+}
+
+// Whether every value is the double whose bit pattern stands at its place in s, eight bytes to each, low byte first.
+pub fn are_same(values: &[f64], s: &[u8]) -> bool
+    ensures { λ r. ⌜ r ≡ allSame (now (values .entry)) (now (s .entry)) ⌝ }
+{
+    let mut at = 0;
+    for i in 0..values.len() {
+        if s.len() - at < 8 {
+            return false;
+        }
+        if !is_same(values[i], bytes::word(s, at)) {
+            return false;
+        }
+        at += 8;
+    }
+    true
 }
 
 // One more than n; after the largest number, 0.

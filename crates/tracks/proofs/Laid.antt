@@ -1,7 +1,9 @@
 -- A slice into which parts are laid one after another, from a start on. `Laid`: the parts so far are in it, and end at a place. `laid-none` begins it, `laid-room`
 -- says that the next part fits, `laid-more` lays a part that a call writes, `laid-set` one element that is stored, and `laid-all` says what there is at the end.
+-- `Laying`: what a loop holds that has laid k of n parts; `laying-all` says what there is after all turns.
 use Prim.Native.Nat.{ℕ, _+_, _≤_}
 use native.Mathlib.Omega.{arith}
+use native.Mathlib.Nat.{le-antisymm}
 use mathlib.Core.Path.{_≡_, refl, sym, ap, _∙_}
 use mathlib.Core.List.{List, [], _∷_, _++_}
 use lib.ListN.{length, set, length-append}
@@ -38,3 +40,12 @@ module _ {A : Type 0} {old : List A} {start : ℕ} {done : List A} {at : ℕ} {n
 
   pub laid-all : {all : List A} → done ≡ all → (at ≡ start + length all) × (new ≡ over old start all)
   laid-all e = (w .end ∙ ap (λ (l : List A). start + length l) e, w .same ∙ ap (over old start) e)
+
+-- k of n turns are made, and new is old with what those turns write
+pub record Laying {A : Type 0} (old : List A) (start : ℕ) (parts : ℕ → List A) (n k at : ℕ) (new : List A) : Type 0 where
+  pub turns : k ≤ n
+  pub laid : Laid old start (parts k) at new
+
+pub laying-all : {A : Type 0} {old : List A} {start : ℕ} {parts : ℕ → List A} {n k at : ℕ} {new : List A} → Laying old start parts n k at new → n ≤ k
+    → (at ≡ start + length (parts n)) × (new ≡ over old start (parts n))
+laying-all {parts = parts} w h = laid-all (w .laid) (ap parts (le-antisymm (w .turns) h))

@@ -3,6 +3,7 @@ pub mod Accepted
 pub mod Known
 pub mod Lists
 pub mod Laid
+pub mod Putting
 pub mod Written
 pub mod Stream
 pub mod Bits

@@ -1,14 +1,15 @@
 -- The words of the private functions' contracts: no caller needs them.
-use Prim.Native.Nat.{ℕ, _+_, _≤_}
+use Prim.Native.Nat.{ℕ, _+_, _*_, _/_, _≤_, _<_}
 use mathlib.Core.Path.{_≡_}
 use mathlib.Core.List.{List}
 use lib.ListN.{length}
 use lib.Ieee.{Float}
 use Rattle.kernel.specs.Answer.{Outcome, refused, answered}
 use Rattle.kernel.specs.Lists.{over, tabulate}
-use Rattle.tracks.specs.Read.{Item, TrackList, contents}
+use Rattle.tracks.specs.Read.{Item, TrackList, field, track, tracks, contents}
 use Rattle.tracks.specs.Record.{offset}
-use Rattle.tracks.specs.Calls.{doubles}
+use Rattle.tracks.specs.Write.{recordsOf, tracksOf}
+use Rattle.tracks.specs.Calls.{doubles, patterns}
 use Rattle.tracks.specs.declared.read.Checked.{Checked}
 use Rattle.tracks.specs.declared.read.Checked.the-variants.{End, Refused}
 
@@ -46,3 +47,37 @@ Writes bytes old at next new = (next ≡ at + length bytes) × (new ≡ over old
 -- That a slice which held old numbers holds the offsets of an accepted list in front. A list that is refused leaves anything there.
 abbrev pub Offsets : List ℕ → List ℕ → List ℕ → Type 0
 Offsets l old new = (c : TrackList) → contents l ≡ answered c → new ≡ over old 0 (tabulate (length (c .tracks) + 1) (offset l))
+
+-- ---- what is asked, part by part
+
+-- that f fields are a track's at most, and that a list has its two first bytes and n tracks' offsets have room, with the end of the last one
+pub record TracksChecked (list : List ℕ) (f n : ℕ) (offsets : List ℕ) : Type 0 where
+  pub small : f ≤ 64
+  pub head : 2 ≤ length list
+  pub room : n < length offsets
+
+-- that the byte which tells of field k is there, room for the field at i, and that it is accepted
+pub record FieldPut (list : List ℕ) (map k at : ℕ) (values : List Float) (i : ℕ) : Type 0 where
+  pub told : map + k / 8 < length list
+  pub room : i < length values
+  pub accepted : Accepted (field list map k at)
+
+-- room for the f fields of a track from i on, and that the track is accepted
+pub record TrackPut (list : List ℕ) (f map : ℕ) (values : List Float) (i : ℕ) : Type 0 where
+  pub small : f ≤ 64
+  pub room : i + f ≤ length values
+  pub accepted : Accepted (track list f map)
+
+-- room for the fields of n tracks, and that these are accepted
+pub record TracksPut (list : List ℕ) (f n : ℕ) (values : List Float) : Type 0 where
+  pub small : f ≤ 64
+  pub few : n ≤ 32
+  pub room : n * f ≤ length values
+  pub accepted : Accepted (tracks list f n)
+
+-- the values of n tracks, and room for their records
+pub record TracksWritten (values : List Float) (f n : ℕ) (out : List ℕ) : Type 0 where
+  pub small : f ≤ 64
+  pub few : n ≤ 32
+  pub long : length values ≡ n * f
+  pub room : 2 + length (recordsOf (tracksOf n f (patterns values))) ≤ length out

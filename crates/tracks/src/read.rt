@@ -1,6 +1,6 @@
 // Reading a list. Every question is put before anything is written.
 ghost use mathlib.Core.Path.{_≡_};
-ghost use Prim.Native.Nat.{_+_, _*_, _/_, _<_, _≤_};
+ghost use Prim.Native.Nat.{_+_, _/_, _<_, _≤_};
 ghost use mathlib.Core.List.{[], _∷_};
 ghost use lib.ListN.{length, take};
 ghost use Rattle.kernel.specs.Lists.{over, tabulate};
@@ -8,7 +8,7 @@ ghost use Rattle.tracks.specs.Layout.{mapBytes};
 ghost use Rattle.tracks.specs.Read.{stored, field, items, track, tracks, contents, reading};
 ghost use Rattle.tracks.specs.Calls.{joined, readAnswer, readValues, readWithOffsets};
 ghost use Rattle.tracks.specs.Record.{endOf};
-ghost use Rattle.tracks.specs.Steps.{ends, continued, checkedEnd, Within, Accepted, Puts, Offsets};
+ghost use Rattle.tracks.specs.Steps.{ends, continued, checkedEnd, Within, Puts, Offsets, TracksChecked, FieldPut, TrackPut, TracksPut};
 use crate::layout;
 use kernel::bytes;
 use kernel::question;
@@ -112,7 +112,7 @@ fn end_of(c: Checked) -> usize
 
 // The questions of the first n tracks of f fields. Where each track starts is stored, and where the last one ends.
 fn check_tracks(list: &[u8], f: usize, n: usize, offsets: &mut [usize]) -> Checked
-    requires { ⌜ (f ≤ 64) × (2 ≤ length (now list)) × (n < length (now offsets)) ⌝ }
+    requires { ⌜ TracksChecked (now list) f n (now offsets) ⌝ }
     ensures { λ r. ⌜ r ≡ ends (tracks (now (list .entry)) f n) ⌝ }
     ensures { λ _. ⌜ now (offsets .exit) ≡ over (now (offsets .entry)) 0 (tabulate (n + 1) (λ j. endOf (tracks (now (list .entry)) f j))) ⌝ }
 {
@@ -168,7 +168,7 @@ pub(crate) fn check_list(list: &[u8]) -> ReadList
 
 // Stores field k of an accepted track at an index of the values, and gives the offset after the field.
 fn put_field(list: &[u8], map: usize, k: usize, at: usize, values: &mut [f64], i: usize) -> usize
-    requires { ⌜ (map + k / 8 < length (now list)) × (i < length (now values)) × Accepted (field (now list) map k at) ⌝ }
+    requires { ⌜ FieldPut (now list) map k at (now values) i ⌝ }
     ensures { λ r. ⌜ Puts (λ x. x ∷ []) (field (now (list .entry)) map k at) (now (values .entry)) i r (now (values .exit)) ⌝ }
 {
     if layout::stands(list, map, k) {
@@ -181,7 +181,7 @@ fn put_field(list: &[u8], map: usize, k: usize, at: usize, values: &mut [f64], i
 
 // Stores the f fields of an accepted track from an index of the values on, and gives the offset after the track.
 fn put_track(list: &[u8], f: usize, map: usize, values: &mut [f64], i: usize) -> usize
-    requires { ⌜ (f ≤ 64) × (i + f ≤ length (now values)) × Accepted (track (now list) f map) ⌝ }
+    requires { ⌜ TrackPut (now list) f map (now values) i ⌝ }
     ensures { λ r. ⌜ Puts (λ v. v) (track (now (list .entry)) f map) (now (values .entry)) i r (now (values .exit)) ⌝ }
 {
     let mut at = map + (f + 7) / 8;
@@ -193,7 +193,7 @@ fn put_track(list: &[u8], f: usize, map: usize, values: &mut [f64], i: usize) ->
 
 // Stores the fields of the first n tracks.
 fn put_tracks(list: &[u8], f: usize, n: usize, values: &mut [f64]) -> usize
-    requires { ⌜ (f ≤ 64) × (n ≤ 32) × (n * f ≤ length (now values)) × Accepted (tracks (now list) f n) ⌝ }
+    requires { ⌜ TracksPut (now list) f n (now values) ⌝ }
     ensures { λ r. ⌜ Puts joined (tracks (now (list .entry)) f n) (now (values .entry)) 0 r (now (values .exit)) ⌝ }
 {
     let mut at = 2;

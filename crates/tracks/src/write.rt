@@ -7,7 +7,7 @@ ghost use Rattle.kernel.specs.Lists.{over};
 ghost use Rattle.tracks.specs.Layout.{mapBytes};
 ghost use Rattle.tracks.specs.Write.{allFinite, nonzero, mapByte, mapOf, fieldBytes, storedBytes, recordOf, recordsOf, tracksOf, written};
 ghost use Rattle.tracks.specs.Calls.{patterns, writeAnswer, writeBytes};
-ghost use Rattle.tracks.specs.Steps.{Writes};
+ghost use Rattle.tracks.specs.Steps.{Writes, TracksWritten};
 use crate::layout;
 use kernel::question;
 
@@ -151,7 +151,7 @@ fn write_record(v: &[f64], out: &mut [u8], at: usize) -> usize
 
 // Writes n tracks of f fields, after the two bytes of count and dimension.
 fn write_tracks(v: &[f64], f: usize, n: usize, out: &mut [u8]) -> usize
-    requires { ⌜ (f ≤ 64) × (n ≤ 32) × (length (now v) ≡ n * f) × (2 + length (recordsOf (tracksOf n f (patterns (now v)))) ≤ length (now out)) ⌝ }
+    requires { ⌜ TracksWritten (now v) f n (now out) ⌝ }
     ensures { λ r. ⌜ Writes (recordsOf (tracksOf n f (patterns (now (v .entry))))) (now (out .entry)) 2 r (now (out .exit)) ⌝ }
 {
     let mut at = 2;

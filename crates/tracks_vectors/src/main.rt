@@ -59,19 +59,6 @@ fn whole(n: u64) -> usize
     ((n % 0x1_0000 + 7) / 8 * 8) as usize
 }
 
-// Whether the values are those at the start of s.
-fn holds_values(s: &[u8], values: &[f64]) -> bool {
-    for i in 0..values.len() {
-        if VALUES <= i {
-            return false;
-        }
-        if !replay::is_same(values[i], bytes::word(s, 8 * i)) {
-            return false;
-        }
-    }
-    true
-}
-
 // Whether a list is read into values as told, with this count and dimension, and leaves those values.
 fn is_read(
     list: &[u8],
@@ -97,7 +84,7 @@ fn is_read(
             }
         }
     }
-    holds_values(left, values)
+    replay::are_same(values, left)
 }
 
 // The values at the start of s, and past those that were meant, whatever follows.

@@ -24,10 +24,10 @@ made c = c .before .before .before .before .before .before
 
 -- row i lies within the slice
 within : (c : tie.After-left-entries) → entered c .args .i * entered c .args .n + entered c .args .n ≤ length (c .left-entries .last .1 .1 .1 .0)
-within c = let start = entered c in omega (arith, row-within (start .args .n) (start .args .n) (start .pre .0), c .left-entries .kept .1 .1 .1 .0)
+within c = let start = entered c in omega (arith, row-within (start .args .n) (start .args .n) (start .pre .row), c .left-entries .kept .1 .1 .1 .0)
 
 size : (c : tie.After-left-entries) → length (c .left-entries .last .1 .1 .1 .0) ≡ entered c .args .n * entered c .args .n
-size c = c .left-entries .kept .1 .1 .1 .0 ∙ entered c .pre .2
+size c = c .left-entries .kept .1 .1 .1 .0 ∙ entered c .pre .room
 
 -- what is tested is the pivot of row i
 pivot-of : (c : tie.After-is-pivot) → let x = entered (made c) .args in
@@ -35,28 +35,30 @@ pivot-of : (c : tie.After-is-pivot) → let x = entered (made c) .args in
 pivot-of c =
     let m = made c in
     let x = entered m .args in
-    pivot-in (x .a .now) (m .left-entries .last .1 .1 .1 .0) (x .n) (x .i) (size m) (entered m .pre .0) (c .before .before .before .entry .ensures)
+    pivot-in (x .a .now) (m .left-entries .last .1 .1 .1 .0) (x .n) (x .i) (size m) (entered m .pre .row) (c .before .before .before .entry .ensures)
     (c .before .inner .ensures) (m .left-entries .ensures)
 
 -- ---- the needs
 
 left-entries-requires : tie.Need-left-entries-requires
-left-entries-requires c κs = let start = c .before .before .before in (start .pre .0, start .pre .1, start .pre .2, start .pre .3)
+left-entries-requires c κs = c .before .before .before .pre
 
 entry-requires : tie.Need-entry-requires
-entry-requires c κs = let start = entered (c .before .before) in omega (arith, row-within (start .args .n) (start .args .n) (start .pre .0))
+entry-requires c κs = let start = entered (c .before .before) in omega (arith, row-within (start .args .n) (start .args .n) (start .pre .row))
 
 returns : tie.Need-returns
-returns c = (sym (ap isPivot (sym (pivot-of (c .before))) ∙ unmet (c .before .is-pivot .ensures) (c .if1 .taken)), λ e. never e)
+returns c = record { told = sym (ap isPivot (sym (pivot-of (c .before))) ∙ unmet (c .before .is-pivot .ensures) (c .if1 .taken)); reached = λ e. never e }
 
 returns-2 : tie.Need-returns-2
 returns-2 c =
     let tested = c .before .before in
     let m = made tested in
-    let x = entered m .args in (
-      sym (ap isPivot (sym (pivot-of tested)) ∙ met (tested .is-pivot .ensures) (c .before .if1 .left)),
-      λ _. row-more (x .a .now) (m .left-entries .last .1 .1 .1 .0) (x .n) (x .i) (size m) (entered m .pre .0) _ (c .sqrt .ensures ∙ ap sqrt (pivot-of tested)) (m .left-entries .ensures),
-    )
+    let x = entered m .args in
+    let l = m .left-entries .last .1 .1 .1 .0 in
+    record {
+      told = sym (ap isPivot (sym (pivot-of tested)) ∙ met (tested .is-pivot .ensures) (c .before .if1 .left));
+      reached = λ _. row-more (x .a .now) l (x .n) (x .i) (size m) (entered m .pre .row) _ (c .sqrt .ensures ∙ ap sqrt (pivot-of tested)) (m .left-entries .ensures);
+    }
 
 pub factor-row-spec : {M : Type 1} → statement M
 factor-row-spec =

@@ -20,13 +20,13 @@ unfolding sumFrom
 loop-holds c = turned-none refl
 
 entry-requires : tie.Need-entry-requires Inv-loop μ-loop
-entry-requires c κs = let start = c .before .before .before in inside (start .args .n) (start .pre .2) (start .pre .0) (start .pre .1)
+entry-requires c κs = let start = c .before .before .before in inside (start .args .n) (start .pre .matrix) (start .pre .row) (start .pre .column)
 
 entry-requires-2 : tie.Need-entry-requires-2 Inv-loop μ-loop
-entry-requires-2 c κs = let start = c .before .before .before .before in inside (start .args .n) (start .pre .2) (start .pre .1) (c .before .loop-test .taken)
+entry-requires-2 c κs = let start = c .before .before .before .before in inside (start .args .n) (start .pre .matrix) (start .pre .column) (c .before .loop-test .taken)
 
 entry-requires-3 : tie.Need-entry-requires-3 Inv-loop μ-loop
-entry-requires-3 c κs = let start = c .before .before .before .before .before in inside (start .args .n) (start .pre .2) (c .before .before .loop-test .taken) (start .pre .0)
+entry-requires-3 c κs = let start = c .before .before .before .before .before in inside (start .args .n) (start .pre .matrix) (c .before .before .loop-test .taken) (start .pre .row)
 
 loop-again : tie.Need-loop-again Inv-loop μ-loop
 unfolding sumFrom

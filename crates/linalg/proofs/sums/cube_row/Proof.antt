@@ -3,6 +3,7 @@ use mathlib.Core.Path.{refl, _∙_}
 use mathlib.Core.List.{List}
 use Prim.Native.Nat.{ℕ, _-_}
 use native.Mathlib.Omega.{arith}
+use borrow.Author.Needs.{needs}
 use lib.Ieee.{Float}
 use Rattle.kernel.specs.Number.{mul}
 use Rattle.dense.specs.Matrix.{at, sumRowsFrom}
@@ -31,4 +32,4 @@ returns : tie.Need-returns Inv-loop μ-loop
 returns c = turned-all (c .before .loop .inv) (c .loop-test .left)
 
 pub cube-row-spec : {M : Type 1} → statement M
-cube-row-spec = tie.close (tie.spec Inv-loop μ-loop loop-holds (λ c κs. omega arith) (λ c. omega arith) (λ c. omega arith) loop-again returns)
+cube-row-spec = tie.close (tie.spec Inv-loop μ-loop loop-holds (λ c κs. search needs) (λ c. omega arith) (λ c. omega arith) loop-again returns)

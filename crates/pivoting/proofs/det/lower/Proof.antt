@@ -12,7 +12,7 @@ returns c =
     let after-row-of = after-copy-row .before .before .before .before in
     let start = after-row-of .before .before .before .before .before in
     let x = start .args in
-    after-lower-rows .lower-rows .ensures ∙ lower-stepped (x .m .now) _ _ _ _ _ (start .pre .0) (after-row-of .row-of .ensures) (after-copy-row .copy-row .ensures)
+    after-lower-rows .lower-rows .ensures ∙ lower-stepped (x .m .now) _ _ _ _ _ (start .pre .column) (after-row-of .row-of .ensures) (after-copy-row .copy-row .ensures)
 
 pub lower-spec : {M : Type 1} → statement M
 lower-spec = tie.close (tie.spec (λ c κs. search needs) (λ c κs. search needs) (λ c κs. search needs) (λ c. search needs) (λ c. search needs) returns)

@@ -23,31 +23,42 @@ kept x y k q h = rw (le-ltb k q (omega arith))
 part : (x y l : List Float) (k j : ℕ) {factor : Float} → k < j → factor ≡ div (nth y k) (nth x k) → nth l j ≡ nth y j → sub (nth l j) (mul factor (nth x j)) ≡ lost x y k j
 part x y l k j h e f = rw (lt-ltb k j h, e, f)
 
+-- the entries before j have lost their part, by a factor
+record Losing (x old : List Float) (n k : ℕ) (f : Float) (j : ℕ) (y : List Float) : Type 0 where
+  pub right : k < j
+  pub factor : f ≡ div (nth old k) (nth x k)
+  pub entries : EntryByEntry (lost x old k) n old j y
+
 abbrev Inv-loop : tie.InvT-loop
-Inv-loop x n k y₀ factor j₀ y j = (k < j) × (factor ≡ div (nth y₀ k) (nth x k)) × EntryByEntry (lost x y₀ k) n y₀ j y
+Inv-loop x n k y₀ factor j₀ y j = Losing x y₀ n k factor j y
 
 abbrev μ-loop : tie.MeasureT-loop
 μ-loop x n k y₀ factor j₀ y j = n - j
 
 loop-holds : tie.Need-loop-holds Inv-loop μ-loop
-loop-holds c = let start = c .before .before in (omega arith, refl, entries-there (start .pre .2) (omega arith) (λ q h. kept (start .args .x .now) (start .args .y .now) (start .args .k) q h))
+loop-holds c =
+    let start = c .before .before in
+    let x = start .args in
+    record { right = omega arith; factor = refl; entries = entries-there (start .pre .right) (omega arith) (λ q h. kept (x .x .now) (x .y .now) (x .k) q h) }
 
 loop-again : tie.Need-loop-again Inv-loop μ-loop
 loop-again c =
     let turn = c .before .before in
     let l = turn .before .loop in
-    let x = turn .before .before .before .before .args in (
-      omega arith,
-      l .inv .1,
-      entry-written (l .inv .2) (turn .loop-test .taken) (part (x .x .now) (x .y .now) (l .y) (x .k) (l .j) (l .inv .0) (l .inv .1) (entry-old (l .inv .2))),
-    )
+    let x = turn .before .before .before .before .args in
+    let inv = l .inv in
+    record {
+      right = omega arith;
+      factor = inv .factor;
+      entries = entry-written (inv .entries) (turn .loop-test .taken) (part (x .x .now) (x .y .now) (l .y) (x .k) (l .j) (inv .right) (inv .factor) (entry-old (inv .entries)));
+    }
 
 returns : tie.Need-returns Inv-loop μ-loop
-returns c = every-entry (c .before .loop .inv .2) (c .loop-test .left)
+returns c = every-entry (c .before .loop .inv .entries) (c .loop-test .left)
 
 pub lower-entries-spec : {M : Type 1} → statement M
 lower-entries-spec =
     tie.close
     (tie.spec Inv-loop μ-loop (λ c. omega arith) (λ c. omega arith) (λ c. omega arith) (λ c. omega arith) (λ c. omega arith) loop-holds (λ c. omega arith)
     (λ c. omega arith) (λ c. omega arith) (λ c. omega arith) (λ c. omega arith) (λ c. omega arith) (λ c. omega arith) (λ c. omega arith) loop-again
-    (λ c. c .before .loop .inv .2 .entries .size) returns)
+    (λ c. c .before .loop .inv .entries .entries .size) returns)

@@ -1,23 +1,29 @@
 -- `product` meets its contract: before turn k the first k columns are reduced, each with a pivot, and sign and product are those of their pivots.
-use Prim.Native.Nat.{_-_, _<_}
+use Prim.Native.Nat.{ℕ, _-_, _<_}
 use native.Mathlib.Nat.{le-antisymm}
 use native.Mathlib.Omega.{arith}
+use mathlib.Core.List.{List}
 use mathlib.Core.Path.{_≡_, refl, ap, _∙_}
 use borrow.Author.Needs.{needs}
 use borrow.Author.Tests.{not-true, not-false}
+use lib.Ieee.{Float}
 use Rattle.dense.proofs.Laws.{cell}
-use Rattle.pivoting.specs.Pivot.{taken, pivot, stage, pivoted}
+use Rattle.pivoting.specs.Pivot.{Stage, taken, pivot, stage}
 use Rattle.pivoting.specs.Det.{lowered, swapSign, pivotProduct, product}
 use Rattle.pivoting.proofs.Pivots.{pivot-row}
-use Rattle.pivoting.proofs.Stages.{Columns, columns-more, columns-never, columns-all, SameLengths, lengths-kept}
+use Rattle.pivoting.proofs.Stages.{columns-more, columns-never, columns-all, lengths-kept, Eliminating, eliminating-none}
 use Rattle.pivoting.proofs.Determinants.{sign-more, product-more, lowered-more}
 use Rattle.pivoting.proofs.det.product.Statement.{statement}
 use Rattle.pivoting.proofs.det.product.Tie as tie
 
+-- the first k columns are reduced, as f says, and sign and product are those of their pivots
+record Multiplying (n : ℕ) (f : ℕ → Stage) (m₀ s₀ x₀ m s x : List Float) (d e : Float) (k : ℕ) : Type 0 where
+  pub reduced : Eliminating n n f k m₀ s₀ x₀ m s x
+  pub sign : d ≡ swapSign n f k
+  pub product : e ≡ pivotProduct n f k
+
 abbrev Inv-loop : tie.InvT-loop
-Inv-loop m₀ s₀ x₀ n sign₀ det₀ k₀ m s x sign det k =
-    let f = lowered n (stage m₀ s₀) in
-    Columns n n f k m s × SameLengths m₀ s₀ x₀ m s x × (sign ≡ swapSign n f k) × (det ≡ pivotProduct n f k)
+Inv-loop m₀ s₀ x₀ n sign₀ det₀ k₀ m s x sign det k = Multiplying n (lowered n (stage m₀ s₀)) m₀ s₀ x₀ m s x sign det k
 
 abbrev μ-loop : tie.MeasureT-loop
 μ-loop m₀ s₀ x₀ n sign₀ det₀ k₀ m s x sign det k = n - k
@@ -41,24 +47,24 @@ decided : (c : tie.After-is-taken Inv-loop μ-loop) → let l = turn (c .before)
 decided c = c .is-taken .ensures ∙ ap taken (c .before .choose .ensures)
 
 loop-holds : tie.Need-loop-holds Inv-loop μ-loop
-unfolding pivoted lowered swapSign pivotProduct
-loop-holds c = (record { turns = omega arith; pivots = refl; here = refl }, record { rows = refl; norms = refl; row = refl }, refl, refl)
+unfolding lowered swapSign pivotProduct
+loop-holds c = record { reduced = eliminating-none refl; sign = refl; product = refl }
 
 returns : tie.Need-returns Inv-loop μ-loop
 unfolding product
-returns c = let t = turn (c .before .before) in rw (columns-never (t .before .loop .inv .0) (t .loop-test .taken) (decided (c .before)) (not-true _ (c .if1 .taken)))
+returns c = let t = turn (c .before .before) in rw (columns-never (t .before .loop .inv .reduced .columns) (t .loop-test .taken) (decided (c .before)) (not-true _ (c .if1 .taken)))
 
 entry-requires : tie.Need-entry-requires Inv-loop μ-loop
 entry-requires c κs =
     let b = c .before .before .before .before in
     let n = start b .args .n in
-    omega (arith, cell n n (chosen b) (turn b .loop-test .taken), turn b .before .loop .inv .1 .rows)
+    omega (arith, cell n n (chosen b) (turn b .loop-test .taken), turn b .before .loop .inv .reduced .lengths .rows)
 
 swap-norms-requires : tie.Need-swap-norms-requires Inv-loop μ-loop
 swap-norms-requires c κs = (turn (choice c) .loop-test .taken, chosen (choice c), omega arith)
 
 lower-requires : tie.Need-lower-requires Inv-loop μ-loop
-lower-requires c κs = let b = choice (c .before .before .before .before .before) in (turn b .loop-test .taken, chosen b, omega arith, omega arith)
+lower-requires c κs = let b = choice (c .before .before .before .before .before) in record { row = chosen b; column = turn b .loop-test .taken; matrix = omega arith; room = omega arith }
 
 loop-again : tie.Need-loop-again Inv-loop μ-loop
 loop-again c =
@@ -70,28 +76,33 @@ loop-again c =
     let x = start b .args in
     let f = lowered (x .n) (stage (x .m .now) (x .s .now)) in
     let l = turn b .before .loop in
-    let here = l .inv .0 .here in
+    let inv = l .inv in
+    let here = inv .reduced .columns .here in
     let kept = lowered-here .lower .kept in
-    let next = lowered-more _ _ (l .k) _ _ _ _ _ here (b .choose .ensures) (lowered-here .lower .ensures) (swapped .swap-norms .ensures) in (
-      columns-more (l .inv .0) (turn b .loop-test .taken) (decided (flipped .before .before)) (not-false _ (flipped .before .if1 .left)) next,
-      lengths-kept (l .inv .1) (kept .0) (swapped .swap-norms .kept .0) (kept .1 .0),
-      sign-more _ f (l .k) here (b .choose .ensures) (l .inv .2) (flipped .flipped .ensures),
-      product-more _ f (l .k) here (b .choose .ensures) (l .inv .3) (entry .entry .ensures),
-    )
+    let next = lowered-more _ _ (l .k) _ _ _ _ _ here (b .choose .ensures) (lowered-here .lower .ensures) (swapped .swap-norms .ensures) in
+    record {
+      reduced =
+          record {
+            columns = columns-more (inv .reduced .columns) (turn b .loop-test .taken) (decided (flipped .before .before)) (not-false _ (flipped .before .if1 .left)) next;
+            lengths = lengths-kept (inv .reduced .lengths) (kept .0) (swapped .swap-norms .kept .0) (kept .1 .0);
+          };
+      sign = sign-more _ f (l .k) here (b .choose .ensures) (inv .sign) (flipped .flipped .ensures);
+      product = product-more _ f (l .k) here (b .choose .ensures) (inv .product) (entry .entry .ensures);
+    }
 
 returns-2 : tie.Need-returns-2 Inv-loop μ-loop
 unfolding product
 returns-2 c =
-    let l = c .before .loop in
+    let inv = c .before .loop .inv in
     let x = c .before .before .before .before .before .args in
     let f = lowered (x .n) (stage (x .m .now) (x .s .now)) in
-    let e = le-antisymm (l .inv .0 .turns) (c .loop-test .left) in
-    rw (columns-all (l .inv .0) (c .loop-test .left) .pivots, l .inv .2 ∙ ap (swapSign (x .n) f) e, l .inv .3 ∙ ap (pivotProduct (x .n) f) e)
+    let e = le-antisymm (inv .reduced .columns .turns) (c .loop-test .left) in
+    rw (columns-all (inv .reduced .columns) (c .loop-test .left) .pivots, inv .sign ∙ ap (swapSign (x .n) f) e, inv .product ∙ ap (pivotProduct (x .n) f) e)
 
 pub product-spec : {M : Type 1} → statement M
 product-spec =
     tie.close
-    (tie.spec Inv-loop μ-loop loop-holds (λ c κs. omega arith) (λ c κs. search needs) (λ c. turn (c .before .before) .before .loop .inv .1 .rows)
-    (λ c. turn (c .before .before) .before .loop .inv .1 .norms) (λ c. turn (c .before .before) .before .loop .inv .1 .row) returns (λ c κs. search needs)
-    entry-requires swap-norms-requires lower-requires (λ c. omega arith) (λ c. omega arith) loop-again (λ c. c .before .loop .inv .1 .rows)
-    (λ c. c .before .loop .inv .1 .norms) (λ c. c .before .loop .inv .1 .row) returns-2)
+    (tie.spec Inv-loop μ-loop loop-holds (λ c κs. omega arith) (λ c κs. search needs) (λ c. turn (c .before .before) .before .loop .inv .reduced .lengths .rows)
+    (λ c. turn (c .before .before) .before .loop .inv .reduced .lengths .norms) (λ c. turn (c .before .before) .before .loop .inv .reduced .lengths .row) returns (λ c κs. search needs)
+    entry-requires swap-norms-requires lower-requires (λ c. omega arith) (λ c. omega arith) loop-again (λ c. c .before .loop .inv .reduced .lengths .rows)
+    (λ c. c .before .loop .inv .reduced .lengths .norms) (λ c. c .before .loop .inv .reduced .lengths .row) returns-2)

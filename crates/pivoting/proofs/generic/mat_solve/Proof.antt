@@ -31,7 +31,7 @@ solve-requires c κs =
     let x = sided .before .before .before .before .before .args in
     let l = three-long (x .a .now) (x .b .now) (x .out .now) (x .n * x .n) (x .n) (x .n) (met (c .before .before .is-system .ensures) (c .before .if2 .left)) in
     let s = met (sided .before .is-side .ensures) (sided .if1 .left) in
-    (side-high (x .n) s, side-low (x .n) s, l .0, omega arith, omega arith)
+    (side-high (x .n) s, side-low (x .n) s, record { matrix = l .0; sides = omega arith; solution = omega arith })
 
 returns-3 : tie.Need-returns-3
 unfolding matSolve

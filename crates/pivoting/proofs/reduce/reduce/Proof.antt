@@ -3,16 +3,17 @@ use Prim.Native.Nat.{_-_}
 use native.Mathlib.Omega.{arith}
 use mathlib.Core.Bool.{true}
 use mathlib.Core.Path.{_≡_, refl, sym}
+use borrow.Author.Needs.{needs}
 use borrow.Author.Tests.{not-true, not-false}
 use Rattle.dense.proofs.Tests.{never}
-use Rattle.pivoting.specs.Pivot.{stage, pivoted}
+use Rattle.pivoting.specs.Pivot.{stage}
 use Rattle.pivoting.specs.Solve.{reduced}
-use Rattle.pivoting.proofs.Stages.{reduced-more, Columns, columns-more, columns-never, columns-all, SameLengths, lengths-kept}
+use Rattle.pivoting.proofs.Stages.{reduced-more, columns-more, columns-never, columns-all, SameLengths, lengths-kept, Eliminating, eliminating-none}
 use Rattle.pivoting.proofs.reduce.reduce.Statement.{statement}
 use Rattle.pivoting.proofs.reduce.reduce.Tie as tie
 
 abbrev Inv-loop : tie.InvT-loop
-Inv-loop m₀ s₀ x₀ n w k₀ m s x k = Columns n w (reduced n w (stage m₀ s₀)) k m s × SameLengths m₀ s₀ x₀ m s x
+Inv-loop m₀ s₀ x₀ n w k₀ m s x k = Eliminating n w (reduced n w (stage m₀ s₀)) k m₀ s₀ x₀ m s x
 
 abbrev μ-loop : tie.MeasureT-loop
 μ-loop m₀ s₀ x₀ n w k₀ m s x k = n - k
@@ -28,31 +29,37 @@ abbrev start : tie.After-slice-known6 Inv-loop μ-loop → tie.Start Inv-loop μ
 start c = turn c .before .before .before .before .before
 
 lengths : (c : tie.After-slice-known6 Inv-loop μ-loop) → let x = start c .args in let l = called c .reduce-column .last in SameLengths (x .m .now) (x .s .now) (x .x .now) (l .0) (l .1 .0) (l .1 .1 .0)
-lengths c = let kept = called c .reduce-column .kept in lengths-kept (turn c .before .loop .inv .1) (kept .0) (kept .1 .0) (kept .1 .1 .0)
+lengths c = let kept = called c .reduce-column .kept in lengths-kept (turn c .before .loop .inv .lengths) (kept .0) (kept .1 .0) (kept .1 .1 .0)
 
 loop-holds : tie.Need-loop-holds Inv-loop μ-loop
-unfolding pivoted reduced
-loop-holds c = (record { turns = omega arith; pivots = refl; here = refl }, record { rows = refl; norms = refl; row = refl })
+unfolding reduced
+loop-holds c = eliminating-none refl
 
 returns : tie.Need-returns Inv-loop μ-loop
 returns c =
     let t = turn (c .before) in
-    (sym (columns-never (t .before .loop .inv .0) (t .loop-test .taken) (called (c .before) .reduce-column .ensures .0) (not-true _ (c .if1 .taken))), never)
+    record {
+      told = sym (columns-never (t .before .loop .inv .columns) (t .loop-test .taken) (called (c .before) .reduce-column .ensures .told) (not-true _ (c .if1 .taken)));
+      reached = never;
+    }
 
 loop-again : tie.Need-loop-again Inv-loop μ-loop
 loop-again c =
     let t = turn (c .before) in
-    let inv = t .before .loop .inv .0 in
+    let columns = t .before .loop .inv .columns in
     let call = called (c .before) .reduce-column in
     let ok : call .result ≡ true = not-false _ (c .if1 .left) in
-    (columns-more inv (t .loop-test .taken) (call .ensures .0) ok (reduced-more _ _ _ _ _ _ (inv .here) (call .ensures .1 ok)), lengths (c .before))
+    record {
+      columns = columns-more columns (t .loop-test .taken) (call .ensures .told) ok (reduced-more _ _ _ _ _ _ (columns .here) (call .ensures .reached ok));
+      lengths = lengths (c .before);
+    }
 
 returns-2 : tie.Need-returns-2 Inv-loop μ-loop
-returns-2 c = let all = columns-all (c .before .loop .inv .0) (c .loop-test .left) in (sym (all .pivots), λ q. all .here)
+returns-2 c = let all = columns-all (c .before .loop .inv .columns) (c .loop-test .left) in record { told = sym (all .pivots); reached = λ q. all .here }
 
 pub reduce-spec : {M : Type 1} → statement M
 reduce-spec =
     tie.close
-    (tie.spec Inv-loop μ-loop loop-holds (λ c κs. omega arith) (λ c. lengths (c .before) .rows) (λ c. lengths (c .before) .norms)
-    (λ c. lengths (c .before) .row) returns (λ c. omega arith) (λ c. omega arith) loop-again (λ c. c .before .loop .inv .1 .rows)
-    (λ c. c .before .loop .inv .1 .norms) (λ c. c .before .loop .inv .1 .row) returns-2)
+    (tie.spec Inv-loop μ-loop loop-holds (λ c κs. search needs) (λ c. lengths (c .before) .rows) (λ c. lengths (c .before) .norms)
+    (λ c. lengths (c .before) .row) returns (λ c. omega arith) (λ c. omega arith) loop-again (λ c. c .before .loop .inv .lengths .rows)
+    (λ c. c .before .loop .inv .lengths .norms) (λ c. c .before .loop .inv .lengths .row) returns-2)

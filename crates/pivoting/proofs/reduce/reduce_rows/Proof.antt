@@ -27,7 +27,7 @@ fits : (c : tie.In-loop Inv-loop μ-loop) → RowFits (c .before .loop .inv)
 fits c = row-fits (c .before .loop .inv) (c .loop-test .taken)
 
 reduce-row-requires : tie.Need-reduce-row-requires Inv-loop μ-loop
-reduce-row-requires c κs = (omega arith, omega arith, row-lent (c .before .before .loop .inv) (c .before .loop-test .taken))
+reduce-row-requires c κs = record { column = omega arith; left = omega arith; right = row-lent (c .before .before .loop .inv) (c .before .loop-test .taken) }
 
 loop-again : tie.Need-loop-again Inv-loop μ-loop
 loop-again c =
@@ -35,7 +35,7 @@ loop-again c =
     let start = turn .before .before .before .before in
     let inv = turn .before .loop .inv in
     row-written inv (turn .loop-test .taken)
-    (c .before .before .reduce-row .ensures ∙ tabulate-ext _ _ _ (λ j h. rw (row-old inv j h, row-old inv (start .args .k) (start .pre .0))))
+    (c .before .before .reduce-row .ensures ∙ tabulate-ext _ _ _ (λ j h. rw (row-old inv j h, row-old inv (start .args .k) (start .pre .column))))
 
 returns : tie.Need-returns Inv-loop μ-loop
 returns c = every-row (c .before .loop .inv) (c .loop-test .left)
@@ -43,5 +43,5 @@ returns c = every-row (c .before .loop .inv) (c .loop-test .left)
 pub reduce-rows-spec : {M : Type 1} → statement M
 reduce-rows-spec =
     tie.close
-    (tie.spec Inv-loop μ-loop (λ c. no-row (c .before .before .pre .2)) (λ c. omega (arith, fits c)) (λ c. omega (arith, fits c)) (λ c. omega (arith, fits c)) (λ c. omega arith)
+    (tie.spec Inv-loop μ-loop (λ c. no-row (c .before .before .pre .matrix)) (λ c. omega (arith, fits c)) (λ c. omega (arith, fits c)) (λ c. omega (arith, fits c)) (λ c. omega arith)
     (λ c. omega arith) (λ c. omega (arith, fits c)) reduce-row-requires (λ c. omega arith) (λ c. omega arith) loop-again (λ c. c .before .loop .inv .rows .size) returns)

@@ -12,7 +12,7 @@ returns c =
     let after-divided-row = after-copy-row .before .before .before .before in
     let start = after-divided-row .before .before .before .before .before in
     let x = start .args in
-    after-reduce-rows .reduce-rows .ensures ∙ stepped (x .m .now) _ _ _ _ _ _ (start .pre .1) (after-divided-row .divided-row .ensures) (after-copy-row .copy-row .ensures)
+    after-reduce-rows .reduce-rows .ensures ∙ stepped (x .m .now) _ _ _ _ _ _ (start .pre .1 .column) (after-divided-row .divided-row .ensures) (after-copy-row .copy-row .ensures)
 
 pub step-spec : {M : Type 1} → statement M
 step-spec = tie.close (tie.spec (λ c κs. search needs) (λ c κs. search needs) (λ c κs. search needs) (λ c. search needs) (λ c. search needs) returns)

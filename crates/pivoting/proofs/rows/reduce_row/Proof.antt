@@ -11,7 +11,7 @@ returns : tie.Need-returns
 returns c =
     let after-copy = c .before .before in
     let then1 = after-copy .before .before in
-    let taken = then1 in after-copy .copy .ensures ∙ own-entries _ _ (taken .before .before .before .pre .1) ∙ tabulate-ext _ _ _ (λ j k. rw (eq-eqb _ _ (taken .if1 .taken)))
+    let taken = then1 in after-copy .copy .ensures ∙ own-entries _ _ (taken .before .before .before .pre .left) ∙ tabulate-ext _ _ _ (λ j k. rw (eq-eqb _ _ (taken .if1 .taken)))
 
 returns-2 : tie.Need-returns-2
 returns-2 c = c .before .before .subtract-scaled .ensures ∙ tabulate-ext _ _ _ (λ j k. rw (ne-eqb _ _ (c .before .before .before .before .before .if1 .left)))

@@ -70,7 +70,7 @@ begun : (c : tie.After-reduce)
     let t = stage (joined c .augment .last .1 .1 .1 .1 .1 .0) (norms-of c .row-norms .last .1 .1 .0) in
     (pivoted (x .n) (x .w) (reduced (x .n) (x .w) t) (x .n) ≡ pivoted (x .n) (x .n + x .r) (reduced (x .n) (x .n + x .r) (start (x .a .now) (x .b .now) (x .n) (x .r))) (x .n))
     × (reduced (x .n) (x .w) t (x .n) ≡ reduced (x .n) (x .n + x .r) (start (x .a .now) (x .b .now) (x .n) (x .r)) (x .n))
-begun c = let x = start-of c .args in started (x .a .now) (x .b .now) _ _ (x .n) (x .r) (x .w) (start-of c .pre .0) (joined c .augment .ensures) (norms-of c .row-norms .ensures)
+begun c = let x = start-of c .args in started (x .a .now) (x .b .now) _ _ (x .n) (x .r) (x .w) (start-of c .pre .width) (joined c .augment .ensures) (norms-of c .row-norms .ensures)
 
 met-5 : (c : tie.After-reduce) → let x = start-of c .args in someScale (x .n) (rowNorms (x .a .now) (x .n)) ≡ true
 met-5 c = let s = scaled (joined c) in met (question-5 (s .before)) (s .if1 .left)
@@ -78,7 +78,7 @@ met-5 c = let s = scaled (joined c) in met (question-5 (s .before)) (s .if1 .lef
 -- ---- the needs
 
 some-scale-requires : tie.Need-some-scale-requires
-some-scale-requires c κs = let n = c .before .before .before in n .row-norms .kept .1 .1 .0 ∙ entered n .pre .4
+some-scale-requires c κs = let n = c .before .before .before in n .row-norms .kept .1 .1 .0 ∙ entered n .pre .room .norms
 
 returns : tie.Need-returns
 unfolding solved
@@ -89,26 +89,29 @@ reduce-requires c κs =
     let j = c .before .before .before .before .before in
     let n = normed (scaled j .before) in
     let pre = entered n .pre in
-    (omega (arith, pre .0), j .augment .kept .1 .1 .1 .1 .1 .0 ∙ pre .3, n .row-norms .kept .1 .1 .0 ∙ pre .4, pre .5)
+    let room = pre .room in (
+      omega (arith, pre .width),
+      record { matrix = j .augment .kept .1 .1 .1 .1 .1 .0 ∙ room .matrix; norms = n .row-norms .kept .1 .1 .0 ∙ room .norms; row = room .row },
+    )
 
 returns-2 : tie.Need-returns-2
 unfolding solved
-returns-2 c = let t = refused-6 c in rw (met-5 t, unmet (t .reduce .ensures .0 ∙ begun t .0) (c .if2 .taken))
+returns-2 c = let t = refused-6 c in rw (met-5 t, unmet (t .reduce .ensures .told ∙ begun t .0) (c .if2 .taken))
 
 right-part-requires : tie.Need-right-part-requires
 right-part-requires c κs =
     let t = c .before .before .before .before .before .before .before .before .before in
     let pre = start-of t .pre in
-    (pre .0, size-of t ∙ pre .3, pre .6)
+    (pre .width, size-of t ∙ pre .room .matrix, pre .system .solution)
 
 returns-3 : tie.Need-returns-3
 unfolding solved
 returns-3 c =
     let t = answered-at c in
     let x = start-of t .args in
-    let reduced-all = t .reduce .ensures .1 (not-false _ (met-6 c .if2 .left)) ∙ begun t .1 in
-    rw (met-5 t, met (t .reduce .ensures .0 ∙ begun t .0) (met-6 c .if2 .left))
-    (done (c .before .before .right-part .ensures ∙ right (x .a .now) (x .b .now) _ _ (x .n) (x .r) (x .w) (start-of t .pre .0) reduced-all))
+    let reduced-all = t .reduce .ensures .reached (not-false _ (met-6 c .if2 .left)) ∙ begun t .1 in
+    rw (met-5 t, met (t .reduce .ensures .told ∙ begun t .0) (met-6 c .if2 .left))
+    (done (c .before .before .right-part .ensures ∙ right (x .a .now) (x .b .now) _ _ (x .n) (x .r) (x .w) (start-of t .pre .width) reduced-all))
 
 pub solve-in-spec : {M : Type 1} → statement M
 solve-in-spec =

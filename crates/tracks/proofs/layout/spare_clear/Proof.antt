@@ -1,24 +1,24 @@
 -- `spare_clear` meets its contract: before turn i the first i spare bits are 0.
-use mathlib.Core.Path.{_≡_, refl, sym, ap, _∙_}
+use mathlib.Core.Path.{_≡_, refl, sym, _∙_}
 use mathlib.Core.Bool.{true}
 use Prim.Native.Nat.{_+_, _-_, _*_, _≤_}
-use native.Mathlib.Nat.{le-antisymm}
 use denote.Ref.{now}
 use native.Mathlib.Omega.{arith}
+use Rattle.kernel.proofs.Loops.{at-end}
 use Rattle.tracks.specs.Layout.{mapBytes, stands, none, spare}
 use Rattle.tracks.proofs.Bits.{none-more, none-not}
 use Rattle.tracks.proofs.layout.spare_clear.Statement.{statement}
 use Rattle.tracks.proofs.layout.spare_clear.Tie as tie
 
 abbrev Inv-loop : tie.InvT-loop
-Inv-loop list f map i₀ i-end i = (i ≤ i-end) × (i-end ≡ 8 * mapBytes f - f) × (none (λ j. stands list map (f + j)) i ≡ true)
+Inv-loop list f map i₀ i-end i = (i ≤ 8 * mapBytes f - f) × (none (λ j. stands list map (f + j)) i ≡ true)
 
 abbrev μ-loop : tie.MeasureT-loop
-μ-loop list f map i₀ i-end i = i-end - i
+μ-loop list f map i₀ i-end i = 8 * mapBytes f - f - i
 
 loop-holds : tie.Need-loop-holds Inv-loop μ-loop
 unfolding none
-loop-holds c = (omega arith, omega arith, refl)
+loop-holds c = (omega arith, refl)
 
 returns : tie.Need-returns Inv-loop μ-loop
 unfolding spare
@@ -30,14 +30,14 @@ returns c =
 loop-again : tie.Need-loop-again Inv-loop μ-loop
 loop-again c =
     let i = c .before .before .before .loop in
-    (omega arith, omega arith, none-more _ (i .i) (i .inv .2) (sym (c .before .stands .ensures) ∙ c .if1 .left))
+    (omega arith, none-more _ (i .i) (i .inv .1) (sym (c .before .stands .ensures) ∙ c .if1 .left))
 
 returns-2 : tie.Need-returns-2 Inv-loop μ-loop
 unfolding spare
 returns-2 c =
     let x = c .before .before .before .args in
     let i = c .before .loop in
-    sym (i .inv .2) ∙ ap (none (λ j. stands (now (x .list)) (x .map) (x .f + j))) (le-antisymm (i .inv .0) (c .loop-test .left) ∙ i .inv .1)
+    at-end (none (λ j. stands (now (x .list)) (x .map) (x .f + j))) (i .inv .0) (omega (arith, c .loop-test .left)) (sym (i .inv .1))
 
 pub spare-clear-spec : {M : Type 1} → statement M
 spare-clear-spec =

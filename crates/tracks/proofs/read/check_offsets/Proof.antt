@@ -70,7 +70,7 @@ fields-requires c κs = dimension-small _ (sym (c .before .dimension-met .ensure
 check-tracks-requires : tie.Need-check-tracks-requires
 check-tracks-requires c κs =
     let t = c .before .before .before .before in
-    (omega (arith, c .before .fields .ensures .1), omega arith, omega (arith, leb-true (count (list-of (begun t))) 32 (counted t)))
+    record { small = omega (arith, c .before .fields .ensures .1); head = omega arith; room = omega (arith, leb-true (count (list-of (begun t))) 32 (counted t)) }
 
 abbrev start-of : tie.Else3 → tie.After-slice-known
 start-of c = begun (c .before .before)

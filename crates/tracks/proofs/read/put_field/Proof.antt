@@ -29,8 +29,8 @@ given c = let x = c .args in field (now (x .list)) (x .map) (x .k) (x .at)
 held : (c : tie.Then1) {y : Item ℕ} → given (start-of c) ≡ answered y → Stored (now (start-of c .args .list)) (start-of c .args .at) y
 held c e = let x = start-of c .args in field-stored (now (x .list)) (x .map) (x .k) (x .at) (sym (c .before .stands .ensures) ∙ c .if1 .taken) e
 
-accepted : (c : tie.Then1) → Stored (now (start-of c .args .list)) (start-of c .args .at) (start-of c .pre .2 .0)
-accepted c = held c (start-of c .pre .2 .1)
+accepted : (c : tie.Then1) → Stored (now (start-of c .args .list)) (start-of c .args .at) (start-of c .pre .accepted .0)
+accepted c = held c (start-of c .pre .accepted .1)
 
 float-from-bits-values : tie.Need-float-from-bits-values
 float-from-bits-values c = finite-no-nan _ (rw (c .word .ensures) (accepted (standing c) .finite))

@@ -57,7 +57,9 @@ returns c =
     both (begun t) (reading-short _ _ (told (known t) .accepted) (omega (arith, needed t, c .if1 .taken)))
 
 put-tracks-requires : tie.Need-put-tracks-requires
-put-tracks-requires c κs = (omega arith, told (known (c .before .before)) .few, c .before .if1 .left, (_, read (c .before .before)))
+put-tracks-requires c κs =
+    let f = c .before .before in
+    record { small = omega arith; few = told (known f) .few; room = c .before .if1 .left; accepted = (_, read f) }
 
 returns-2 : tie.Need-returns-2
 returns-2 c =

@@ -78,7 +78,10 @@ returns-2 c =
     (placed-few _ _ _ (a .accepted) (omega (arith, needed f, c .before .if1 .left)) (omega (arith, a .count, c .if2 .taken))) refl refl refl
 
 put-tracks-requires : tie.Need-put-tracks-requires
-put-tracks-requires c κs = let f = c .before .before .before in (omega arith, told (f .before) .few, c .before .before .if1 .left, (_, known-tracks (told (f .before)) (f .fields .ensures .0)))
+put-tracks-requires c κs =
+    let f = c .before .before .before in
+    let t = told (f .before) in
+    record { small = omega arith; few = t .few; room = c .before .before .if1 .left; accepted = (_, known-tracks t (f .fields .ensures .0)) }
 
 add-copy-offsets : tie.Need-add-copy-offsets
 add-copy-offsets c = omega (arith, told (sized c .before) .few)

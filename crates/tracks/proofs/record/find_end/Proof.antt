@@ -1,9 +1,10 @@
 -- `find_end` meets its contract: before turn j the record is looked for among the n - j records from `here` on.
 use mathlib.Core.Path.{_≡_, sym, ap, _∙_}
-use Prim.Native.Nat.{suc, _+_, _-_, _≤_}
+use Prim.Native.Nat.{ℕ, suc, _+_, _-_, _≤_}
 use native.Mathlib.Nat.{sub-zero}
 use native.Mathlib.Omega.{arith}
 use borrow.Author.Needs.{needs}
+use mathlib.Core.List.{List}
 use denote.Ref.{now}
 use lib.ListN.{length}
 use Rattle.tracks.specs.Record.{recordEnd}
@@ -12,14 +13,22 @@ use Rattle.tracks.proofs.Accepted.{track-within}
 use Rattle.tracks.proofs.record.find_end.Statement.{statement}
 use Rattle.tracks.proofs.record.find_end.Tie as tie
 
+-- j of n records are passed, and the others start at `here`
+record Looking (list : List ℕ) (f n at here j : ℕ) : Type 0 where
+  pub turns : j ≤ n
+  pub within : here ≤ length list
+  pub among : recordEnd list f at 2 n ≡ recordEnd list f at here (n - j)
+
 abbrev Inv-loop : tie.InvT-loop
-Inv-loop list f n at here₀ j₀ here j = (j ≤ n) × (here ≤ length list) × (recordEnd list f at 2 n ≡ recordEnd list f at here (n - j))
+Inv-loop list f n at here₀ j₀ here j = Looking list f n at here j
 
 abbrev μ-loop : tie.MeasureT-loop
 μ-loop list f n at here₀ j₀ here j = n - j
 
 loop-holds : tie.Need-loop-holds Inv-loop μ-loop
-loop-holds c = (omega arith, omega arith, ap (recordEnd (now (c .before .args .list)) (c .before .args .f) (c .before .args .at) 2) (sym (sub-zero (c .before .args .n))))
+loop-holds c =
+    let x = c .before .args in
+    record { turns = omega arith; within = omega arith; among = ap (recordEnd (now (x .list)) (x .f) (x .at) 2) (sym (sub-zero (x .n))) }
 
 -- the turn's record, and those after it
 left : (c : tie.In-loop Inv-loop μ-loop) → let x = c .before .before .before .args in let i = c .before .loop in
@@ -28,7 +37,7 @@ left c =
     let x = c .before .before .before .args in
     let i = c .before .loop in
     let e : x .n - i .counter ≡ suc (x .n - (i .counter + 1)) = omega arith in
-    i .inv .2 ∙ ap (recordEnd (now (x .list)) (x .f) (x .at) (i .here)) e
+    i .inv .among ∙ ap (recordEnd (now (x .list)) (x .f) (x .at) (i .here)) e
 
 returns : tie.Need-returns Inv-loop μ-loop
 returns c =
@@ -45,7 +54,7 @@ loop-again c =
     let t = c .before .before .before .before .before in
     let x = t .before .before .before .args in
     let e = sym (c .before .before .before .before .check-track .ensures) ∙ c .before .before .c .given .1 in
-    (omega arith, track-within (now (x .list)) (x .f) (t .before .loop .here) _ e, left t ∙ end-later _ _ _ _ _ e (c .if1 .left))
+    record { turns = omega arith; within = track-within (now (x .list)) (x .f) (t .before .loop .here) _ e; among = left t ∙ end-later _ _ _ _ _ e (c .if1 .left) }
 
 returns-3 : tie.Need-returns-3 Inv-loop μ-loop
 unfolding recordEnd
@@ -53,7 +62,7 @@ returns-3 c =
     let x = c .before .before .before .args in
     let i = c .before .loop in
     let e : x .n - i .counter ≡ 0 = omega (arith, c .loop-test .left) in
-    (sym (i .inv .2 ∙ ap (recordEnd (now (x .list)) (x .f) (x .at) (i .here)) e), omega arith)
+    (sym (i .inv .among ∙ ap (recordEnd (now (x .list)) (x .f) (x .at) (i .here)) e), omega arith)
 
 pub find-end-spec : {M : Type 1} → statement M
 find-end-spec =

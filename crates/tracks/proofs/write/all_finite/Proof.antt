@@ -16,36 +16,35 @@ use Rattle.tracks.proofs.write.all_finite.Statement.{statement}
 use Rattle.tracks.proofs.write.all_finite.Tie as tie
 
 abbrev Inv-loop : tie.InvT-loop
-Inv-loop v i₀ i-end i = (i ≤ i-end) × (i-end ≡ length (patterns v)) × (allFinite (take i (patterns v)) ≡ true)
+Inv-loop v i₀ i-end i = (i ≤ length (patterns v)) × (allFinite (take i (patterns v)) ≡ true)
 
 abbrev μ-loop : tie.MeasureT-loop
-μ-loop v i₀ i-end i = i-end - i
+μ-loop v i₀ i-end i = length v - i
 
 loop-holds : tie.Need-loop-holds Inv-loop μ-loop
 unfolding allFinite
-loop-holds c = (omega arith, sym (length-patterns (now (c .before .args .v))), refl)
+loop-holds c = (omega arith, refl)
 
 returns : tie.Need-returns Inv-loop μ-loop
 returns c =
-    let x = c .before .before .before .before .before .before .args in
+    let v = now (c .before .before .before .before .before .before .args .v) in
     let i = c .before .before .before .before .loop in
-    sym (all-not (patterns (now (x .v))) (i .i) (omega arith) (ap finiteBits (sym (c .before .before .bits-at .ensures)) ∙ sym (c .before .finite .ensures) ∙ not-true _ (c .if1 .taken)))
+    sym (all-not (patterns v) (i .i) (omega (arith, length-patterns v)) (ap finiteBits (sym (c .before .before .bits-at .ensures)) ∙ sym (c .before .finite .ensures) ∙ not-true _ (c .if1 .taken)))
 
 loop-again : tie.Need-loop-again Inv-loop μ-loop
 loop-again c =
-    let x = c .before .before .before .before .before .before .args in
+    let v = now (c .before .before .before .before .before .before .args .v) in
     let i = c .before .before .before .before .loop in (
-      omega arith,
-      i .inv .1,
-      ap allFinite (take-more (patterns (now (x .v))) (i .i) (omega arith))
-          ∙ all-more (take (i .i) (patterns (now (x .v)))) _ (i .inv .2) (ap finiteBits (sym (c .before .before .bits-at .ensures)) ∙ sym (c .before .finite .ensures) ∙ not-false _ (c .if1 .left)),
+      omega (arith, length-patterns v),
+      ap allFinite (take-more (patterns v) (i .i) (omega (arith, length-patterns v)))
+          ∙ all-more (take (i .i) (patterns v)) _ (i .inv .1) (ap finiteBits (sym (c .before .before .bits-at .ensures)) ∙ sym (c .before .finite .ensures) ∙ not-false _ (c .if1 .left)),
     )
 
 returns-2 : tie.Need-returns-2 Inv-loop μ-loop
 returns-2 c =
-    let x = c .before .before .before .args in
+    let v = now (c .before .before .before .args .v) in
     let i = c .before .loop in
-    sym (i .inv .2) ∙ ap allFinite (take-all (i .i) (patterns (now (x .v))) (omega (arith, c .loop-test .left)))
+    sym (i .inv .1) ∙ ap allFinite (take-all (i .i) (patterns v) (omega (arith, c .loop-test .left, length-patterns v)))
 
 pub all-finite-spec : {M : Type 1} → statement M
 all-finite-spec =

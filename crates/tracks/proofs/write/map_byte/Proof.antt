@@ -20,43 +20,51 @@ use Rattle.tracks.proofs.write.map_byte.Tie as tie
 abbrev test : List ℕ → ℕ → ℕ → Bool
 test v b i = nonzero (getD v (8 * b + i) 0)
 
+-- the first i bits of byte b are packed
+record Packing (v : List ℕ) (b byte weight i : ℕ) : Type 0 where
+  pub turns : i ≤ 8
+  pub weighs : weight ≡ 2 ^ i
+  pub bits : byte ≡ packed (test v b) i
+
 abbrev Inv-loop : tie.InvT-loop
-Inv-loop v b byte₀ weight₀ i₀ byte weight i = (i ≤ 8) × (weight ≡ 2 ^ i) × (byte ≡ packed (test (patterns v) b) i)
+Inv-loop v b byte₀ weight₀ i₀ byte weight i = Packing (patterns v) b byte weight i
 
 abbrev μ-loop : tie.MeasureT-loop
 μ-loop v b byte₀ weight₀ i₀ byte weight i = 8 - i
 
 loop-holds : tie.Need-loop-holds Inv-loop μ-loop
 unfolding packed
-loop-holds c = (omega arith, refl, refl)
+loop-holds c = record { turns = omega arith; weighs = refl; bits = refl }
 
 -- the byte and the weight are small
 small : (c : tie.At-loop Inv-loop μ-loop) → (c .loop .byte < 2 ^ c .loop .i) × (2 ^ c .loop .i ≤ 256)
 small c =
     let x = c .before .before .args in
     let i = c .loop in
-    (rw (i .inv .2) (packed-lt (test (patterns (now (x .v))) (x .b)) (i .i)), pow-mono (i .inv .0))
+    (rw (i .inv .bits) (packed-lt (test (patterns (now (x .v))) (x .b)) (i .i)), pow-mono (i .inv .turns))
 
 loop-again : tie.Need-loop-again Inv-loop μ-loop
 loop-again c =
     let x = c .before .before .before .before .before .args in
     let i = c .before .before .before .loop in
     let t = test (patterns (now (x .v))) (x .b) in
-    let s = sym (c .before .is-stored .ensures) in (
-      omega arith,
-      omega (arith, i .inv .1, ap (λ (n : ℕ). 2 ^ n) (add-one (i .i)), pow-suc 2 (i .i)),
-      ⊎-elim
+    let s = sym (c .before .is-stored .ensures) in
+    record {
+      turns = omega arith;
+      weighs = omega (arith, i .inv .weighs, ap (λ (n : ℕ). 2 ^ n) (add-one (i .i)), pow-suc 2 (i .i));
+      bits =
+          ⊎-elim
           (λ w. omega (arith, w .1, i .inv, packed-more t (i .i) {b = true} (s ∙ w .0 .taken)))
           (λ w. omega (arith, w .1, i .inv, packed-more t (i .i) {b = false} (s ∙ w .0 .left)))
-          (c .if1 .came),
-    )
+          (c .if1 .came);
+    }
 
 returns : tie.Need-returns Inv-loop μ-loop
 unfolding mapByte
 returns c =
     let x = c .before .before .before .args in
     let i = c .before .loop in
-    at-end (packed (test (patterns (now (x .v))) (x .b))) (i .inv .0) (c .loop-test .left) (i .inv .2)
+    at-end (packed (test (patterns (now (x .v))) (x .b))) (i .inv .turns) (c .loop-test .left) (i .inv .bits)
 
 pub map-byte-spec : {M : Type 1} → statement M
 map-byte-spec =

@@ -8,21 +8,21 @@ use lib.ListN.{length, take}
 use lib.Seq.{take-all}
 use Rattle.tracks.specs.Write.{fieldBytes, storedBytes}
 use Rattle.tracks.specs.Calls.{patterns}
-use Rattle.tracks.proofs.Laid.{Laid, laid-none, laid-room, laid-more, laid-all}
+use Rattle.tracks.proofs.Laid.{Laying, laid-none, laid-room, laid-more, laying-all}
 use Rattle.tracks.proofs.Written.{stored-more, stored-part}
 use Rattle.tracks.proofs.Values.{length-patterns}
 use Rattle.tracks.proofs.write.write_fields.Statement.{statement}
 use Rattle.tracks.proofs.write.write_fields.Tie as tie
 
 abbrev Inv-loop : tie.InvT-loop
-Inv-loop v out₀ start at₀ k₀ k-end out at k = (k ≤ k-end) × (k-end ≡ length (patterns v)) × Laid out₀ start (storedBytes (take k (patterns v))) at out
+Inv-loop v out₀ start at₀ k₀ k-end out at k = Laying out₀ start (λ j. storedBytes (take j (patterns v))) (length v) k at out
 
 abbrev μ-loop : tie.MeasureT-loop
-μ-loop v out₀ start at₀ k₀ k-end out at k = k-end - k
+μ-loop v out₀ start at₀ k₀ k-end out at k = length v - k
 
 loop-holds : tie.Need-loop-holds Inv-loop μ-loop
 unfolding storedBytes flatMap
-loop-holds c = (omega arith, sym (length-patterns (now (c .before .before .args .v))), laid-none)
+loop-holds c = record { turns = omega arith; laid = laid-none }
 
 -- from the bits of a field to the start of the turn and of the call
 abbrev turn : tie.After-bits-at Inv-loop μ-loop → tie.At-loop Inv-loop μ-loop
@@ -38,26 +38,27 @@ bits-of c = patterns (now (start-of c .args .v))
 next : (c : tie.After-bits-at Inv-loop μ-loop) → let k = turn c .loop .k in storedBytes (take (k + 1) (bits-of c)) ≡ storedBytes (take k (bits-of c)) ++ fieldBytes (c .bits-at .result)
 next c =
     let k = turn c .loop .k in
-    stored-more (bits-of c) k (omega arith) ∙ ap (λ (b : ℕ). storedBytes (take k (bits-of c)) ++ fieldBytes b) (sym (c .bits-at .ensures))
+    stored-more (bits-of c) k (omega (arith, length-patterns (now (start-of c .args .v)))) ∙ ap (λ (b : ℕ). storedBytes (take k (bits-of c)) ++ fieldBytes b) (sym (c .bits-at .ensures))
 
 fits : (c : tie.After-bits-at Inv-loop μ-loop) → let x = start-of c .args in x .start + length (storedBytes (take (turn c .loop .k + 1) (bits-of c))) ≤ length (now (x .out))
 fits c = omega (arith, start-of c .pre, stored-part (bits-of c) (turn c .loop .k + 1))
 
 write-field-requires : tie.Need-write-field-requires Inv-loop μ-loop
-write-field-requires c κs = let t = c .before in laid-room (turn t .loop .inv .2) _ (next t) (fits t)
+write-field-requires c κs = let t = c .before in laid-room (turn t .loop .inv .laid) _ (next t) (fits t)
 
 loop-again : tie.Need-loop-again Inv-loop μ-loop
 loop-again c =
     let t = c .before .before .before .before in
-    let inv = turn t .loop .inv in
     let w = c .before .before .write-field .ensures in
-    (omega arith, inv .1, laid-more (inv .2) _ (next t) (fits t) (w .0) (w .1))
+    record { turns = omega arith; laid = laid-more (turn t .loop .inv .laid) _ (next t) (fits t) (w .0) (w .1) }
 
 same-length : tie.Need-same-length Inv-loop μ-loop
-same-length c = c .before .loop .inv .2 .size
+same-length c = c .before .loop .inv .laid .size
 
 returns : tie.Need-returns Inv-loop μ-loop
-returns c = let i = c .before .loop in laid-all (i .inv .2) (ap storedBytes (take-all (i .k) _ (omega (arith, c .loop-test .left, i .inv .1))))
+returns c =
+    let v = now (c .before .before .before .before .args .v) in
+    rw (sym (take-all (length v) (patterns v) (omega (arith, length-patterns v)))) (laying-all (c .before .loop .inv) (c .loop-test .left))
 
 pub write-fields-spec : {M : Type 1} → statement M
 write-fields-spec =

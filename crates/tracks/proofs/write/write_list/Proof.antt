@@ -74,12 +74,13 @@ write-tracks-requires : tie.Need-write-tracks-requires
 write-tracks-requires c κs =
     let t = c .before .before in
     let s = start-of t in
-    let f = c .before .fields .ensures .0 in (
-      omega arith,
-      small t .0,
-      omega (arith, length-patterns (now (s .args .values)), listed t .long, ap (λ (k : ℕ). s .args .n * k) f),
-      simp length-set (omega (arith, room t, ap (λ (k : ℕ). length (records-of s k)) f)),
-    )
+    let f = c .before .fields .ensures .0 in
+    record {
+      small = omega arith;
+      few = small t .0;
+      long = omega (arith, length-patterns (now (s .args .values)), listed t .long, ap (λ (k : ℕ). s .args .n * k) f);
+      room = simp length-set (omega (arith, room t, ap (λ (k : ℕ). length (records-of s k)) f));
+    }
 
 same-length : tie.Need-same-length
 same-length c = c .before .before .write-tracks .kept .1 .1 .1 .0 ∙ simp length-set

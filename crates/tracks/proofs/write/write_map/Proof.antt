@@ -1,33 +1,31 @@
 -- `write_map` meets its contract: before turn b the map's first b bytes are written.
-use mathlib.Core.Path.{_≡_, ap}
-use Prim.Native.Nat.{ℕ, _+_, _-_, _≤_}
+use mathlib.Core.Path.{_≡_}
+use Prim.Native.Nat.{_+_, _-_}
 use native.Mathlib.Nat.{add-zero}
 use native.Mathlib.Omega.{arith}
 use mathlib.Core.List.{[], _∷_, _++_}
 use denote.Ref.{now}
-use lib.ListN.{length}
-use Rattle.tracks.specs.Layout.{mapBytes}
 use Rattle.tracks.specs.Write.{mapByte, mapOf}
 use Rattle.kernel.specs.Lists.{tabulate}
 use Rattle.tracks.specs.Calls.{patterns}
 use Rattle.kernel.proofs.Lists.{length-tabulate, tabulate-more}
-use Rattle.tracks.proofs.Laid.{Laid, laid-none, laid-set, laid-all}
+use Rattle.tracks.proofs.Laid.{Laying, laid-none, laid-set, laying-all}
 use Rattle.tracks.proofs.Values.{length-patterns}
 use Rattle.tracks.proofs.write.write_map.Statement.{statement}
 use Rattle.tracks.proofs.write.write_map.Tie as tie
 
 abbrev Inv-loop : tie.InvT-loop
-Inv-loop v out₀ at n b₀ out b = (b ≤ n) × (n ≡ mapBytes (length v)) × Laid out₀ at (tabulate b (mapByte (patterns v))) (at + b) out
+Inv-loop v out₀ at n b₀ out b = Laying out₀ at (λ k. tabulate k (mapByte (patterns v))) n b (at + b) out
 
 abbrev μ-loop : tie.MeasureT-loop
 μ-loop v out₀ at n b₀ out b = n - b
 
 loop-holds : tie.Need-loop-holds Inv-loop μ-loop
 unfolding tabulate
-loop-holds c = (omega arith, omega arith, rw add-zero laid-none)
+loop-holds c = record { turns = omega arith; laid = rw add-zero laid-none }
 
 slice-write-out : tie.Need-slice-write-out Inv-loop μ-loop
-slice-write-out c = omega (arith, c .before .before .loop .inv .2 .size)
+slice-write-out c = omega (arith, c .before .before .loop .inv .laid .size)
 
 loop-again : tie.Need-loop-again Inv-loop μ-loop
 loop-again c =
@@ -35,20 +33,17 @@ loop-again c =
     let l = c .before .before .loop in
     let p = patterns (now (x .v)) in
     let more : tabulate (l .b + 1) (mapByte p) ≡ tabulate (l .b) (mapByte p) ++ (c .map-byte .result ∷ []) = rw (c .map-byte .ensures) (tabulate-more (l .b) (mapByte p)) in
-    (omega arith, l .inv .1, laid-set (l .inv .2) _ more (omega (arith, length-tabulate (l .b + 1) (mapByte p))) (omega arith))
+    record { turns = omega arith; laid = laid-set (l .inv .laid) _ more (omega (arith, length-tabulate (l .b + 1) (mapByte p))) (omega arith) }
 
 same-length : tie.Need-same-length Inv-loop μ-loop
-same-length c = c .before .loop .inv .2 .size
+same-length c = c .before .loop .inv .laid .size
 
 returns : tie.Need-returns Inv-loop μ-loop
 unfolding mapOf
 returns c =
     let x = c .before .before .before .before .args in
-    let l = c .before .loop in
-    let p = patterns (now (x .v)) in
-    let n : l .b ≡ mapBytes (length p) = omega (arith, length-patterns (now (x .v)), c .loop-test .left) in
-    let all = laid-all (l .inv .2) (ap (λ (k : ℕ). tabulate k (mapByte p)) n) in
-    (omega (arith, all .0), all .1)
+    let all = laying-all (c .before .loop .inv) (c .loop-test .left) in
+    rw (length-patterns (now (x .v))) (omega (arith, all .0), all .1)
 
 pub write-map-spec : {M : Type 1} → statement M
 write-map-spec =
