@@ -18,8 +18,7 @@ use Rattle.dense.specs.declared.Written.{Written}
 use Rattle.dense.specs.declared.Written.the-variants.{Done, Refused}
 use Rattle.dense.proofs.Tests.{and-left, and-right, long-length, two-long}
 use Rattle.pivoting.specs.Solve.{mahalanobis}
-use Rattle.repair.specs.Repair.{Repair, nearestPsd, refusal, afterRepair}
-use Rattle.repair.specs.declared.Repaired.{Repaired}
+use Rattle.repair.specs.Repair.{Repair, nearestPsd, refusal, afterRepair, withoutReport}
 use Rattle.compare.specs.declared.Comparison.{Comparison}
 use Rattle.compare.specs.Distance.{jointCovariance, squaredDistance, placedIf, placedNumber, compared, floorAndGate, comparing, TwoTracks}
 
@@ -65,10 +64,10 @@ room s out floor n e f = rw (eq-eqb (length s) (n * n) e, eq-eqb (length out) (n
 
 -- an answer with the slice that it leaves
 abbrev Told : Type 0
-Told = Repaired × List Float
+Told = Written × List Float
 
 abbrev answer-of : Told → Written
-answer-of z = z .0 .answer
+answer-of z = z .0
 
 abbrev slice-of : Told → List Float
 slice-of z = z .1
@@ -77,13 +76,13 @@ apart : {A : Type 0} {q : ℕ} → Refused q ≡ Done → A
 apart e = absurd (let z : _≡_ {A = ℕ} 0 1 = cc in omega arith)
 
 -- what follows a repair
-module _ (f : List Float → Outcome Float) (old : List Float) {r : Repaired} {new : List Float} where
-  after-refused : (o : Outcome Repair) {q : ℕ} → r .answer ≡ Refused q → _≡_ {A = Told} (r, new) (afterRepair o old) → number.Refused q ≡ given (andThen o (λ p. f (p .rebuilt)))
+module _ (f : List Float → Outcome Float) (old : List Float) {r : Written} {new : List Float} where
+  after-refused : (o : Outcome Repair) {q : ℕ} → r ≡ Refused q → _≡_ {A = Told} (r, new) (withoutReport (afterRepair o old)) → number.Refused q ≡ given (andThen o (λ p. f (p .rebuilt)))
   unfolding refusal
   after-refused (refused k) a e = let b = ap answer-of e in cc
   after-refused (answered p) a e = apart (sym a ∙ ap answer-of e)
 
-  after-done : (o : Outcome Repair) {d : Number} → r .answer ≡ Done → _≡_ {A = Told} (r, new) (afterRepair o old) → d ≡ given (f new) → d ≡ given (andThen o (λ p. f (p .rebuilt)))
+  after-done : (o : Outcome Repair) {d : Number} → r ≡ Done → _≡_ {A = Told} (r, new) (withoutReport (afterRepair o old)) → d ≡ given (f new) → d ≡ given (andThen o (λ p. f (p .rebuilt)))
   unfolding refusal
   after-done (refused k) a e g = apart (sym (ap answer-of e) ∙ a)
   after-done (answered p) a e g = g ∙ ap (λ (l : List Float). given (f l)) (ap slice-of e)
@@ -98,12 +97,12 @@ module _ (mu x p-i p-j s out : List Float) (n : ℕ) (floor : Float) (sum : s �
       ∙ ap (λ (l : List Float). andThen (nearestPsd l floor n l) (λ p. mahalanobis x mu (p .rebuilt) n)) sum
 
   -- the repair was answered so
-  abbrev Repairs : Repaired → List Float → Type 0
-  Repairs r new = _≡_ {A = Told} (r, new) (afterRepair (nearestPsd s floor n out) out)
+  abbrev Repairs : Written → List Float → Type 0
+  Repairs r new = _≡_ {A = Told} (r, new) (withoutReport (afterRepair (nearestPsd s floor n out) out))
 
-  pub distance-refused : {r : Repaired} {new : List Float} {q : ℕ} → r .answer ≡ Refused q → Repairs r new → number.Refused q ≡ given (squaredDistance mu x p-i p-j n floor)
+  pub distance-refused : {r : Written} {new : List Float} {q : ℕ} → r ≡ Refused q → Repairs r new → number.Refused q ≡ given (squaredDistance mu x p-i p-j n floor)
   distance-refused a t = after-refused (λ cov. mahalanobis x mu cov n) out (nearestPsd s floor n out) a t ∙ ap given outcome
 
-  pub distance-done : {r : Repaired} {new : List Float} {d : Number} → r .answer ≡ Done → Repairs r new → d ≡ given (mahalanobis x mu new n)
+  pub distance-done : {r : Written} {new : List Float} {d : Number} → r ≡ Done → Repairs r new → d ≡ given (mahalanobis x mu new n)
       → d ≡ given (squaredDistance mu x p-i p-j n floor)
   distance-done a t g = after-done (λ cov. mahalanobis x mu cov n) out (nearestPsd s floor n out) a t g ∙ ap given outcome

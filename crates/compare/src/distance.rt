@@ -10,7 +10,7 @@ ghost use Rattle.compare.specs.Distance.{squaredDistance, TwoTracks};
 use dense::Number;
 use dense::Written;
 use pivoting::generic::mahalanobis_distance_squared;
-use repair::regularize::nearest_psd;
+use repair::regularize::repair_only;
 
 // Writes the sums of the entries of p and q.
 fn sums(p: &[f64], q: &[f64], n: usize, y: &mut [f64])
@@ -38,8 +38,7 @@ fn distance_in(
     ensures { λ d. ⌜ d ≡ given (squaredDistance (now (mu .entry)) (now (x .entry)) (now (p .entry)) (now (q .entry)) n floor) ⌝ }
 {
     sums(p, q, n * n, s);
-    let repaired = nearest_psd(s, floor, n, r);
-    let answer = repaired.answer;
+    let answer = repair_only(s, floor, n, r);
     match answer {
         Written::Refused(question) => Number::Refused(question),
         Written::Done => mahalanobis_distance_squared(x, mu, r, n),

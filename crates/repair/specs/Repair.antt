@@ -9,6 +9,7 @@ use Rattle.kernel.specs.Answer.{Outcome, refused, answered, ask, through}
 use Rattle.kernel.specs.Constants.{nought}
 use Rattle.kernel.specs.Lists.{tabulate}
 use Rattle.dense.specs.Matrix.{total, sumFrom, nth, at, matrix, side, long, finiteEntries}
+use Rattle.dense.specs.declared.Written.{Written}
 use Rattle.dense.specs.declared.Written.the-variants as written
 use Rattle.eigen.specs.Eigen.{Eigenpairs, eigenpairs}
 use Rattle.repair.specs.declared.RegularizationReport.{RegularizationReport}
@@ -102,3 +103,7 @@ reported t = record { answer = written.Done; report = t }
 abbrev pub afterRepair : Outcome Repair → List Float → Repaired × List Float
 afterRepair (refused q) old = (refusal q, old)
 afterRepair (answered r) old = (reported (r .report), r .rebuilt)
+
+-- The same where no report is wanted.
+abbrev pub withoutReport : Repaired × List Float → Written × List Float
+withoutReport z = (z .0 .answer, z .1)

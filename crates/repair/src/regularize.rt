@@ -3,7 +3,7 @@ ghost use mathlib.Core.Path.{_≡_};
 ghost use Prim.Native.Nat.{_*_, _≤_};
 ghost use lib.ListN.{length};
 ghost use Rattle.repair.specs.Mending.{Mending};
-ghost use Rattle.repair.specs.Repair.{repair, nearestPsd, afterRepair};
+ghost use Rattle.repair.specs.Repair.{repair, nearestPsd, afterRepair, withoutReport};
 use crate::Repaired;
 use crate::answer::done;
 use crate::answer::refused;
@@ -84,6 +84,9 @@ fn repair(cov: &[f64], floor: f64, n: usize, out: &mut [f64]) -> Repaired
 fn asked_repair(cov: &[f64], floor: f64, n: usize, out: &mut [f64]) -> Repaired
     ensures { λ r. ⌜ (r, now (out .exit)) ≡ afterRepair (nearestPsd (now (cov .entry)) floor n (now (out .entry))) (now (out .entry)) ⌝ }
 {
+    if n == 1 {
+        return single_repair(cov, floor, out);
+    }
     if !is_side(n) {
         return refused(SIDE);
     }
@@ -95,6 +98,14 @@ fn asked_repair(cov: &[f64], floor: f64, n: usize, out: &mut [f64]) -> Repaired
         return refused(FINITE_ENTRIES);
     }
     repair(cov, floor, n, out)
+}
+
+// The repair of cov, n by n, into out, for a caller that wants no report.
+pub fn repair_only(cov: &[f64], min_eig: f64, n: usize, out: &mut [f64]) -> Written
+    ensures { λ r. ⌜ (r, now (out .exit)) ≡ withoutReport (afterRepair (nearestPsd (now (cov .entry)) «min_eig» n (now (out .entry))) (now (out .entry))) ⌝ }
+{
+    let repaired = asked_repair(cov, min_eig, n, out);
+    repaired.answer
 }
 
 // The matrix nearest to cov, n by n, whose eigenvalues are not below min_eig, into out. Only one entry is repaired here: so little code
