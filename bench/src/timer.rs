@@ -20,7 +20,10 @@ fn run_time() -> f64 {
     time.seconds as f64 * 1e9 + time.nanoseconds as f64
 }
 
+/// So many rounds at least, and so many nanoseconds in all: a round of short calls takes some microseconds, and a processor that
+/// has just begun to work is slow for longer than that.
 const ROUNDS: usize = 15;
+const LEAST: f64 = 2e8;
 
 /// Nanoseconds of one call, where a round makes `calls` of them: ours and theirs in turn, and the best round of each.
 pub fn best(calls: usize, mut ours: impl FnMut(), mut theirs: impl FnMut()) -> (f64, f64) {
@@ -30,7 +33,11 @@ pub fn best(calls: usize, mut ours: impl FnMut(), mut theirs: impl FnMut()) -> (
         (run_time() - start) / calls as f64
     };
     let mut least = (f64::MAX, f64::MAX);
-    for _ in 0..ROUNDS {
+    let start = run_time();
+    for round in 0.. {
+        if ROUNDS <= round && LEAST <= run_time() - start {
+            break;
+        }
         least.0 = least.0.min(timed(&mut ours));
         least.1 = least.1.min(timed(&mut theirs));
     }
