@@ -2,7 +2,7 @@
 -- refusals. `quadratic-turned`: a quadratic form is the same under differences that are turned round.
 use Prim.Native.Nat.{ℕ, zero, suc, _*_, _<_}
 use native.Mathlib.Omega.{arith}
-use mathlib.Core.Bool.{Bool, true, false, _&&_}
+use mathlib.Core.Bool.{Bool, true, false, _&&_, and-comm}
 use mathlib.Core.List.{List}
 use mathlib.Core.Logic.{inl, inr}
 use mathlib.Core.Path.{_≡_, refl, ap, _∙_}
@@ -77,12 +77,6 @@ and-swap true false c = refl
 and-swap false true c = refl
 and-swap false false c = refl
 
-and-turn : (a b : Bool) → (a && b) ≡ (b && a)
-and-turn true true = refl
-and-turn true false = refl
-and-turn false true = refl
-and-turn false false = refl
-
 module _ (x mu : List Float) (n : ℕ) where
   turned : (i : ℕ) → i < n → Opposite (nth (difference x mu n) i) (nth (difference mu x n) i)
   turned i h = rw (nth-tabulate n (λ k. sub (nth x k) (nth mu k)) i h, nth-tabulate n (λ k. sub (nth mu k) (nth x k)) i h) (sub-opposite (nth x i) (nth mu i))
@@ -110,7 +104,7 @@ module _ (mu x p q : List Float) (n : ℕ) (floor gate : Float) where
   unfolding comparing
   comparing-turned =
       ap (λ (b : Bool). ask 1 (side n) (ask 2 b (ask 18 (floorAndGate floor gate) (answered (compared mu x p q n floor gate)))))
-      (and-swap (long mu n) (long x n) (long p (n * n) && long q (n * n)) ∙ ap (λ (b : Bool). long x n && (long mu n && b)) (and-turn (long p (n * n)) (long q (n * n))))
+      (and-swap (long mu n) (long x n) (long p (n * n) && long q (n * n)) ∙ ap (λ (b : Bool). long x n && (long mu n && b)) (and-comm (long p (n * n)) (long q (n * n))))
       ∙ ap
       (λ (c : Comparison). ask 1 (side n) (ask 2 (long x n && (long mu n && (long q (n * n) && long p (n * n)))) (ask 18 (floorAndGate floor gate) (answered c))))
       compared-turned

@@ -3,7 +3,7 @@ use Prim.Native.Nat.{ℕ, zero, suc, _+_, _<_}
 use native.Mathlib.Omega.{arith}
 use native.Mathlib.Numerals.{add-one}
 use native.Mathlib.Nat.{eq-or-lt-of-le, le-of-suc-le-suc}
-use mathlib.Core.Bool.{Bool, true, false, _&&_}
+use mathlib.Core.Bool.{Bool, true, false, _&&_, and-false}
 use mathlib.Core.List.{List}
 use mathlib.Core.Logic.{⊎-elim}
 use mathlib.Core.Path.{_≡_, refl, ap, _∙_}
@@ -15,10 +15,6 @@ use Rattle.dense.proofs.Tests.{and-left, and-right}
 pub finite-more : (a : List Float) (l : ℕ) → finiteEntries a l ≡ true → finite (nth a l) ≡ true → finiteEntries a (l + 1) ≡ true
 unfolding finiteEntries
 finite-more a l p q = rw (add-one, p, q)
-
-and-false : (b : Bool) → (b && false) ≡ false
-and-false true = refl
-and-false false = refl
 
 pub finite-never : (a : List Float) (n j : ℕ) → j < n → finite (nth a j) ≡ false → finiteEntries a n ≡ false
 unfolding finiteEntries

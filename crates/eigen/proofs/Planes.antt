@@ -1,6 +1,6 @@
 -- Order 2. `plane-begun` and `plane-tolerance`: where the sweeps start. `plane-rotated`: what a rotation makes of the seven numbers, and
 -- `plane-sweep`: a sweep is one. `plane-stops`: the test is on one square. `plane-pairs`: what is answered, and
--- `plane-answers`: what all steps together answer.
+-- `plane-settles` and `plane-answers`: what all steps together leave and answer.
 use native.Mathlib.Omega.{arith}
 use mathlib.Core.Bool.{Bool, true, false, cond, _&&_, and-comm}
 use mathlib.Core.List.{List, [], _∷_}
@@ -15,11 +15,11 @@ use Rattle.kernel.specs.Number.{add, mul, max, finite}
 use Rattle.dense.specs.Matrix.{sumFrom, nth, matrix, finiteEntries}
 use Rattle.eigen.specs.declared.Plane.{Plane}
 use Rattle.eigen.specs.declared.Rotation.{Rotation}
-use Rattle.eigen.specs.Pair.{planeState, turnedPlane, exchanged, descended, shownBy, planePairs}
+use Rattle.eigen.specs.Pair.{planeState, planeOf, turnedPlane, exchanged, descended, settledPlane, shownBy, planePairs}
 use Rattle.eigen.specs.Rotation.{State, state, negligible, rotation, turned, cornerEntry, turnedEntry, turnedVector, turnedBy, rotated}
 use Rattle.eigen.specs.Eigen.{symmetrizedEntry, begun, aboveRows, tolerance, stops, sweptRow, sweptRows, sweep}
 use Rattle.eigen.specs.Eigen.{spot, insertedAt, order, arranged, pairsOf, settled, eigenpairs}
-use Rattle.eigen.proofs.Answered.{eigenpairs-final}
+use Rattle.eigen.proofs.Answered.{final, eigenpairs-final}
 
 pub plane-begun : (w x y z : Float)
     → begun (w ∷ x ∷ y ∷ z ∷ []) 2 ≡ state (w ∷ mul half (add x y) ∷ mul half (add x y) ∷ z ∷ []) (one ∷ nought ∷ nought ∷ one ∷ [])
@@ -62,12 +62,17 @@ pub plane-pairs : (s : Plane) → pairsOf 2 (planeState s) ≡ planePairs (desce
 unfolding pairsOf finiteEntries tabulate order spot insertedAt firstBelow descended
 plane-pairs s = in-order s (lt (s .app) (s .aqq))
 
-pub plane-answers : (w x y z : Float) {b p : Plane} → planeState b ≡ begun (w ∷ x ∷ y ∷ z ∷ []) 2 → planeState p ≡ settled 2 (tolerance (planeState b .entries) 2) (planeState b)
-    → planePairs (descended p) ≡ eigenpairs (w ∷ x ∷ y ∷ z ∷ []) 2
-plane-answers w x y z {b} {p} e f =
-    sym (plane-pairs p)
-    ∙ ap (pairsOf 2) (f ∙ ap (λ (s : State). settled 2 (tolerance (s .entries) 2) s) e)
-    ∙ sym (eigenpairs-final (w ∷ x ∷ y ∷ z ∷ []) 2)
+-- b is the plane of the matrix, and p what is left of it once it has settled
+module _ (w x y z : Float) {b p : Plane} (e : planeState b ≡ begun (w ∷ x ∷ y ∷ z ∷ []) 2) (f : planeState p ≡ settled 2 (tolerance (planeState b .entries) 2) (planeState b)) where
+  settles : planeState p ≡ final (w ∷ x ∷ y ∷ z ∷ []) 2
+  settles = f ∙ ap (λ (s : State). settled 2 (tolerance (s .entries) 2) s) e
+
+  pub plane-settles : descended p ≡ settledPlane w x y z
+  unfolding settledPlane
+  plane-settles = ap (λ (s : State). descended (planeOf s)) settles
+
+  pub plane-answers : planePairs (descended p) ≡ eigenpairs (w ∷ x ∷ y ∷ z ∷ []) 2
+  plane-answers = sym (plane-pairs p) ∙ ap (pairsOf 2) settles ∙ sym (eigenpairs-final (w ∷ x ∷ y ∷ z ∷ []) 2)
 
 -- ---- a short slice
 

@@ -1,5 +1,5 @@
 -- A matrix of one entry: its sweeps have no pair to rotate (`single-after`), so its eigenvalue is the entry and its vector 1.0 (`single-eigenpairs`).
-use Prim.Native.Nat.{ℕ, zero, suc, _*_}
+use Prim.Native.Nat.{ℕ, zero, suc}
 use mathlib.Core.List.{List, [], _∷_}
 use mathlib.Core.Path.{_≡_, refl, ap, _∙_}
 use native.Mathlib.Omega.{arith}
@@ -43,6 +43,3 @@ pub single-list : (l : List Float) → length l ≡ 1 → l ≡ nth l 0 ∷ []
 single-list [] e = absurd (omega arith)
 single-list (y ∷ []) e = refl
 single-list (y ∷ z ∷ l) e = absurd (omega arith)
-
-pub same-square : {n k : ℕ} → n ≡ k → n * n ≡ k * k
-same-square e = ap (λ (i : ℕ). i * i) e

@@ -3,7 +3,7 @@ ghost use mathlib.Core.Path.{_≡_};
 ghost use mathlib.Core.List.{[], _∷_};
 ghost use lib.ListN.{length};
 ghost use Rattle.eigen.specs.Eigen.{begun, tolerance, settled, eigenpairs, afterPairs};
-ghost use Rattle.eigen.specs.Pair.{planeState, turnedPlane, descended, planePairs};
+ghost use Rattle.eigen.specs.Pair.{planeState, turnedPlane, descended, settledPlane, planePairs};
 ghost use Rattle.eigen.specs.Room.{Lent};
 ghost use Rattle.eigen.specs.Rotation.{rotated};
 use crate::Plane;
@@ -99,8 +99,10 @@ fn descend(s: Plane) -> Plane
     s
 }
 
-// The eigenpairs of the matrix with the rows w, x and y, z; where its diagonal is not finite, question 4 is not met.
+// The settled plane of the matrix with the rows w, x and y, z. It shows the eigenpairs, or by an app or aqq that is not finite that
+// question 4 is not met.
 pub fn eigenplane(w: f64, x: f64, y: f64, z: f64) -> Plane
+    ensures { λ r. ⌜ r ≡ settledPlane w x y z ⌝ }
     ensures { λ r. ⌜ planePairs r ≡ eigenpairs (w ∷ x ∷ y ∷ z ∷ []) 2 ⌝ }
 {
     let s = begin(w, x, y, z);

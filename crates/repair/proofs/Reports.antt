@@ -1,6 +1,6 @@
 -- A floor that is a NaN, or -infinity, clips nothing: `nan-clips-none` and `infinity-clips-none`.
 use Prim.Native.Nat.{ℕ, zero, suc}
-use mathlib.Core.Bool.{Bool, true, false, _&&_}
+use mathlib.Core.Bool.{Bool, true, false, _&&_, and-false}
 use mathlib.Core.List.{List}
 use mathlib.Core.Path.{_≡_, refl, sym, ap, _∙_}
 use lib.Dec.{ltb}
@@ -12,10 +12,6 @@ use Rattle.dense.specs.Matrix.{nth, matrix}
 use Rattle.eigen.specs.Eigen.{Eigenpairs}
 use Rattle.repair.specs.Repair.{clips, raised, clipCount, greaterClip, largestClip, clipMask, reportOf, blank, rebuiltEntry, repairOf}
 use Rattle.repair.proofs.Clips.{told}
-
-and-false : (b : Bool) → (b && false) ≡ false
-and-false true = refl
-and-false false = refl
 
 pub mask-is : (e : List Float) (floor : Float) (n : ℕ) → clipMask e floor n ≡ tabulate 16 (λ k. ltb k n && clips floor (nth e k))
 unfolding clipMask

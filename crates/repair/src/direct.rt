@@ -4,6 +4,7 @@ ghost use mathlib.Core.List.{[], _∷_};
 ghost use lib.ListN.{length};
 ghost use Rattle.dense.specs.Matrix.{matrix};
 ghost use Rattle.eigen.specs.Pair.{shownBy};
+ghost use Rattle.repair.specs.Room.{Mending};
 ghost use Rattle.repair.specs.Repair.{rebuiltEntry, reportOf, repair, nearestPsd, afterRepair};
 use crate::RegularizationReport;
 use crate::Repaired;
@@ -65,7 +66,7 @@ fn rebuild_plane(p: Plane, e: f64, f: f64, out: &mut [f64])
 
 // Questions 1, 2 and 3 are met: question 4, and then the repair of cov, 2 by 2.
 pub(crate) fn plane_repair(cov: &[f64], floor: f64, out: &mut [f64]) -> Repaired
-    requires { ⌜ (length (now cov) ≡ 4) × (length (now out) ≡ 4) ⌝ }
+    requires { ⌜ Mending 2 (now cov) (now out) ⌝ }
     ensures { λ r. ⌜ (r, now (out .exit)) ≡ afterRepair (repair (now (cov .entry)) floor 2) (now (out .entry)) ⌝ }
 {
     let p = eigenplane(cov[0], cov[1], cov[2], cov[3]);

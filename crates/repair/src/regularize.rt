@@ -2,7 +2,7 @@
 ghost use mathlib.Core.Path.{_≡_};
 ghost use Prim.Native.Nat.{_*_, _≤_};
 ghost use lib.ListN.{length};
-ghost use Rattle.repair.specs.Mending.{Mending};
+ghost use Rattle.repair.specs.Room.{Mending};
 ghost use Rattle.repair.specs.Repair.{repair, nearestPsd, afterRepair, withoutReport};
 use crate::Repaired;
 use crate::answer::done;
@@ -80,7 +80,7 @@ fn repair(cov: &[f64], floor: f64, n: usize, out: &mut [f64]) -> Repaired
     large_repair(cov, floor, n, out)
 }
 
-// All questions, and then the repair.
+// All questions, and then the repair, for callers of any order.
 fn asked_repair(cov: &[f64], floor: f64, n: usize, out: &mut [f64]) -> Repaired
     ensures { λ r. ⌜ (r, now (out .exit)) ≡ afterRepair (nearestPsd (now (cov .entry)) floor n (now (out .entry))) (now (out .entry)) ⌝ }
 {
@@ -108,8 +108,8 @@ pub fn repair_only(cov: &[f64], min_eig: f64, n: usize, out: &mut [f64]) -> Writ
     repaired.answer
 }
 
-// The matrix nearest to cov, n by n, whose eigenvalues are not below min_eig, into out. Only one entry is repaired here: so little code
-// that a compiler can put it where it is called, which halves the time of that call.
+// The matrix nearest to cov, n by n, whose eigenvalues are not below min_eig, into out. One entry is repaired here: that is so little code
+// that a compiler puts it where the call is made, and no report goes through memory.
 pub fn nearest_psd(cov: &[f64], min_eig: f64, n: usize, out: &mut [f64]) -> Repaired
     ensures { λ r. ⌜ (r, now (out .exit)) ≡ afterRepair (nearestPsd (now (cov .entry)) «min_eig» n (now (out .entry))) (now (out .entry)) ⌝ }
 {

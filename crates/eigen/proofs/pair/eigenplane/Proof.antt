@@ -1,22 +1,30 @@
--- `eigenplane` meets its contract, by `plane-answers`.
+-- `eigenplane` meets its contract, by `plane-settles` and `plane-answers`.
 use borrow.Author.Needs.{needs}
-use mathlib.Core.Path.{ap, _∙_}
+use mathlib.Core.Path.{_≡_, ap, _∙_}
 use lib.Ieee.{Float}
-use Rattle.eigen.specs.Eigen.{settled}
+use Rattle.eigen.specs.Eigen.{tolerance, settled}
 use Rattle.eigen.specs.Pair.{planeState, planePairs}
-use Rattle.eigen.proofs.Planes.{plane-answers}
+use Rattle.eigen.proofs.Planes.{plane-settles, plane-answers}
 use Rattle.eigen.proofs.pair.eigenplane.Statement.{statement}
 use Rattle.eigen.proofs.pair.eigenplane.Tie as tie
 
+-- the place where the plane begins, and what is left of it
+abbrev begins : tie.After-descend → tie.After-begin
+begins c = c .before .before .before
+
+left : (c : tie.After-descend)
+    → let b = planeState (begins c .begin .result) in planeState (c .before .settle-plane .result) ≡ settled 2 (tolerance (b .entries) 2) b
+left c =
+    c .before .settle-plane .ensures
+    ∙ ap (λ (t : Float). settled 2 t (planeState (begins c .begin .result))) (c .before .before .plane-tolerance .ensures)
+
 returns : tie.Need-returns
 returns c =
-    let settles = c .before in
-    let measured = settles .before in
-    let begins = measured .before in
-    let x = begins .before .args in
-    ap planePairs (c .descend .ensures)
-    ∙ plane-answers (x .w) (x .x) (x .y) (x .z) (begins .begin .ensures)
-    (settles .settle-plane .ensures ∙ ap (λ (t : Float). settled 2 t (planeState (begins .begin .result))) (measured .plane-tolerance .ensures))
+    let x = begins c .before .args in
+    let start = begins c .begin .ensures in (
+      c .descend .ensures ∙ plane-settles (x .w) (x .x) (x .y) (x .z) start (left c),
+      ap planePairs (c .descend .ensures) ∙ plane-answers (x .w) (x .x) (x .y) (x .z) start (left c),
+    )
 
 pub eigenplane-spec : {M : Type 1} → statement M
 eigenplane-spec = tie.close (tie.spec (λ c κs. search needs) (λ c κs. search needs) (λ c κs. search needs) (λ c κs. search needs) returns)

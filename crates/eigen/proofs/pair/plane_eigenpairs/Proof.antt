@@ -17,7 +17,7 @@ returns c =
     let x = start .args in
     written .write-plane .ensures
     ∙ ap (λ (o : Outcome Eigenpairs). afterPairs o (x .values .now) (x .vectors .now))
-    (call .eigenplane .ensures ∙ ap (λ (l : List Float). eigenpairs l 2) (sym (four-list (x .a .now) (start .pre .matrix-size))))
+    (call .eigenplane .ensures .1 ∙ ap (λ (l : List Float). eigenpairs l 2) (sym (four-list (x .a .now) (start .pre .matrix-size))))
 
 pub plane-eigenpairs-spec : {M : Type 1} → statement M
 plane-eigenpairs-spec =

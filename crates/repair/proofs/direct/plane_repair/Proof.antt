@@ -22,7 +22,7 @@ first c = c .before .before
 paired : (c : tie.After-eigenplane) → planePairs (c .eigenplane .result) ≡ eigenpairs (entered c .args .cov .now) 2
 paired c =
     let start = entered c in
-    c .eigenplane .ensures ∙ ap (λ (l : List Float). eigenpairs l 2) (sym (four-list (start .args .cov .now) (start .pre .0)))
+    c .eigenplane .ensures .1 ∙ ap (λ (l : List Float). eigenpairs l 2) (sym (four-list (start .args .cov .now) (start .pre .matrix-size)))
 
 returns : tie.Need-returns
 returns c =
