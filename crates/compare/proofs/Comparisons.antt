@@ -11,7 +11,7 @@ use lib.Ieee.{Float}
 use lib.ListN.{length}
 use Rattle.kernel.specs.Answer.{Outcome, refused, answered, andThen}
 use Rattle.dense.specs.Answer.{given}
-use Rattle.dense.specs.Matrix.{side, long}
+use Rattle.dense.specs.Matrix.{isSide, hasLength}
 use Rattle.dense.specs.declared.Number.{Number}
 use Rattle.dense.specs.declared.Number.the-variants as number
 use Rattle.dense.specs.declared.Written.{Written}
@@ -23,26 +23,26 @@ use Rattle.compare.specs.declared.Comparison.{Comparison}
 use Rattle.compare.specs.Distance.{jointCovariance, squaredDistance, placedIf, placedNumber, compared, floorAndGate, comparing, TwoTracks}
 
 module _ (mu x p-i p-j : List Float) (n : ℕ) where
-  pub two-tracks : side n ≡ true → (long mu n && (long x n && (long p-i (n * n) && long p-j (n * n)))) ≡ true → TwoTracks mu x p-i p-j n
+  pub two-tracks : isSide n ≡ true → (hasLength mu n && (hasLength x n && (hasLength p-i (n * n) && hasLength p-j (n * n)))) ≡ true → TwoTracks mu x p-i p-j n
   two-tracks s e =
-      let rest = and-right (long mu n) _ e in
-      let squares = two-long p-i p-j (n * n) (n * n) (and-right (long x n) _ rest) in
+      let rest = and-right (hasLength mu n) _ e in
+      let squares = two-long p-i p-j (n * n) (n * n) (and-right (hasLength x n) _ rest) in
       record {
         sided = s;
-        state-i = long-length mu n (and-left (long mu n) _ e);
-        state-j = long-length x n (and-left (long x n) _ rest);
+        state-i = long-length mu n (and-left (hasLength mu n) _ e);
+        state-j = long-length x n (and-left (hasLength x n) _ rest);
         covariance-i = squares .0;
         covariance-j = squares .1;
       }
 
-  pub comparing-met : (floor gate : Float) → side n ≡ true → (long mu n && (long x n && (long p-i (n * n) && long p-j (n * n)))) ≡ true → floorAndGate floor gate ≡ true
+  pub comparing-met : (floor gate : Float) → isSide n ≡ true → (hasLength mu n && (hasLength x n && (hasLength p-i (n * n) && hasLength p-j (n * n)))) ≡ true → floorAndGate floor gate ≡ true
       → comparing mu x p-i p-j n floor gate ≡ answered (compared mu x p-i p-j n floor gate)
   unfolding comparing
   comparing-met floor gate s e f = rw (s, e, f)
 
   -- the same for a caller that knows the lengths
   pub tracks-compared : (floor gate : Float) → TwoTracks mu x p-i p-j n → floorAndGate floor gate ≡ true → comparing mu x p-i p-j n floor gate ≡ answered (compared mu x p-i p-j n floor gate)
-  unfolding long
+  unfolding hasLength
   tracks-compared floor gate t f =
       comparing-met floor gate (t .sided)
       (rw (eq-eqb (length mu) n (t .state-i), eq-eqb (length x) n (t .state-j), eq-eqb (length p-i) (n * n) (t .covariance-i), eq-eqb (length p-j) (n * n) (t .covariance-j))) f
@@ -59,7 +59,7 @@ placed-compared mu x p-i p-j n floor gate e f = f ∙ ap (λ (d : Number). place
 
 -- of the room for the repair only its length counts
 room : (s out : List Float) (floor : Float) (n : ℕ) → length s ≡ n * n → length out ≡ n * n → nearestPsd s floor n out ≡ nearestPsd s floor n s
-unfolding nearestPsd long
+unfolding nearestPsd hasLength
 room s out floor n e f = rw (eq-eqb (length s) (n * n) e, eq-eqb (length out) (n * n) f)
 
 -- an answer with the slice that it leaves

@@ -12,7 +12,7 @@ use Rattle.kernel.specs.Answer.{Outcome, answered}
 use Rattle.dense.specs.declared.Written.{Written}
 use Rattle.dense.specs.declared.Written.the-variants.{Done}
 use Rattle.dense.specs.Answer.{after, Leaves}
-use Rattle.dense.specs.Matrix.{side, long}
+use Rattle.dense.specs.Matrix.{isSide, hasLength}
 use Rattle.tracks.specs.Layout.{fields}
 use Rattle.compare.specs.Fields.{lowerField, trackCovariance, wholeCovariance}
 
@@ -27,9 +27,9 @@ pub row-product : (d i : ℕ) → i ≤ d → d ≤ 16 → i * (i + 1) ≤ 272
 row-product d i h k = let a : i ≤ 16 = omega arith in let b : i + 1 ≤ 17 = omega arith in omega (arith, mul-le-mul a b)
 
 -- a caller that knows the lengths is never refused
-module _ (v out : List Float) (d : ℕ) (s : side d ≡ true) (h : fields d ≤ length v) (e : length out ≡ d * d) where
+module _ (v out : List Float) (d : ℕ) (s : isSide d ≡ true) (h : fields d ≤ length v) (e : length out ≡ d * d) where
   outcome : wholeCovariance v d out ≡ answered (trackCovariance d v)
-  unfolding wholeCovariance long
+  unfolding wholeCovariance hasLength
   outcome = rw (s, le-leb (fields d) (length v) h, eq-eqb (length out) (d * d) e)
 
   pub whole-met : {r : Written} {new : List Float} → Leaves (wholeCovariance v d out) out r new → (r ≡ Done) × (new ≡ trackCovariance d v)

@@ -12,7 +12,7 @@ use lib.Ieee.Fits.{add-fits, mul-fits}
 use Rattle.kernel.specs.Answer.{Outcome, refused, answered, ask, andThen, through}
 use Rattle.kernel.specs.Constants.{nought}
 use Rattle.kernel.specs.Number.{add, sub, mul}
-use Rattle.dense.specs.Matrix.{sumFrom, sumRowsFrom, nth, at, identity, side, long}
+use Rattle.dense.specs.Matrix.{sumFrom, sumRowsFrom, nth, at, identity, isSide, hasLength}
 use Rattle.dense.proofs.Laws.{nth-tabulate}
 use Rattle.linalg.specs.Sums.{difference, quadraticForm}
 use Rattle.pivoting.specs.Solve.{solved, distance, mahalanobis}
@@ -87,7 +87,7 @@ module _ (x mu : List Float) (n : ℕ) where
 
   pub mahalanobis-turned : (cov : List Float) → mahalanobis x mu cov n ≡ mahalanobis mu x cov n
   unfolding mahalanobis
-  mahalanobis-turned cov = rw (and-swap (long x n) (long mu n) (long cov (n * n)), distance-turned cov)
+  mahalanobis-turned cov = rw (and-swap (hasLength x n) (hasLength mu n) (hasLength cov (n * n)), distance-turned cov)
 
 module _ (mu x p q : List Float) (n : ℕ) (floor gate : Float) where
   squared-turned : squaredDistance mu x p q n floor ≡ squaredDistance x mu q p n floor
@@ -103,8 +103,8 @@ module _ (mu x p q : List Float) (n : ℕ) (floor gate : Float) where
   pub comparing-turned : comparing mu x p q n floor gate ≡ comparing x mu q p n floor gate
   unfolding comparing
   comparing-turned =
-      ap (λ (b : Bool). ask 1 (side n) (ask 2 b (ask 18 (floorAndGate floor gate) (answered (compared mu x p q n floor gate)))))
-      (and-swap (long mu n) (long x n) (long p (n * n) && long q (n * n)) ∙ ap (λ (b : Bool). long x n && (long mu n && b)) (and-comm (long p (n * n)) (long q (n * n))))
+      ap (λ (b : Bool). ask 1 (isSide n) (ask 2 b (ask 18 (floorAndGate floor gate) (answered (compared mu x p q n floor gate)))))
+      (and-swap (hasLength mu n) (hasLength x n) (hasLength p (n * n) && hasLength q (n * n)) ∙ ap (λ (b : Bool). hasLength x n && (hasLength mu n && b)) (and-comm (hasLength p (n * n)) (hasLength q (n * n))))
       ∙ ap
-      (λ (c : Comparison). ask 1 (side n) (ask 2 (long x n && (long mu n && (long q (n * n) && long p (n * n)))) (ask 18 (floorAndGate floor gate) (answered c))))
+      (λ (c : Comparison). ask 1 (isSide n) (ask 2 (hasLength x n && (hasLength mu n && (hasLength q (n * n) && hasLength p (n * n)))) (ask 18 (floorAndGate floor gate) (answered c))))
       compared-turned

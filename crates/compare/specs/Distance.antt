@@ -8,7 +8,7 @@ use lib.Ieee.{Float, lt, le}
 use Rattle.kernel.specs.Number.{add, finite}
 use Rattle.kernel.specs.Answer.{Outcome, refused, answered, ask, andThen}
 use Rattle.kernel.specs.Constants.{nought}
-use Rattle.dense.specs.Matrix.{at, matrix, side, long}
+use Rattle.dense.specs.Matrix.{at, matrix, isSide, hasLength}
 use Rattle.dense.specs.declared.Number.{Number}
 use Rattle.dense.specs.declared.Number.the-variants as number
 use Rattle.pivoting.specs.Solve.{mahalanobis}
@@ -54,10 +54,10 @@ floorAndGate floor gate = finite floor && (lt nought floor && (finite gate && le
 
 -- The comparison as a call of its own.
 unfoldable pub comparing : List Float → List Float → List Float → List Float → ℕ → Float → Float → Outcome Comparison
-unfolding compared side long floorAndGate
+unfolding compared isSide hasLength floorAndGate
 comparing mu x p-i p-j n floor gate =
-    ask 1 (side n)
-    (ask 2 (long mu n && (long x n && (long p-i (n * n) && long p-j (n * n))))
+    ask 1 (isSide n)
+    (ask 2 (hasLength mu n && (hasLength x n && (hasLength p-i (n * n) && hasLength p-j (n * n))))
     (ask 18 (floorAndGate floor gate)
     (answered (compared mu x p-i p-j n floor gate))))
 
@@ -68,7 +68,7 @@ compareAnswer (answered c) = told.Answered c
 
 -- That the questions on the sides and lengths of two tracks are met.
 pub record TwoTracks (mu x p-i p-j : List Float) (n : ℕ) : Type 0 where
-  pub sided : side n ≡ true
+  pub sided : isSide n ≡ true
   pub state-i : length mu ≡ n
   pub state-j : length x ≡ n
   pub covariance-i : length p-i ≡ n * n

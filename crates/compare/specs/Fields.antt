@@ -7,7 +7,7 @@ use lib.ListN.{length, take}
 use lib.Ieee.{Float}
 use Rattle.kernel.specs.Answer.{Outcome, answered, ask}
 use Rattle.tracks.specs.Layout.{fields}
-use Rattle.dense.specs.Matrix.{nth, matrix, side, long}
+use Rattle.dense.specs.Matrix.{nth, matrix, isSide, hasLength}
 
 -- the d values of the state
 abbrev pub trackState : ℕ → List Float → List Float
@@ -28,8 +28,8 @@ trackCovariance d v = matrix d d (covarianceEntry d v)
 
 -- `whole_covariance`: of values read from a list there may be more than the track's fields.
 unfoldable pub wholeCovariance : List Float → ℕ → List Float → Outcome (List Float)
-unfolding trackCovariance side long fields
+unfolding trackCovariance isSide hasLength fields
 wholeCovariance v d out =
-    ask 1 (side d)
-    (ask 2 (leb (fields d) (length v) && long out (d * d))
+    ask 1 (isSide d)
+    (ask 2 (leb (fields d) (length v) && hasLength out (d * d))
     (answered (trackCovariance d v)))

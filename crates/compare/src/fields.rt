@@ -6,7 +6,7 @@ ghost use lib.Dec.{leb};
 ghost use lib.ListN.{length};
 ghost use Rattle.kernel.specs.Lists.{tabulate};
 ghost use Rattle.dense.specs.Answer.{Leaves};
-ghost use Rattle.dense.specs.Matrix.{long};
+ghost use Rattle.dense.specs.Matrix.{hasLength};
 ghost use Rattle.tracks.specs.Layout.{fields};
 ghost use Rattle.compare.specs.Fields.{lowerField, covarianceEntry, trackCovariance, wholeCovariance};
 ghost use Rattle.compare.specs.Room.{HasFields, RowRoom, CovarianceRoom};
@@ -61,7 +61,7 @@ fn mirror(v: &[f64], d: usize, out: &mut [f64])
 // Whether v holds the fields of a track of dimension d, and out is a d by d matrix.
 fn is_track(v: &[f64], d: usize, out: &[f64]) -> bool
     requires { ⌜ d ≤ 16 ⌝ }
-    ensures { λ r. ⌜ r ≡ (leb (fields d) (length (now (v .entry))) && long (now (out .entry)) (d * d)) ⌝ }
+    ensures { λ r. ⌜ r ≡ (leb (fields d) (length (now (v .entry))) && hasLength (now (out .entry)) (d * d)) ⌝ }
 {
     if v.len() < lower_field(d, d, 0) {
         return false;

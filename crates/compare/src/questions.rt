@@ -2,7 +2,7 @@
 ghost use mathlib.Core.Path.{_≡_};
 ghost use mathlib.Core.Bool.{_&&_};
 ghost use Prim.Native.Nat.{_*_, _≤_};
-ghost use Rattle.dense.specs.Matrix.{long};
+ghost use Rattle.dense.specs.Matrix.{hasLength};
 ghost use Rattle.compare.specs.Distance.{floorAndGate};
 use dense::shape::are_matrices;
 use dense::shape::is_vector;
@@ -11,7 +11,7 @@ use dense::vector::is_finite;
 // Whether mu and x are vectors of n entries, and p_i and p_j n by n matrices.
 pub(crate) fn are_tracks(mu: &[f64], x: &[f64], p_i: &[f64], p_j: &[f64], n: usize) -> bool
     requires { ⌜ n * n ≤ 256 ⌝ }
-    ensures { λ r. ⌜ r ≡ (long (now (mu .entry)) n && (long (now (x .entry)) n && (long (now («p_i» .entry)) (n * n) && long (now («p_j» .entry)) (n * n)))) ⌝ }
+    ensures { λ r. ⌜ r ≡ (hasLength (now (mu .entry)) n && (hasLength (now (x .entry)) n && (hasLength (now («p_i» .entry)) (n * n) && hasLength (now («p_j» .entry)) (n * n)))) ⌝ }
 {
     if !is_vector(mu, n) {
         return false;

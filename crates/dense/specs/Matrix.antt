@@ -68,9 +68,9 @@ finiteEntries a zero = true
 finiteEntries a (suc n) = finiteEntries a n && finite (nth a n)
 
 -- question 1: a side is 1 to 16
-unfoldable pub side : ℕ → Bool
-side n = leb 1 n && leb n 16
+unfoldable pub isSide : ℕ → Bool
+isSide n = leb 1 n && leb n 16
 
 -- question 2: a slice has exactly its length
-unfoldable pub long : List Float → ℕ → Bool
-long a n = eqb (length a) n
+unfoldable pub hasLength : List Float → ℕ → Bool
+hasLength a n = eqb (length a) n

@@ -3,11 +3,11 @@ ghost use mathlib.Core.Path.{_≡_};
 ghost use mathlib.Core.Bool.{_&&_};
 ghost use Prim.Native.Nat.{_+_, _*_, _<_, _≤_};
 ghost use lib.ListN.{length, take, drop};
-ghost use Rattle.dense.specs.Matrix.{side, long, at, rowOf};
+ghost use Rattle.dense.specs.Matrix.{isSide, hasLength, at, rowOf};
 
 // Whether n is a side that a matrix may have.
 pub fn is_side(n: usize) -> bool
-    ensures { λ r. ⌜ r ≡ side n ⌝ }
+    ensures { λ r. ⌜ r ≡ isSide n ⌝ }
 {
     if n < 1 {
         return false;
@@ -17,7 +17,7 @@ pub fn is_side(n: usize) -> bool
 
 // Whether m and n are such sides.
 pub fn are_sides(m: usize, n: usize) -> bool
-    ensures { λ r. ⌜ r ≡ (side m && side n) ⌝ }
+    ensures { λ r. ⌜ r ≡ (isSide m && isSide n) ⌝ }
 {
     if !is_side(m) {
         return false;
@@ -27,7 +27,7 @@ pub fn are_sides(m: usize, n: usize) -> bool
 
 // Whether m, k and n are such sides.
 pub fn are_three_sides(m: usize, k: usize, n: usize) -> bool
-    ensures { λ r. ⌜ r ≡ (side m && (side k && side n)) ⌝ }
+    ensures { λ r. ⌜ r ≡ (isSide m && (isSide k && isSide n)) ⌝ }
 {
     if !is_side(m) {
         return false;
@@ -37,7 +37,7 @@ pub fn are_three_sides(m: usize, k: usize, n: usize) -> bool
 
 // Whether a is a vector of n entries.
 pub fn is_vector(a: &[f64], n: usize) -> bool
-    ensures { λ r. ⌜ r ≡ long (now (a .entry)) n ⌝ }
+    ensures { λ r. ⌜ r ≡ hasLength (now (a .entry)) n ⌝ }
 {
     a.len() == n
 }
@@ -45,7 +45,7 @@ pub fn is_vector(a: &[f64], n: usize) -> bool
 // Whether a is an m by n matrix.
 pub fn is_matrix(a: &[f64], m: usize, n: usize) -> bool
     requires { ⌜ m * n ≤ 256 ⌝ }
-    ensures { λ r. ⌜ r ≡ long (now (a .entry)) (m * n) ⌝ }
+    ensures { λ r. ⌜ r ≡ hasLength (now (a .entry)) (m * n) ⌝ }
 {
     a.len() == m * n
 }
@@ -53,7 +53,7 @@ pub fn is_matrix(a: &[f64], m: usize, n: usize) -> bool
 // Whether a is an m by n matrix, and b a p by q one.
 pub fn are_matrices(a: &[f64], m: usize, n: usize, b: &[f64], p: usize, q: usize) -> bool
     requires { ⌜ (m * n ≤ 256) × (p * q ≤ 256) ⌝ }
-    ensures { λ r. ⌜ r ≡ (long (now (a .entry)) (m * n) && long (now (b .entry)) (p * q)) ⌝ }
+    ensures { λ r. ⌜ r ≡ (hasLength (now (a .entry)) (m * n) && hasLength (now (b .entry)) (p * q)) ⌝ }
 {
     if !is_matrix(a, m, n) {
         return false;
@@ -64,7 +64,7 @@ pub fn are_matrices(a: &[f64], m: usize, n: usize, b: &[f64], p: usize, q: usize
 // Whether a, b and out are m by k, k by n and m by n.
 pub fn are_factors(a: &[f64], b: &[f64], m: usize, k: usize, n: usize, out: &[f64]) -> bool
     requires { ⌜ (m * k ≤ 256) × (k * n ≤ 256) × (m * n ≤ 256) ⌝ }
-    ensures { λ r. ⌜ r ≡ (long (now (a .entry)) (m * k) && (long (now (b .entry)) (k * n) && long (now (out .entry)) (m * n))) ⌝ }
+    ensures { λ r. ⌜ r ≡ (hasLength (now (a .entry)) (m * k) && (hasLength (now (b .entry)) (k * n) && hasLength (now (out .entry)) (m * n))) ⌝ }
 {
     if !is_matrix(a, m, k) {
         return false;
@@ -75,7 +75,7 @@ pub fn are_factors(a: &[f64], b: &[f64], m: usize, k: usize, n: usize, out: &[f6
 // Whether x is a vector of n entries, and a an n by n matrix.
 pub fn is_form(x: &[f64], a: &[f64], n: usize) -> bool
     requires { ⌜ n * n ≤ 256 ⌝ }
-    ensures { λ r. ⌜ r ≡ (long (now (x .entry)) n && long (now (a .entry)) (n * n)) ⌝ }
+    ensures { λ r. ⌜ r ≡ (hasLength (now (x .entry)) n && hasLength (now (a .entry)) (n * n)) ⌝ }
 {
     if !is_vector(x, n) {
         return false;
@@ -86,7 +86,7 @@ pub fn is_form(x: &[f64], a: &[f64], n: usize) -> bool
 // Whether x and y are vectors of n entries, and a is an n by n matrix.
 pub fn is_distance(x: &[f64], y: &[f64], a: &[f64], n: usize) -> bool
     requires { ⌜ n * n ≤ 256 ⌝ }
-    ensures { λ r. ⌜ r ≡ (long (now (x .entry)) n && (long (now (y .entry)) n && long (now (a .entry)) (n * n))) ⌝ }
+    ensures { λ r. ⌜ r ≡ (hasLength (now (x .entry)) n && (hasLength (now (y .entry)) n && hasLength (now (a .entry)) (n * n))) ⌝ }
 {
     if !is_vector(x, n) {
         return false;
@@ -97,7 +97,7 @@ pub fn is_distance(x: &[f64], y: &[f64], a: &[f64], n: usize) -> bool
 // Whether a is an n by n matrix, and x and y are vectors of n entries.
 pub fn is_system(a: &[f64], x: &[f64], y: &[f64], n: usize) -> bool
     requires { ⌜ n * n ≤ 256 ⌝ }
-    ensures { λ r. ⌜ r ≡ (long (now (a .entry)) (n * n) && (long (now (x .entry)) n && long (now (y .entry)) n)) ⌝ }
+    ensures { λ r. ⌜ r ≡ (hasLength (now (a .entry)) (n * n) && (hasLength (now (x .entry)) n && hasLength (now (y .entry)) n)) ⌝ }
 {
     if !is_matrix(a, n, n) {
         return false;

@@ -13,7 +13,7 @@ use Rattle.kernel.specs.Lists.{tabulate}
 use Rattle.kernel.specs.Number.{finite}
 use Rattle.kernel.proofs.Answers.{ask-met, answered-inj}
 use Rattle.kernel.proofs.Differences.{finite-number}
-use Rattle.dense.specs.Matrix.{nth, side, long, finiteEntries}
+use Rattle.dense.specs.Matrix.{nth, isSide, hasLength, finiteEntries}
 use Rattle.dense.proofs.Finite.{finite-entry}
 use Rattle.dense.proofs.Laws.{nth-tabulate}
 use Rattle.eigen.specs.Rotation.{State}
@@ -38,7 +38,7 @@ eigenpairs-final a n = refl
 -- the questions on sides and lengths are met
 pub call-answered : (a : List Float) (n : ℕ) (values vectors : List Float) (r : Eigenpairs) → matSymmetricEigen a n values vectors ≡ answered r → eigenpairs a n ≡ answered r
 unfolding matSymmetricEigen
-call-answered a n values vectors r met = ask-met 2 (long a (n * n) && (long values n && long vectors (n * n))) (eigenpairs a n) (ask-met 1 (side n) _ met .1) .1
+call-answered a n values vectors r met = ask-met 2 (hasLength a (n * n) && (hasLength values n && hasLength vectors (n * n))) (eigenpairs a n) (ask-met 1 (isSide n) _ met .1) .1
 
 module _ (a : List Float) (n : ℕ) (r : Eigenpairs) (met : eigenpairs a n ≡ answered r) where
   answers : pairsOf n (final a n) ≡ answered r

@@ -11,7 +11,7 @@ use Rattle.kernel.specs.Answer.{Outcome, refused, answered, ask}
 use Rattle.kernel.specs.Constants.{nought, half, relTol, minPositive}
 use Rattle.kernel.specs.First.{firstBelow}
 use Rattle.kernel.specs.Lists.{tabulate}
-use Rattle.dense.specs.Matrix.{total, sumFrom, nth, at, matrix, identity, side, long, finiteEntries}
+use Rattle.dense.specs.Matrix.{total, sumFrom, nth, at, matrix, identity, isSide, hasLength, finiteEntries}
 use Rattle.dense.specs.declared.Written.{Written}
 use Rattle.dense.specs.declared.Written.the-variants as written
 use Rattle.eigen.specs.Rotation.{State, state, rotated}
@@ -133,10 +133,10 @@ eigenpairs a n = let s = begun a n in pairsOf n (settled n (tolerance (s .entrie
 
 -- `mat_symmetric_eigen`
 unfoldable pub matSymmetricEigen : List Float → ℕ → List Float → List Float → Outcome Eigenpairs
-unfolding eigenpairs side long
+unfolding eigenpairs isSide hasLength
 matSymmetricEigen a n values vectors =
-    ask 1 (side n)
-    (ask 2 (long a (n * n) && (long values n && long vectors (n * n)))
+    ask 1 (isSide n)
+    (ask 2 (hasLength a (n * n) && (hasLength values n && hasLength vectors (n * n)))
     (eigenpairs a n))
 
 -- The answer of a call that writes eigenpairs, and what the two slices hold afterwards: a refusal leaves them as they were.

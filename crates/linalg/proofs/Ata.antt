@@ -7,7 +7,7 @@ use borrow.Author.Tests.{eq-eqb}
 use lib.Ieee.{Float}
 use Rattle.kernel.specs.Number.{mul}
 use Rattle.kernel.specs.Constants.{nought}
-use Rattle.dense.specs.Matrix.{at, matrix, side, long}
+use Rattle.dense.specs.Matrix.{at, matrix, isSide, hasLength}
 use Rattle.linalg.specs.Products.{productEntry, transposeEntry, ataEntry, matMul, matAta}
 use Rattle.dense.proofs.Laws.{sum-ext, length-matrix, at-matrix, matrix-ext}
 use Rattle.linalg.proofs.Symmetry.{ata-either}
@@ -28,10 +28,10 @@ sides true false = refl
 sides false true = refl
 sides false false = refl
 
-long-transposed : (a : List Float) (m n : ℕ) → long (transposed a m n) (n * m) ≡ true
-unfolding long
+long-transposed : (a : List Float) (m n : ℕ) → hasLength (transposed a m n) (n * m) ≡ true
+unfolding hasLength
 long-transposed a m n = eq-eqb _ _ (length-matrix n m (transposeEntry a n))
 
 pub ata-is-product : (a : List Float) (m n : ℕ) (out : List Float) → matMul (transposed a m n) a n m n out ≡ matAta a m n out
 unfolding matMul matAta
-ata-is-product a m n out = rw (sides (side m) (side n), long-transposed a m n, ata-product a m n)
+ata-is-product a m n out = rw (sides (isSide m) (isSide n), long-transposed a m n, ata-product a m n)

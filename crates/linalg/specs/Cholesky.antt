@@ -8,7 +8,7 @@ use Rattle.kernel.specs.Number.{sub, mul, div, finite}
 use Rattle.kernel.specs.Sqrt.{sqrt}
 use Rattle.kernel.specs.Answer.{Outcome, answered, ask}
 use Rattle.kernel.specs.Constants.{nought}
-use Rattle.dense.specs.Matrix.{total, sumFrom, at, side, long}
+use Rattle.dense.specs.Matrix.{total, sumFrom, at, isSide, hasLength}
 
 -- question 7, of one pivot: above 0 and finite; a NaN is not
 unfoldable pub isPivot : Float → Bool
@@ -48,9 +48,9 @@ definite a n (suc i) = definite a n i && isPivot (reachedPivot a n (withLeft a n
 
 -- `mat_cholesky`: the lower factor of a, n by n, whose entries right of the diagonal are not read
 unfoldable pub matCholesky : List Float → ℕ → List Float → Outcome (List Float)
-unfolding definite factor side long
+unfolding definite factor isSide hasLength
 matCholesky a n out =
-    ask 1 (side n)
-    (ask 2 (long a (n * n) && long out (n * n))
+    ask 1 (isSide n)
+    (ask 2 (hasLength a (n * n) && hasLength out (n * n))
     (ask 7 (definite a n n)
     (answered (factor a n n))))

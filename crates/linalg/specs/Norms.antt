@@ -6,7 +6,7 @@ use lib.Ieee.{Float}
 use Rattle.kernel.specs.Number.{mul}
 use Rattle.kernel.specs.Sqrt.{sqrt}
 use Rattle.kernel.specs.Answer.{Outcome, answered, ask}
-use Rattle.dense.specs.Matrix.{total, sumFrom, nth, side, long}
+use Rattle.dense.specs.Matrix.{total, sumFrom, nth, isSide, hasLength}
 
 -- the root of the sum of the squares of the first n entries
 abbrev pub norm : List Float → ℕ → Float
@@ -14,10 +14,10 @@ norm x n = sqrt (total n (λ j. mul (nth x j) (nth x j)))
 
 -- `vec_norm`
 unfoldable pub vecNorm : List Float → ℕ → Outcome Float
-unfolding sqrt sumFrom side long
-vecNorm x n = ask 1 (side n) (ask 2 (long x n) (answered (norm x n)))
+unfolding sqrt sumFrom isSide hasLength
+vecNorm x n = ask 1 (isSide n) (ask 2 (hasLength x n) (answered (norm x n)))
 
 -- `mat_frobenius`: the norm of all entries of a, m by n, row by row
 unfoldable pub matFrobenius : List Float → ℕ → ℕ → Outcome Float
-unfolding sqrt sumFrom side long
-matFrobenius a m n = ask 1 (side m && side n) (ask 2 (long a (m * n)) (answered (norm a (m * n))))
+unfolding sqrt sumFrom isSide hasLength
+matFrobenius a m n = ask 1 (isSide m && isSide n) (ask 2 (hasLength a (m * n)) (answered (norm a (m * n))))

@@ -5,7 +5,7 @@ use mathlib.Core.List.{List}
 use lib.Ieee.{Float}
 use Rattle.kernel.specs.Number.{add, mul}
 use Rattle.kernel.specs.Answer.{Outcome, answered, ask}
-use Rattle.dense.specs.Matrix.{total, sumFrom, nth, at, matrix, side, long}
+use Rattle.dense.specs.Matrix.{total, sumFrom, nth, at, matrix, isSide, hasLength}
 use Rattle.kernel.specs.Lists.{tabulate}
 use Rattle.kernel.specs.Constants.{half}
 
@@ -15,10 +15,10 @@ productEntry a b k n i j = total k (λ l. mul (at a k i l) (at b n l j))
 
 -- `mat_mul`: the m by n product of a, m by k, and b, k by n
 unfoldable pub matMul : List Float → List Float → ℕ → ℕ → ℕ → List Float → Outcome (List Float)
-unfolding matrix sumFrom tabulate side long
+unfolding matrix sumFrom tabulate isSide hasLength
 matMul a b m k n out =
-    ask 1 (side m && (side k && side n))
-    (ask 2 (long a (m * k) && (long b (k * n) && long out (m * n)))
+    ask 1 (isSide m && (isSide k && isSide n))
+    (ask 2 (hasLength a (m * k) && (hasLength b (k * n) && hasLength out (m * n)))
     (answered (matrix m n (productEntry a b k n))))
 
 -- entry (i, j) of the transpose of a, which has n columns
@@ -27,10 +27,10 @@ transposeEntry a n i j = at a n j i
 
 -- `mat_transpose`: the n by m transpose of a, m by n
 unfoldable pub matTranspose : List Float → ℕ → ℕ → List Float → Outcome (List Float)
-unfolding matrix tabulate side long
+unfolding matrix tabulate isSide hasLength
 matTranspose a m n out =
-    ask 1 (side m && side n)
-    (ask 2 (long a (m * n) && long out (n * m))
+    ask 1 (isSide m && isSide n)
+    (ask 2 (hasLength a (m * n) && hasLength out (n * m))
     (answered (matrix n m (transposeEntry a n))))
 
 -- entry (i, j) of the product of the transpose of a, m by n, and a: those on and below the diagonal are summed, and mirrored
@@ -39,10 +39,10 @@ ataEntry a m n i j = total m (λ k. mul (at a n k (max i j)) (at a n k (min i j)
 
 -- `mat_ata`: the n by n product of the transpose of a, m by n, and a
 unfoldable pub matAta : List Float → ℕ → ℕ → List Float → Outcome (List Float)
-unfolding matrix sumFrom tabulate side long
+unfolding matrix sumFrom tabulate isSide hasLength
 matAta a m n out =
-    ask 1 (side m && side n)
-    (ask 2 (long a (m * n) && long out (n * n))
+    ask 1 (isSide m && isSide n)
+    (ask 2 (hasLength a (m * n) && hasLength out (n * n))
     (answered (matrix n n (ataEntry a m n))))
 
 -- the mean of entries (i, j) and (j, i): that above the diagonal comes first
@@ -51,10 +51,10 @@ symmetricEntry a n i j = mul (add (at a n (min i j) (max i j)) (at a n (max i j)
 
 -- `mat_symmetrize`: half the sum of a, n by n, and its transpose
 unfoldable pub matSymmetrize : List Float → ℕ → List Float → Outcome (List Float)
-unfolding matrix tabulate side long
+unfolding matrix tabulate isSide hasLength
 matSymmetrize a n out =
-    ask 1 (side n)
-    (ask 2 (long a (n * n) && long out (n * n))
+    ask 1 (isSide n)
+    (ask 2 (hasLength a (n * n) && hasLength out (n * n))
     (answered (matrix n n (symmetricEntry a n))))
 
 -- entry i of the product of a, of n columns, and the vector x
@@ -63,8 +63,8 @@ vectorEntry a x n i = total n (λ j. mul (at a n i j) (nth x j))
 
 -- `mat_vec_mul`: the product of a, n by n, and the vector x
 unfoldable pub matVecMul : List Float → List Float → ℕ → List Float → Outcome (List Float)
-unfolding sumFrom tabulate side long
+unfolding sumFrom tabulate isSide hasLength
 matVecMul a x n out =
-    ask 1 (side n)
-    (ask 2 (long a (n * n) && (long x n && long out n))
+    ask 1 (isSide n)
+    (ask 2 (hasLength a (n * n) && (hasLength x n && hasLength out n))
     (answered (tabulate n (vectorEntry a x n))))

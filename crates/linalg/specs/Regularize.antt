@@ -6,7 +6,7 @@ use lib.Dec.{eqb}
 use lib.Ieee.{Float}
 use Rattle.kernel.specs.Number.{add}
 use Rattle.kernel.specs.Answer.{Outcome, answered, ask}
-use Rattle.dense.specs.Matrix.{at, matrix, side, long}
+use Rattle.dense.specs.Matrix.{at, matrix, isSide, hasLength}
 use Rattle.kernel.specs.Lists.{tabulate}
 
 -- entry (i, j) of a with alpha added on the diagonal
@@ -15,8 +15,8 @@ dampedEntry a n alpha i j = cond (eqb i j) (add (at a n i j) alpha) (at a n i j)
 
 -- `tikhonov`: a, n by n, plus alpha times the identity
 unfoldable pub tikhonov : List Float → Float → ℕ → List Float → Outcome (List Float)
-unfolding matrix tabulate side long
+unfolding matrix tabulate isSide hasLength
 tikhonov a alpha n out =
-    ask 1 (side n)
-    (ask 2 (long a (n * n) && long out (n * n))
+    ask 1 (isSide n)
+    (ask 2 (hasLength a (n * n) && hasLength out (n * n))
     (answered (matrix n n (dampedEntry a n alpha))))

@@ -6,21 +6,21 @@ use lib.Ieee.{Float}
 use Rattle.kernel.specs.Number.{sub, mul}
 use Rattle.kernel.specs.Answer.{Outcome, answered, ask}
 use Rattle.kernel.specs.Constants.{nought}
-use Rattle.dense.specs.Matrix.{total, sumFrom, sumRowsFrom, sumPlanesFrom, nth, at, matrix, side, long}
+use Rattle.dense.specs.Matrix.{total, sumFrom, sumRowsFrom, sumPlanesFrom, nth, at, matrix, isSide, hasLength}
 use Rattle.kernel.specs.Lists.{tabulate}
 use Rattle.linalg.specs.Products.{productEntry}
 
 -- `mat_trace`: the sum of the diagonal of a, n by n
 unfoldable pub matTrace : List Float → ℕ → Outcome Float
-unfolding sumFrom side long
-matTrace a n = ask 1 (side n) (ask 2 (long a (n * n)) (answered (total n (λ i. at a n i i))))
+unfolding sumFrom isSide hasLength
+matTrace a n = ask 1 (isSide n) (ask 2 (hasLength a (n * n)) (answered (total n (λ i. at a n i i))))
 
 -- `mat_trace_product`: the trace of a b, both n by n, as one sum of a_ij b_ji
 unfoldable pub matTraceProduct : List Float → List Float → ℕ → Outcome Float
-unfolding sumRowsFrom side long
+unfolding sumRowsFrom isSide hasLength
 matTraceProduct a b n =
-    ask 1 (side n)
-    (ask 2 (long a (n * n) && long b (n * n))
+    ask 1 (isSide n)
+    (ask 2 (hasLength a (n * n) && hasLength b (n * n))
     (answered (sumRowsFrom nought n n (λ i j. mul (at a n i j) (at b n j i)))))
 
 -- the trace of the cube of m, n by n, as one sum of (m_ij m_jk) m_ki
@@ -30,10 +30,10 @@ traceCube m n = sumPlanesFrom nought n n n (λ i j k. mul (mul (at m n i j) (at 
 
 -- `mat_trace_cube`: the trace of the cube of a b, both n by n
 unfoldable pub matTraceCube : List Float → List Float → ℕ → Outcome Float
-unfolding traceCube matrix side long
+unfolding traceCube matrix isSide hasLength
 matTraceCube a b n =
-    ask 1 (side n)
-    (ask 2 (long a (n * n) && long b (n * n))
+    ask 1 (isSide n)
+    (ask 2 (hasLength a (n * n) && hasLength b (n * n))
     (answered (traceCube (matrix n n (productEntry a b n n)) n)))
 
 -- xᵀ a x, for a n by n, as one sum of (x_i a_ij) x_j
@@ -43,8 +43,8 @@ quadraticForm x a n = sumRowsFrom nought n n (λ i j. mul (mul (nth x i) (at a n
 
 -- `mat_quadratic_form`
 unfoldable pub matQuadraticForm : List Float → List Float → ℕ → Outcome Float
-unfolding quadraticForm side long
-matQuadraticForm x a n = ask 1 (side n) (ask 2 (long x n && long a (n * n)) (answered (quadraticForm x a n)))
+unfolding quadraticForm isSide hasLength
+matQuadraticForm x a n = ask 1 (isSide n) (ask 2 (hasLength x n && hasLength a (n * n)) (answered (quadraticForm x a n)))
 
 -- x - mu, of n entries
 abbrev pub difference : List Float → List Float → ℕ → List Float
@@ -52,8 +52,8 @@ difference x mu n = tabulate n (λ i. sub (nth x i) (nth mu i))
 
 -- `mahalanobis_distance_squared_with_inv`: the quadratic form of x - mu under the inverse that is given
 unfoldable pub distanceWithInv : List Float → List Float → List Float → ℕ → Outcome Float
-unfolding quadraticForm tabulate side long
+unfolding quadraticForm tabulate isSide hasLength
 distanceWithInv x mu inv n =
-    ask 1 (side n)
-    (ask 2 (long x n && (long mu n && long inv (n * n)))
+    ask 1 (isSide n)
+    (ask 2 (hasLength x n && (hasLength mu n && hasLength inv (n * n)))
     (answered (quadraticForm (difference x mu n) inv n)))

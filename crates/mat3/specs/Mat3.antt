@@ -6,7 +6,7 @@ use lib.Dec.{eqb}
 use lib.Ieee.{Float, lt}
 use Rattle.kernel.specs.Number.{add, sub, mul, div, abs, max}
 use Rattle.kernel.specs.Answer.{Outcome, answered, ask}
-use Rattle.dense.specs.Matrix.{nth, at, matrix, long, maxAbs}
+use Rattle.dense.specs.Matrix.{nth, at, matrix, hasLength, maxAbs}
 use Rattle.kernel.specs.Lists.{tabulate}
 use Rattle.kernel.specs.Constants.{one, relTol, minPositive}
 
@@ -63,15 +63,15 @@ solution3 a b = tabulate 3 (λ j. mul (det3 (replaced a b j)) (div one (det3 a))
 
 -- `mat3_det`
 unfoldable pub mat3Det : List Float → Outcome Float
-unfolding det3 long
-mat3Det m = ask 2 (long m 9) (answered (det3 m))
+unfolding det3 hasLength
+mat3Det m = ask 2 (hasLength m 9) (answered (det3 m))
 
 -- `mat3_inv`
 unfoldable pub mat3Inv : List Float → List Float → Outcome (List Float)
-unfolding inverse3 regular long
-mat3Inv m out = ask 2 (long m 9 && long out 9) (ask 8 (regular m) (answered (inverse3 m)))
+unfolding inverse3 regular hasLength
+mat3Inv m out = ask 2 (hasLength m 9 && hasLength out 9) (ask 8 (regular m) (answered (inverse3 m)))
 
 -- `mat3_solve`
 unfoldable pub mat3Solve : List Float → List Float → List Float → Outcome (List Float)
-unfolding solution3 regular long
-mat3Solve a b out = ask 2 (long a 9 && (long b 3 && long out 3)) (ask 8 (regular a) (answered (solution3 a b)))
+unfolding solution3 regular hasLength
+mat3Solve a b out = ask 2 (hasLength a 9 && (hasLength b 3 && hasLength out 3)) (ask 8 (regular a) (answered (solution3 a b)))

@@ -4,7 +4,7 @@ ghost use mathlib.Core.Path.{_≡_};
 ghost use mathlib.Core.Bool.{_&&_};
 ghost use lib.ListN.{length};
 ghost use Rattle.dense.specs.Answer.{Leaves, given};
-ghost use Rattle.dense.specs.Matrix.{long};
+ghost use Rattle.dense.specs.Matrix.{hasLength};
 ghost use Rattle.mat3.specs.Mat3.{determinant3, det3, regular, inverse3, solution3, mat3Det, mat3Inv, mat3Solve};
 pub use dense::Number;
 pub use dense::Written;
@@ -97,7 +97,7 @@ fn solution(a: &[f64], b: &[f64], det: f64) -> [f64; 3]
 
 // Whether m and out are 3 by 3.
 fn are_3_by_3(m: &[f64], out: &[f64]) -> bool
-    ensures { λ r. ⌜ r ≡ (long (now (m .entry)) 9 && long (now (out .entry)) 9) ⌝ }
+    ensures { λ r. ⌜ r ≡ (hasLength (now (m .entry)) 9 && hasLength (now (out .entry)) 9) ⌝ }
 {
     if !is_vector(m, 9) {
         return false;
@@ -107,7 +107,7 @@ fn are_3_by_3(m: &[f64], out: &[f64]) -> bool
 
 // Whether a is 3 by 3, and b and out have 3 entries.
 fn is_3_by_3_system(a: &[f64], b: &[f64], out: &[f64]) -> bool
-    ensures { λ r. ⌜ r ≡ (long (now (a .entry)) 9 && (long (now (b .entry)) 3 && long (now (out .entry)) 3)) ⌝ }
+    ensures { λ r. ⌜ r ≡ (hasLength (now (a .entry)) 9 && (hasLength (now (b .entry)) 3 && hasLength (now (out .entry)) 3)) ⌝ }
 {
     if !is_vector(a, 9) {
         return false;

@@ -10,7 +10,7 @@ use borrow.Author.Tests.{le-leb, eq-eqb}
 use lib.Ieee.{Float}
 use lib.ListN.{length}
 use lib.Seq.{length-take-le}
-use Rattle.dense.specs.Matrix.{side, long}
+use Rattle.dense.specs.Matrix.{isSide, hasLength}
 use Rattle.dense.proofs.Laws.{length-matrix}
 use Rattle.tracks.specs.Layout.{fields}
 use Rattle.compare.specs.Fields.{trackState, trackCovariance, wholeCovariance}
@@ -32,8 +32,8 @@ pub length-covariance : (d : ℕ) (v : List Float) → length (trackCovariance d
 unfolding trackCovariance
 length-covariance d v = length-matrix d d _
 
-side-met : {t : Terms} → Compares t → side (t .d) ≡ true
-unfolding side
+side-met : {t : Terms} → Compares t → isSide (t .d) ≡ true
+unfolding isSide
 side-met {t} h = rw (le-leb 1 (t .d) (h .some), le-leb (t .d) 16 (omega (arith, h .few)))
 
 module _ (t : Terms) (h : Compares t) where
@@ -50,8 +50,8 @@ module _ (t : Terms) (h : Compares t) where
 
   module _ (mu x p q : List Float) where
     lengths-met : length mu ≡ t .d → length x ≡ t .d → length p ≡ t .d * t .d → length q ≡ t .d * t .d
-        → (long mu (t .d) && (long x (t .d) && (long p (t .d * t .d) && long q (t .d * t .d)))) ≡ true
-    unfolding long
+        → (hasLength mu (t .d) && (hasLength x (t .d) && (hasLength p (t .d * t .d) && hasLength q (t .d * t .d)))) ≡ true
+    unfolding hasLength
     lengths-met a b e f = rw (eq-eqb _ _ a, eq-eqb _ _ b, eq-eqb _ _ e, eq-eqb _ _ f)
 
     pub compares : length mu ≡ t .d → length x ≡ t .d → length p ≡ t .d * t .d → length q ≡ t .d * t .d

@@ -8,7 +8,7 @@ use lib.Ieee.{Float}
 use lib.ListN.{length}
 use Rattle.kernel.specs.Answer.{ask, through}
 use Rattle.kernel.proofs.Lists.{length-tabulate, tabulate-ext}
-use Rattle.dense.specs.Matrix.{unitEntry, identity, side, long}
+use Rattle.dense.specs.Matrix.{unitEntry, identity, isSide, hasLength}
 use Rattle.dense.proofs.Laws.{at-matrix}
 use Rattle.pivoting.specs.Solve.{solved, unitVector, matSolve, matInv, columnOf}
 use Rattle.pivoting.proofs.Columns.{solved-column}
@@ -16,15 +16,15 @@ use Rattle.pivoting.proofs.Columns.{solved-column}
 identity-column : (n j : ℕ) → j < n → columnOf n n j (identity n) ≡ unitVector n j
 identity-column n j h = tabulate-ext n _ _ (λ i k. at-matrix n n unitEntry i j k h)
 
-long-of : (l : List Float) (n : ℕ) → length l ≡ n → long l n ≡ true
-unfolding long
+long-of : (l : List Float) (n : ℕ) → length l ≡ n → hasLength l n ≡ true
+unfolding hasLength
 long-of l n e = eq-eqb (length l) n e
 
 -- out and x are room for the inverse and for the solution
 pub inverse-column : (a out x : List Float) (n j : ℕ) → j < n → length out ≡ n * n → length x ≡ n → through (columnOf n n j) (matInv a n out) ≡ matSolve a (unitVector n j) n x
 unfolding matInv matSolve
 inverse-column a out x n j h p q =
-    rw (long-of out (n * n) p, long-of (unitVector n j) n (length-tabulate n (λ i. unitEntry i j)), long-of x n q) (go (side n) (long a (n * n)))
+    rw (long-of out (n * n) p, long-of (unitVector n j) n (length-tabulate n (λ i. unitEntry i j)), long-of x n q) (go (isSide n) (hasLength a (n * n)))
   where
     column : through (columnOf n n j) (solved a (identity n) n n) ≡ solved a (unitVector n j) n 1
     column = solved-column a (identity n) n n j h ∙ ap (λ (b : List Float). solved a b n 1) (identity-column n j h)

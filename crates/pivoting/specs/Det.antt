@@ -7,7 +7,7 @@ use lib.Ieee.{Float, neg}
 use Rattle.kernel.specs.Number.{sub, mul, div}
 use Rattle.kernel.specs.Answer.{Outcome, answered, ask}
 use Rattle.kernel.specs.Constants.{nought, one}
-use Rattle.dense.specs.Matrix.{at, rowOf, matrix, side, long, maxAbs}
+use Rattle.dense.specs.Matrix.{at, rowOf, matrix, isSide, hasLength, maxAbs}
 use Rattle.kernel.specs.Lists.{tabulate}
 use Rattle.pivoting.specs.Pivot.{rowNorms, someScale, bestOf, swapped, swappedNorms, Stage, stage, pivotAt, pivoted}
 
@@ -69,5 +69,5 @@ determinant a n = cond (someScale n (rowNorms a n)) (product n (lowered n (stage
 
 -- `mat_det`
 unfoldable pub matDet : List Float → ℕ → Outcome Float
-unfolding determinant side long
-matDet a n = ask 1 (side n) (ask 2 (long a (n * n)) (answered (determinant a n)))
+unfolding determinant isSide hasLength
+matDet a n = ask 1 (isSide n) (ask 2 (hasLength a (n * n)) (answered (determinant a n)))

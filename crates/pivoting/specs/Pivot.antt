@@ -7,7 +7,7 @@ use lib.Ieee.{Float, lt}
 use Rattle.kernel.specs.Number.{abs, div}
 use Rattle.kernel.specs.Answer.{Outcome, answered, ask}
 use Rattle.kernel.specs.Constants.{nought, relTol, minScale}
-use Rattle.dense.specs.Matrix.{nth, at, rowOf, side, long, maxAbs}
+use Rattle.dense.specs.Matrix.{nth, at, rowOf, isSide, hasLength, maxAbs}
 use Rattle.kernel.specs.Lists.{tabulate}
 use Rattle.pivoting.specs.declared.Pivot.{Pivot}
 
@@ -21,8 +21,8 @@ rowNorms a n = tabulate n (rowNorm a n)
 
 -- `row_inf_norms`
 unfoldable pub rowInfNorms : List Float → ℕ → List Float → Outcome (List Float)
-unfolding maxAbs rowOf tabulate side long
-rowInfNorms a n out = ask 1 (side n) (ask 2 (long a (n * n) && long out n) (answered (rowNorms a n)))
+unfolding maxAbs rowOf tabulate isSide hasLength
+rowInfNorms a n out = ask 1 (isSide n) (ask 2 (hasLength a (n * n) && hasLength out n) (answered (rowNorms a n)))
 
 -- whether one of the first n norms is not below 1e-150
 unfoldable pub someScale : ℕ → List Float → Bool

@@ -8,7 +8,7 @@ use lib.ListN.{length}
 use lib.Ieee.{Float}
 use Rattle.kernel.specs.Number.{sub, mul, div}
 use Rattle.kernel.specs.Answer.{Outcome, answered, ask, through}
-use Rattle.dense.specs.Matrix.{at, rowOf, matrix, unitEntry, identity, side, long, maxAbs}
+use Rattle.dense.specs.Matrix.{at, rowOf, matrix, unitEntry, identity, isSide, hasLength, maxAbs}
 use Rattle.kernel.specs.Lists.{tabulate}
 use Rattle.dense.specs.declared.Written.{Written}
 use Rattle.dense.specs.declared.Written.the-variants as written
@@ -76,18 +76,18 @@ unitVector n j = tabulate n (λ i. unitEntry i j)
 
 -- `mat_solve`: the vector x with a x = b, for a n by n
 unfoldable pub matSolve : List Float → List Float → ℕ → List Float → Outcome (List Float)
-unfolding solved side long
+unfolding solved isSide hasLength
 matSolve a b n out =
-    ask 1 (side n)
-    (ask 2 (long a (n * n) && (long b n && long out n))
+    ask 1 (isSide n)
+    (ask 2 (hasLength a (n * n) && (hasLength b n && hasLength out n))
     (solved a b n 1))
 
 -- `mat_inv`: the inverse of a, n by n, is the solution against the identity
 unfoldable pub matInv : List Float → ℕ → List Float → Outcome (List Float)
-unfolding solved side long
+unfolding solved isSide hasLength
 matInv a n out =
-    ask 1 (side n)
-    (ask 2 (long a (n * n) && long out (n * n))
+    ask 1 (isSide n)
+    (ask 2 (hasLength a (n * n) && hasLength out (n * n))
     (solved a (identity n) n n))
 
 -- the answer where v is the number that follows a call that wrote: its refusal stays
@@ -106,10 +106,10 @@ distance x mu cov n = through (λ inv. quadraticForm (difference x mu n) inv n) 
 
 -- `mahalanobis_distance_squared`
 unfoldable pub mahalanobis : List Float → List Float → List Float → ℕ → Outcome Float
-unfolding distance side long
+unfolding distance isSide hasLength
 mahalanobis x mu cov n =
-    ask 1 (side n)
-    (ask 2 (long x n && (long mu n && long cov (n * n)))
+    ask 1 (isSide n)
+    (ask 2 (hasLength x n && (hasLength mu n && hasLength cov (n * n)))
     (distance x mu cov n))
 
 -- Two vectors of n entries, at least one, and an n by n matrix.

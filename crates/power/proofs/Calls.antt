@@ -13,7 +13,7 @@ use Rattle.kernel.proofs.Answers.{answered-inj, ask-met}
 use Rattle.dense.specs.declared.Written.{Written}
 use Rattle.dense.specs.declared.Written.the-variants.{Done, Refused}
 use Rattle.dense.specs.Answer.{after, Leaves}
-use Rattle.dense.specs.Matrix.{matrix, long}
+use Rattle.dense.specs.Matrix.{matrix, hasLength}
 use Rattle.dense.proofs.Tests.{never}
 use Rattle.linalg.specs.Products.{matVecMul, matAta}
 use Rattle.linalg.specs.Regularize.{dampedEntry, tikhonov}
@@ -23,8 +23,8 @@ use Rattle.power.specs.Power.{times, gram}
 use Rattle.power.specs.Condition.{solutionOf, isRefused}
 use Rattle.power.specs.Room.{Matrices, Vectors}
 
-long-of : (a : List Float) (n : ℕ) → length a ≡ n → long a n ≡ true
-unfolding long
+long-of : (a : List Float) (n : ℕ) → length a ≡ n → hasLength a n ≡ true
+unfolding hasLength
 long-of a n e = eq-eqb (length a) n e
 
 -- a call that answers v leaves it

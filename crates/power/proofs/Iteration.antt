@@ -16,7 +16,7 @@ use Rattle.kernel.specs.Lists.{tabulate}
 use Rattle.kernel.specs.Number.{sub, mul, div}
 use Rattle.kernel.proofs.First.{Standing, stands-first, stands-next}
 use Rattle.kernel.proofs.Lists.{length-tabulate}
-use Rattle.dense.specs.Matrix.{nth, side, long}
+use Rattle.dense.specs.Matrix.{nth, isSide, hasLength}
 use Rattle.linalg.specs.Norms.{norm}
 use Rattle.power.specs.Power.{times, dotProduct, rayleigh, residual, advanced, signOf, roundValue}
 use Rattle.power.specs.Power.{vanishes, isSmall, converges, afterRounds, isLast, eigenpair, refined, concluded, lastRound}
@@ -134,7 +134,7 @@ none : (a : List Float) (n : ℕ) (tol : Float) → dominant a n 0 tol ≡ refin
 unfolding dominant iterated lastRound afterRounds firstBelow
 none a n tol = refl
 
-pub no-rounds : (a : List Float) (n : ℕ) (tol : Float) (v : List Float) → side n ≡ true → (long v n && long a (n * n)) ≡ true
+pub no-rounds : (a : List Float) (n : ℕ) (tol : Float) (v : List Float) → isSide n ≡ true → (hasLength v n && hasLength a (n * n)) ≡ true
     → matEigenvectorMax a n 0 tol v ≡ answered (eigenpair (evenVector n) (rayleigh a n (evenVector n)))
 unfolding matEigenvectorMax refined
 no-rounds a n tol v s l = rw (s, l) (ap answered (none a n tol))

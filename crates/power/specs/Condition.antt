@@ -10,7 +10,7 @@ use Rattle.kernel.specs.Answer.{Outcome, refused, answered, ask}
 use Rattle.kernel.specs.Constants.{nought, one, relTol, leastNorm, infinity}
 use Rattle.kernel.specs.First.{firstBelow}
 use Rattle.kernel.specs.Lists.{tabulate}
-use Rattle.dense.specs.Matrix.{sumFrom, nth, matrix, side, long}
+use Rattle.dense.specs.Matrix.{sumFrom, nth, matrix, isSide, hasLength}
 use Rattle.linalg.specs.Norms.{norm}
 use Rattle.linalg.specs.Regularize.{dampedEntry}
 use Rattle.pivoting.specs.Solve.{unitVector, solution, solved}
@@ -134,8 +134,8 @@ condition a n = let g = gram a n in ratioOf g n (dominant g n maxRounds relTol)
 
 -- `condition_number`
 unfoldable pub conditionNumber : List Float → ℕ → Outcome Float
-unfolding side long
-conditionNumber a n = ask 1 (side n) (ask 2 (long a (n * n)) (answered (condition a n)))
+unfolding isSide hasLength
+conditionNumber a n = ask 1 (isSide n) (ask 2 (hasLength a (n * n)) (answered (condition a n)))
 
 pub record Damping : Type 0 where
   pub damped : List Float
@@ -150,10 +150,10 @@ damping cov alpha n =
 
 -- `tikhonov_with_report`
 unfoldable pub tikhonovWithReport : List Float → Float → ℕ → List Float → Outcome Damping
-unfolding side long
+unfolding isSide hasLength
 tikhonovWithReport cov alpha n out =
-    ask 1 (side n)
-    (ask 2 (long cov (n * n) && long out (n * n))
+    ask 1 (isSide n)
+    (ask 2 (hasLength cov (n * n) && hasLength out (n * n))
     (answered (damping cov alpha n)))
 
 -- The answer, and what the slice holds afterwards: a refusal leaves it as it was.

@@ -11,7 +11,7 @@ use Rattle.kernel.specs.Answer.{Outcome, refused, answered, ask}
 use Rattle.kernel.specs.Constants.{nought, one, minusOne, vanishing}
 use Rattle.kernel.specs.First.{firstBelow}
 use Rattle.kernel.specs.Lists.{tabulate}
-use Rattle.dense.specs.Matrix.{total, sumFrom, nth, matrix, side, long}
+use Rattle.dense.specs.Matrix.{total, sumFrom, nth, matrix, isSide, hasLength}
 use Rattle.dense.specs.declared.Number.{Number}
 use Rattle.dense.specs.declared.Number.the-variants as number
 use Rattle.linalg.specs.Norms.{norm}
@@ -124,10 +124,10 @@ dominant a n max tol = iterated a n max tol (evenVector n)
 
 -- `mat_eigenvector_max`
 unfoldable pub matEigenvectorMax : List Float → ℕ → ℕ → Float → List Float → Outcome Eigenpair
-unfolding dominant side long
+unfolding dominant isSide hasLength
 matEigenvectorMax a n max tol v =
-    ask 1 (side n)
-    (ask 2 (long v n && long a (n * n))
+    ask 1 (isSide n)
+    (ask 2 (hasLength v n && hasLength a (n * n))
     (answered (dominant a n max tol)))
 
 -- The answer of a call that gives an eigenvalue and writes its vector, and what the slice holds afterwards: a refusal leaves it as it was.
@@ -147,8 +147,8 @@ singularValue lambda = cond (le lambda nought) nought (sqrt lambda)
 
 -- `mat_largest_singular_value`
 unfoldable pub matLargestSingularValue : List Float → ℕ → ℕ → Float → Outcome Float
-unfolding gram dominant singularValue side long
+unfolding gram dominant singularValue isSide hasLength
 matLargestSingularValue a n max tol =
-    ask 1 (side n)
-    (ask 2 (long a (n * n))
+    ask 1 (isSide n)
+    (ask 2 (hasLength a (n * n))
     (answered (singularValue (dominant (gram a n) n max tol .value))))

@@ -5,26 +5,26 @@ use mathlib.Core.List.{List}
 use mathlib.Core.Path.{_≡_}
 use lib.Ieee.{Float}
 use lib.ListN.{length}
-use Rattle.dense.specs.Matrix.{side}
+use Rattle.dense.specs.Matrix.{isSide}
 use Rattle.linalg.specs.Norms.{norm}
 use Rattle.power.specs.Power.{times, advanced, converges}
 
 -- a matrix a, n by n, with room for another
 pub record Matrices (n : ℕ) (a g : List Float) : Type 0 where
-  pub order : side n ≡ true
+  pub order : isSide n ≡ true
   pub matrix : length a ≡ n * n
   pub room : length g ≡ n * n
 
 -- a matrix a, n by n, with two vectors
 pub record Vectors (n : ℕ) (a x y : List Float) : Type 0 where
-  pub order : side n ≡ true
+  pub order : isSide n ≡ true
   pub matrix : length a ≡ n * n
   pub left : length x ≡ n
   pub right : length y ≡ n
 
 -- a matrix a, n by n, with a vector v and their product w
 pub record Multiplied (n : ℕ) (a v w : List Float) : Type 0 where
-  pub order : side n ≡ true
+  pub order : isSide n ≡ true
   pub matrix : length a ≡ n * n
   pub vector : length v ≡ n
   pub product : w ≡ times a n v

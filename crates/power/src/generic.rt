@@ -4,7 +4,7 @@ ghost use mathlib.Core.Path.{_≡_};
 ghost use Prim.Native.Nat.{_*_};
 ghost use lib.ListN.{length};
 ghost use Rattle.dense.specs.Answer.{given};
-ghost use Rattle.dense.specs.Matrix.{side};
+ghost use Rattle.dense.specs.Matrix.{isSide};
 ghost use Rattle.power.specs.Power.{eigenpair, gram, dominant, singularValue, matEigenvectorMax, afterEigenpair, matLargestSingularValue};
 ghost use Rattle.power.specs.Condition.{conditionNumber};
 ghost use Rattle.power.specs.Room.{Spaces};
@@ -21,7 +21,7 @@ use kernel::question::SIDE;
 
 // The eigenvalue and its vector, with room of its own.
 fn eigenvector(a: &[f64], n: usize, max_iter: u32, tol: f64, v: &mut [f64]) -> f64
-    requires { ⌜ (side n ≡ true) × (length (now a) ≡ n * n) × (length (now v) ≡ n) ⌝ }
+    requires { ⌜ (isSide n ≡ true) × (length (now a) ≡ n * n) × (length (now v) ≡ n) ⌝ }
     ensures { λ r. ⌜ eigenpair (now (v .exit)) r ≡ dominant (now (a .entry)) n «max_iter» tol ⌝ }
 {
     let mut w = [0.0f64; 16];
@@ -70,7 +70,7 @@ fn largest_in(
 
 // The same with room of its own.
 fn largest(a: &[f64], n: usize, max_iter: u32, tol: f64) -> f64
-    requires { ⌜ (side n ≡ true) × (length (now a) ≡ n * n) ⌝ }
+    requires { ⌜ (isSide n ≡ true) × (length (now a) ≡ n * n) ⌝ }
     ensures { λ r. ⌜ r ≡ singularValue (dominant (gram (now (a .entry)) n) n «max_iter» tol .value) ⌝ }
 {
     let mut g = [0.0f64; 256];

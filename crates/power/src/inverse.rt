@@ -7,7 +7,7 @@ ghost use lib.ListN.{length};
 ghost use Rattle.kernel.specs.Constants.{nought};
 ghost use Rattle.kernel.specs.Lists.{tabulate};
 ghost use Rattle.kernel.specs.Number.{sub, mul};
-ghost use Rattle.dense.specs.Matrix.{nth, side};
+ghost use Rattle.dense.specs.Matrix.{nth, isSide};
 ghost use Rattle.linalg.specs.Norms.{norm};
 ghost use Rattle.pivoting.specs.Solve.{unitVector, solved};
 ghost use Rattle.power.specs.Power.{gram, eigenpair};
@@ -187,7 +187,7 @@ fn condition_in(
 
 // The same with room of its own.
 pub(crate) fn condition(a: &[f64], n: usize) -> f64
-    requires { ⌜ (side n ≡ true) × (length (now a) ≡ n * n) ⌝ }
+    requires { ⌜ (isSide n ≡ true) × (length (now a) ≡ n * n) ⌝ }
     ensures { λ r. ⌜ r ≡ condition (now (a .entry)) n ⌝ }
 {
     let mut g = [0.0f64; 256];

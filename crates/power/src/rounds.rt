@@ -4,7 +4,7 @@ ghost use mathlib.Core.Path.{_≡_};
 ghost use lib.ListN.{length};
 ghost use Rattle.kernel.specs.Number.{sub, mul};
 ghost use Rattle.kernel.specs.Lists.{tabulate};
-ghost use Rattle.dense.specs.Matrix.{nth, side};
+ghost use Rattle.dense.specs.Matrix.{nth, isSide};
 ghost use Rattle.linalg.specs.Norms.{norm};
 ghost use Rattle.power.specs.Power.{signOf, isSmall, eigenpair, iterated, evenVector, dominant};
 ghost use Rattle.power.specs.Room.{Vectors, Multiplied, Measured, Rounded};
@@ -81,7 +81,7 @@ fn rounds(a: &[f64], n: usize, max_iter: u32, tol: f64, v: &mut [f64], w: &mut [
 
 // Writes the start.
 fn begin(n: usize, v: &mut [f64])
-    requires { ⌜ (side n ≡ true) × (length (now v) ≡ n) ⌝ }
+    requires { ⌜ (isSide n ≡ true) × (length (now v) ≡ n) ⌝ }
     ensures { λ _. ⌜ now (v .exit) ≡ evenVector n ⌝ }
 {
     let s = 1.0 / sqrt(n as f64);

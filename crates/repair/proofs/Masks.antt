@@ -13,7 +13,7 @@ use lib.ListN.{getD}
 use Rattle.kernel.specs.Answer.{answered}
 use Rattle.kernel.proofs.Answers.{ask-met, through-met}
 use Rattle.kernel.proofs.Lists.{getD-tabulate}
-use Rattle.dense.specs.Matrix.{nth, side, long, finiteEntries}
+use Rattle.dense.specs.Matrix.{nth, isSide, hasLength, finiteEntries}
 use Rattle.dense.proofs.Tests.{side-high}
 use Rattle.eigen.specs.Eigen.{Eigenpairs, eigenpairs}
 use Rattle.kernel.proofs.Differences.{finite-number}
@@ -33,7 +33,7 @@ pub pairs-of : (cov : List Float) (floor : Float) (n : ℕ) (out : List Float) (
     → (p : Eigenpairs) × (eigenpairs cov n ≡ answered p) × (repairOf floor n p ≡ r)
 unfolding nearestPsd repair
 pairs-of cov floor n out r met =
-    through-met (repairOf floor n) (eigenpairs cov n) (ask-met 3 (finiteEntries cov (n * n)) _ (ask-met 2 (long cov (n * n) && long out (n * n)) _ (ask-met 1 (side n) _ met .1) .1) .1)
+    through-met (repairOf floor n) (eigenpairs cov n) (ask-met 3 (finiteEntries cov (n * n)) _ (ask-met 2 (hasLength cov (n * n) && hasLength out (n * n)) _ (ask-met 1 (isSide n) _ met .1) .1) .1)
 
 mask-of : (floor : Float) (n : ℕ) (p : Eigenpairs) → repairOf floor n p .report .«clipped_indices» ≡ clipMask (p .values) floor n
 unfolding repairOf reportOf
@@ -48,9 +48,9 @@ abbrev pub masked : Repair → ℕ → Bool
 masked r i = getD (r .report .«clipped_indices») i false
 
 module _ (cov : List Float) (floor : Float) (n : ℕ) (out : List Float) (r : Repair) (met : nearestPsd cov floor n out ≡ answered r) where
-  pub order-side : side n ≡ true
+  pub order-side : isSide n ≡ true
   unfolding nearestPsd
-  order-side = ask-met 1 (side n) _ met .0
+  order-side = ask-met 1 (isSide n) _ met .0
 
   -- the eigenvalues of cov
   abbrev pub spectrum : List Float

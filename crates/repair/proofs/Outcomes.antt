@@ -9,7 +9,7 @@ use lib.Ieee.{Float}
 use lib.ListN.{length}
 use Rattle.kernel.specs.Answer.{Outcome, refused, answered}
 use Rattle.kernel.specs.Lists.{tabulate}
-use Rattle.dense.specs.Matrix.{nth, matrix, side, long}
+use Rattle.dense.specs.Matrix.{nth, matrix, isSide, hasLength}
 use Rattle.dense.specs.declared.Written.{Written}
 use Rattle.dense.specs.declared.Written.the-variants.{Done, Refused}
 use Rattle.eigen.specs.Eigen.{Eigenpairs, eigenpairs, matSymmetricEigen, afterPairs}
@@ -17,8 +17,8 @@ use Rattle.repair.specs.declared.RegularizationReport.{RegularizationRep
 use Rattle.repair.specs.declared.Repaired.{Repaired}
 use Rattle.repair.specs.Repair.{raised, reportOf, rebuiltEntry, repairOf, repair, refusal, reported, afterRepair}
 
-long-of : (a : List Float) (n : ℕ) → length a ≡ n → long a n ≡ true
-unfolding long
+long-of : (a : List Float) (n : ℕ) → length a ≡ n → hasLength a n ≡ true
+unfolding hasLength
 long-of a n e = eq-eqb (length a) n e
 
 -- an answer and two slices
@@ -30,7 +30,7 @@ answer-of z = z .0
 
 module _ (cov : List Float) (floor : Float) (n : ℕ) (e v : List Float) where
   -- the questions on sides and lengths are met
-  pub pairs-asked : side n ≡ true → length cov ≡ n * n → length e ≡ n → length v ≡ n * n → matSymmetricEigen cov n e v ≡ eigenpairs cov n
+  pub pairs-asked : isSide n ≡ true → length cov ≡ n * n → length e ≡ n → length v ≡ n * n → matSymmetricEigen cov n e v ≡ eigenpairs cov n
   unfolding matSymmetricEigen
   pairs-asked s a b c = rw (s, long-of cov (n * n) a, long-of e n b, long-of v (n * n) c)
 

@@ -10,7 +10,7 @@ use Rattle.kernel.specs.Answer.{Outcome, answered, ask, through}
 use Rattle.kernel.specs.Constants.{nought, one}
 use Rattle.kernel.specs.Lists.{tabulate}
 use Rattle.kernel.specs.Number.{add, mul, finite}
-use Rattle.dense.specs.Matrix.{nth, matrix, sumFrom, side, long, finiteEntries}
+use Rattle.dense.specs.Matrix.{nth, matrix, sumFrom, isSide, hasLength, finiteEntries}
 use Rattle.eigen.specs.declared.Plane.{Plane}
 use Rattle.eigen.specs.Eigen.{Eigenpairs, eigenpairs}
 use Rattle.eigen.specs.Pair.{shownBy, planePairs}
@@ -20,8 +20,8 @@ use Rattle.repair.specs.Repair.{Repair, clips, clipCount, greaterClip, l
 -- ---- one entry
 
 pub single-asked : (x : List Float) (floor : Float) (out : List Float)
-    → nearestPsd x floor 1 out ≡ ask 2 (long x 1 && long out 1) (ask 3 (finite (nth x 0)) (repair x floor 1))
-unfolding nearestPsd side finiteEntries
+    → nearestPsd x floor 1 out ≡ ask 2 (hasLength x 1 && hasLength out 1) (ask 3 (finite (nth x 0)) (repair x floor 1))
+unfolding nearestPsd isSide finiteEntries
 single-asked x floor out = refl
 
 -- the repair of one finite entry

@@ -8,7 +8,7 @@ use Rattle.kernel.specs.Number.{sub, mul}
 use Rattle.kernel.specs.Answer.{Outcome, refused, answered, ask, through}
 use Rattle.kernel.specs.Constants.{nought}
 use Rattle.kernel.specs.Lists.{tabulate}
-use Rattle.dense.specs.Matrix.{total, sumFrom, nth, at, matrix, side, long, finiteEntries}
+use Rattle.dense.specs.Matrix.{total, sumFrom, nth, at, matrix, isSide, hasLength, finiteEntries}
 use Rattle.dense.specs.declared.Written.{Written}
 use Rattle.dense.specs.declared.Written.the-variants as written
 use Rattle.eigen.specs.Eigen.{Eigenpairs, eigenpairs}
@@ -78,10 +78,10 @@ repair cov floor n = through (repairOf floor n) (eigenpairs cov n)
 
 -- `nearest_psd`, and `eigenvalue_floor`, which is the same
 unfoldable pub nearestPsd : List Float → Float → ℕ → List Float → Outcome Repair
-unfolding repair side long finiteEntries
+unfolding repair isSide hasLength finiteEntries
 nearestPsd cov floor n out =
-    ask 1 (side n)
-    (ask 2 (long cov (n * n) && long out (n * n))
+    ask 1 (isSide n)
+    (ask 2 (hasLength cov (n * n) && hasLength out (n * n))
     (ask 3 (finiteEntries cov (n * n))
     (repair cov floor n)))
 

@@ -5,10 +5,10 @@ use mathlib.Core.List.{List}
 use mathlib.Core.Path.{_≡_}
 use lib.Ieee.{Float}
 use lib.ListN.{length}
-use Rattle.dense.specs.Matrix.{side}
+use Rattle.dense.specs.Matrix.{isSide}
 
 -- a matrix cov, n by n, with a slice for its repair: questions 1 and 2 are met
 pub record Mending (n : ℕ) (cov out : List Float) : Type 0 where
-  pub order : side n ≡ true
+  pub order : isSide n ≡ true
   pub matrix-size : length cov ≡ n * n
   pub out-size : length out ≡ n * n

@@ -6,7 +6,7 @@ use mathlib.Core.Path.{_≡_, sym, ap, _∙_}
 use borrow.Author.Needs.{needs}
 use Rattle.dense.specs.declared.Number.{Number}
 use Rattle.dense.specs.Answer.{given}
-use Rattle.dense.specs.Matrix.{side, long}
+use Rattle.dense.specs.Matrix.{isSide, hasLength}
 use Rattle.dense.proofs.Tests.{met, unmet, square-area}
 use Rattle.compare.specs.declared.Comparison.{Comparison}
 use Rattle.compare.specs.declared.Compared.the-variants.{Answered}
@@ -26,12 +26,12 @@ abbrev start-of : tie.Else2 → tie.Start
 start-of c = entered (sided c .before)
 
 -- questions 1, 2 and 18 are met
-met-1 : (c : tie.Else1) → side (entered (c .before) .args .n) ≡ true
+met-1 : (c : tie.Else1) → isSide (entered (c .before) .args .n) ≡ true
 met-1 c = met (c .before .is-side .ensures) (c .if1 .left)
 
 met-2 : (c : tie.Else2)
     → let x = start-of c .args in
-    (long (x .mu .now) (x .n) && (long (x .x .now) (x .n) && (long (x .p-i .now) (x .n * x .n) && long (x .p-j .now) (x .n * x .n)))) ≡ true
+    (hasLength (x .mu .now) (x .n) && (hasLength (x .x .now) (x .n) && (hasLength (x .p-i .now) (x .n * x .n) && hasLength (x .p-j .now) (x .n * x .n)))) ≡ true
 met-2 c = met (c .before .are-tracks .ensures) (c .if2 .left)
 
 met-18 : (c : tie.Else3) → let x = start-of (c .before .before) .args in floorAndGate (x .floor) (x .gate) ≡ true

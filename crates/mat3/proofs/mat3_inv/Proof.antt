@@ -3,7 +3,7 @@ use borrow.Author.Needs.{needs}
 use mathlib.Core.Bool.{true, _&&_}
 use mathlib.Core.Path.{_≡_, ap, _∙_}
 use lib.ListN.{length}
-use Rattle.dense.specs.Matrix.{long}
+use Rattle.dense.specs.Matrix.{hasLength}
 use Rattle.mat3.specs.Mat3.{mat3Inv, inverse3}
 use Rattle.dense.proofs.Tests.{met, unmet, two-long}
 use Rattle.dense.proofs.Answers.{done}
@@ -14,7 +14,7 @@ use Rattle.mat3.proofs.mat3_inv.Tie as tie
 abbrev start : tie.Else1 → tie.Start
 start c = c .before .before .before .before .before
 
-met-2 : (c : tie.Else1) → (long (start c .args .m .now) 9 && long (start c .args .out .now) 9) ≡ true
+met-2 : (c : tie.Else1) → (hasLength (start c .args .m .now) 9 && hasLength (start c .args .out .now) 9) ≡ true
 met-2 c = met (c .before .are-3-by-3 .ensures) (c .if1 .left)
 
 lengths : (c : tie.Else1) → (length (start c .args .m .now) ≡ 9) × (length (start c .args .out .now) ≡ 9)

@@ -3,7 +3,7 @@ use borrow.Author.Needs.{needs}
 use mathlib.Core.Bool.{true, _&&_}
 use mathlib.Core.Path.{_≡_, ap, _∙_}
 use lib.ListN.{length}
-use Rattle.dense.specs.Matrix.{long}
+use Rattle.dense.specs.Matrix.{hasLength}
 use Rattle.mat3.specs.Mat3.{mat3Solve, solution3}
 use Rattle.dense.proofs.Tests.{met, unmet, three-long}
 use Rattle.dense.proofs.Answers.{done}
@@ -14,7 +14,7 @@ use Rattle.mat3.proofs.mat3_solve.Tie as tie
 abbrev start : tie.Else1 → tie.Start
 start c = c .before .before .before .before .before .before
 
-met-2 : (c : tie.Else1) → let x = start c .args in (long (x .a .now) 9 && (long (x .b .now) 3 && long (x .out .now) 3)) ≡ true
+met-2 : (c : tie.Else1) → let x = start c .args in (hasLength (x .a .now) 9 && (hasLength (x .b .now) 3 && hasLength (x .out .now) 3)) ≡ true
 met-2 c = met (c .before .is-3-by-3-system .ensures) (c .if1 .left)
 
 lengths : (c : tie.Else1) → let x = start c .args in (length (x .a .now) ≡ 9) × (length (x .b .now) ≡ 3) × (length (x .out .now) ≡ 3)

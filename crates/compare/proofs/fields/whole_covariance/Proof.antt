@@ -6,7 +6,7 @@ use borrow.Author.Needs.{needs}
 use borrow.Author.Tests.{leb-true}
 use lib.Dec.{leb}
 use lib.ListN.{length}
-use Rattle.dense.specs.Matrix.{side, long}
+use Rattle.dense.specs.Matrix.{isSide, hasLength}
 use Rattle.dense.proofs.Answers.{done}
 use Rattle.dense.proofs.Tests.{met, unmet, and-left, and-right, long-length, side-high}
 use Rattle.tracks.specs.Layout.{fields}
@@ -15,13 +15,13 @@ use Rattle.compare.proofs.fields.whole_covariance.Statement.{statement}
 use Rattle.compare.proofs.fields.whole_covariance.Tie as tie
 
 -- questions 1 and 2 are met
-sided : (c : tie.Else1) → side (c .before .before .before .before .args .d) ≡ true
+sided : (c : tie.Else1) → isSide (c .before .before .before .before .args .d) ≡ true
 sided c = met (c .before .is-side .ensures) (c .if1 .left)
 
 abbrev start-of : tie.Else2 → tie.Start
 start-of c = c .before .before .before .before .before .before .before
 
-shaped : (c : tie.Else2) → let x = start-of c .args in (leb (fields (x .d)) (length (x .v .now)) && long (x .out .now) (x .d * x .d)) ≡ true
+shaped : (c : tie.Else2) → let x = start-of c .args in (leb (fields (x .d)) (length (x .v .now)) && hasLength (x .out .now) (x .d * x .d)) ≡ true
 shaped c = met (c .before .is-track .ensures) (c .if2 .left)
 
 returns : tie.Need-returns
@@ -39,7 +39,7 @@ mirror-requires c κs =
     record {
       track = record {
         few = side-high (x .d) (sided (two .before .before .before));
-        enough = leb-true (fields (x .d)) (length (x .v .now)) (and-left _ (long (x .out .now) (x .d * x .d)) (shaped two));
+        enough = leb-true (fields (x .d)) (length (x .v .now)) (and-left _ (hasLength (x .out .now) (x .d * x .d)) (shaped two));
       };
       room = long-length (x .out .now) (x .d * x .d) (and-right (leb (fields (x .d)) (length (x .v .now))) _ (shaped two));
     }

@@ -1,11 +1,11 @@
--- `is_vector` meets its contract: its test is that of `long`.
+-- `is_vector` meets its contract: its test is that of `hasLength`.
 use mathlib.Core.Path.{refl}
-use Rattle.dense.specs.Matrix.{long}
+use Rattle.dense.specs.Matrix.{hasLength}
 use Rattle.dense.proofs.shape.is_vector.Statement.{statement}
 use Rattle.dense.proofs.shape.is_vector.Tie as tie
 
 returns : tie.Need-returns
-unfolding long
+unfolding hasLength
 returns c = refl
 
 pub is-vector-spec : {M : Type 1} → statement M

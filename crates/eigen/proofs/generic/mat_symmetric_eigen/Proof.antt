@@ -3,7 +3,7 @@ use Prim.Native.Nat.{_*_, _≤_}
 use mathlib.Core.Bool.{true, _&&_}
 use mathlib.Core.Path.{_≡_}
 use borrow.Author.Needs.{needs}
-use Rattle.dense.specs.Matrix.{side, long}
+use Rattle.dense.specs.Matrix.{isSide, hasLength}
 use Rattle.dense.proofs.Tests.{met, unmet, area, side-high, long-length, two-long}
 use Rattle.eigen.specs.Eigen.{matSymmetricEigen}
 use Rattle.eigen.proofs.generic.mat_symmetric_eigen.Statement.{statement}
@@ -20,15 +20,15 @@ abbrev second : tie.Else3 → tie.Else2
 second c = c .before .before .before .before
 
 -- question 1 is met
-sided : (c : tie.Else1) → side (entered c .args .n) ≡ true
+sided : (c : tie.Else1) → isSide (entered c .args .n) ≡ true
 sided c = met (c .before .is-side .ensures) (c .if1 .left)
 
 -- and so is question 2 of a
-shaped : (c : tie.Else2) → let x = entered (first c) .args in long (x .a .now) (x .n * x .n) ≡ true
+shaped : (c : tie.Else2) → let x = entered (first c) .args in hasLength (x .a .now) (x .n * x .n) ≡ true
 shaped c = met (c .before .is-matrix .ensures) (c .if2 .left)
 
 -- and of the slices that are written
-wide : (c : tie.Else3) → let x = entered (first (second c)) .args in (long (x .values .now) (x .n) && long (x .vectors .now) (x .n * x .n)) ≡ true
+wide : (c : tie.Else3) → let x = entered (first (second c)) .args in (hasLength (x .values .now) (x .n) && hasLength (x .vectors .now) (x .n * x .n)) ≡ true
 wide c = met (c .before .is-form .ensures) (c .if3 .left)
 
 -- a matrix has few enough entries

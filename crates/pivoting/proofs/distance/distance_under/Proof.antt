@@ -8,7 +8,7 @@ use lib.ListN.{length}
 use Rattle.dense.specs.declared.Written.{Written}
 use Rattle.dense.specs.declared.Number.the-variants.{Value}
 use Rattle.dense.specs.Answer.{given}
-use Rattle.dense.specs.Matrix.{side, long}
+use Rattle.dense.specs.Matrix.{isSide, hasLength}
 use Rattle.linalg.specs.Sums.{difference, quadraticForm, distanceWithInv}
 use Rattle.pivoting.specs.Solve.{following}
 use borrow.Author.Needs.{needs}
@@ -17,7 +17,7 @@ use Rattle.pivoting.proofs.distance.distance_under.Tie as tie
 
 answered-by : (x mu inv : List Float) (n : ℕ) → 1 ≤ n → n ≤ 16 → length x ≡ n → length mu ≡ n → length inv ≡ n * n
     → given (distanceWithInv x mu inv n) ≡ Value (quadraticForm (difference x mu n) inv n)
-unfolding distanceWithInv side long
+unfolding distanceWithInv isSide hasLength
 answered-by x mu inv n h k p q r = rw (le-leb 1 n h, le-leb n 16 k, eq-eqb (length x) n p, eq-eqb (length mu) n q, eq-eqb (length inv) (n * n) r)
 
 returns : tie.Need-returns

@@ -3,7 +3,7 @@ use Prim.Native.Nat.{_*_}
 use mathlib.Core.Bool.{true, _&&_}
 use mathlib.Core.Path.{_≡_, ap}
 use borrow.Author.Needs.{needs}
-use Rattle.dense.specs.Matrix.{side, long}
+use Rattle.dense.specs.Matrix.{isSide, hasLength}
 use Rattle.dense.specs.declared.Number.the-variants.{Value}
 use Rattle.dense.proofs.Tests.{met, unmet, square-area, two-long}
 use Rattle.power.specs.Power.{Eigenpair, matEigenvectorMax}
@@ -15,11 +15,11 @@ abbrev entered : tie.Else1 → tie.Start
 entered c = c .before .before .before .before
 
 -- question 1 is met
-sided : (c : tie.Else1) → side (entered c .args .n) ≡ true
+sided : (c : tie.Else1) → isSide (entered c .args .n) ≡ true
 sided c = met (c .before .is-side .ensures) (c .if1 .left)
 
 -- and so is question 2
-shaped : (c : tie.Else2) → let x = entered (c .before .before .before) .args in (long (x .v .now) (x .n) && long (x .a .now) (x .n * x .n)) ≡ true
+shaped : (c : tie.Else2) → let x = entered (c .before .before .before) .args in (hasLength (x .v .now) (x .n) && hasLength (x .a .now) (x .n * x .n)) ≡ true
 shaped c = met (c .before .is-form .ensures) (c .if2 .left)
 
 returns : tie.Need-returns

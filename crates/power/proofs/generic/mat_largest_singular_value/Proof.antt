@@ -2,7 +2,7 @@
 use mathlib.Core.Bool.{true}
 use mathlib.Core.Path.{_≡_}
 use borrow.Author.Needs.{needs}
-use Rattle.dense.specs.Matrix.{side}
+use Rattle.dense.specs.Matrix.{isSide}
 use Rattle.dense.proofs.Tests.{met, unmet, square-area, long-length}
 use Rattle.dense.proofs.Answers.{value}
 use Rattle.power.specs.Power.{matLargestSingularValue}
@@ -10,7 +10,7 @@ use Rattle.power.proofs.generic.mat_largest_singular_value.Statement.{s
 use Rattle.power.proofs.generic.mat_largest_singular_value.Tie as tie
 
 -- question 1 is met
-sided : (c : tie.Else1) → side (c .before .before .before .args .n) ≡ true
+sided : (c : tie.Else1) → isSide (c .before .before .before .args .n) ≡ true
 sided c = met (c .before .is-side .ensures) (c .if1 .left)
 
 returns : tie.Need-returns

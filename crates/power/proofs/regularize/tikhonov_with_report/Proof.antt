@@ -6,7 +6,7 @@ use mathlib.Core.List.{List}
 use borrow.Author.Needs.{needs}
 use lib.Ieee.{Float}
 use lib.ListN.{length}
-use Rattle.dense.specs.Matrix.{matrix, side, long}
+use Rattle.dense.specs.Matrix.{matrix, isSide, hasLength}
 use Rattle.linalg.specs.Regularize.{dampedEntry}
 use Rattle.dense.proofs.Tests.{met, unmet, two-squares, two-long}
 use Rattle.power.specs.declared.Damped.{Damped}
@@ -23,12 +23,12 @@ abbrev first : tie.Else2 → tie.Else1
 first c = c .before .before .before
 
 -- question 1 is met
-sided : (c : tie.Else1) → side (entered c .args .n) ≡ true
+sided : (c : tie.Else1) → isSide (entered c .args .n) ≡ true
 sided c = met (c .before .is-side .ensures) (c .if1 .left)
 
 -- and so is question 2
 shaped : (c : tie.Else2)
-    → let x = entered (first c) .args in (long (x .cov .now) (x .n * x .n) && long (x .out .now) (x .n * x .n)) ≡ true
+    → let x = entered (first c) .args in (hasLength (x .cov .now) (x .n * x .n) && hasLength (x .out .now) (x .n * x .n)) ≡ true
 shaped c = met (c .before .are-matrices .ensures) (c .if2 .left)
 
 -- the lengths

@@ -5,7 +5,7 @@ use mathlib.Core.Path.{_≡_}
 use lib.Ieee.{ofBits}
 use lib.ListN.{length}
 use borrow.Author.Needs.{needs}
-use Rattle.dense.specs.Matrix.{long}
+use Rattle.dense.specs.Matrix.{hasLength}
 use Rattle.dense.proofs.Tests.{met, unmet, two-long}
 use Rattle.eigen.proofs.Single.{single-stored}
 use Rattle.repair.proofs.SmallOrders.{single-asked, single-repaired}
@@ -20,7 +20,7 @@ abbrev first : tie.Else2 → tie.Else1
 first c = c .before .before .before
 
 -- question 2 is met
-shaped : (c : tie.Else1) → let x = entered c .args in (long (x .cov .now) 1 && long (x .out .now) 1) ≡ true
+shaped : (c : tie.Else1) → let x = entered c .args in (hasLength (x .cov .now) 1 && hasLength (x .out .now) 1) ≡ true
 shaped c = met (c .before .are-matrices .ensures) (c .if1 .left)
 
 sizes : (c : tie.Else1) → let x = entered c .args in (length (x .cov .now) ≡ 1) × (length (x .out .now) ≡ 1)

@@ -5,7 +5,7 @@ use mathlib.Core.Bool.{true, _&&_}
 use mathlib.Core.Path.{_≡_}
 use lib.ListN.{length}
 use borrow.Author.Needs.{needs}
-use Rattle.dense.specs.Matrix.{side, long, finiteEntries}
+use Rattle.dense.specs.Matrix.{isSide, hasLength, finiteEntries}
 use Rattle.dense.proofs.Tests.{met, unmet, area, two-long, two-squares}
 use Rattle.repair.specs.Repair.{nearestPsd}
 use Rattle.repair.proofs.regularize.asked_repair.Statement.{statement}
@@ -26,11 +26,11 @@ returns : tie.Need-returns
 returns c = let called = c .before .before in rw (called .before .before .if1 .taken) (called .single-repair .ensures)
 
 -- question 1 is met
-sided : (c : tie.Else2) → side (entered c .args .n) ≡ true
+sided : (c : tie.Else2) → isSide (entered c .args .n) ≡ true
 sided c = met (c .before .is-side .ensures) (c .if2 .left)
 
 -- and question 2
-shaped : (c : tie.Else3) → let x = entered (first c) .args in (long (x .cov .now) (x .n * x .n) && long (x .out .now) (x .n * x .n)) ≡ true
+shaped : (c : tie.Else3) → let x = entered (first c) .args in (hasLength (x .cov .now) (x .n * x .n) && hasLength (x .out .now) (x .n * x .n)) ≡ true
 shaped c = met (c .before .are-matrices .ensures) (c .if3 .left)
 
 sizes : (c : tie.Else3) → let x = entered (first c) .args in (length (x .cov .now) ≡ x .n * x .n) × (length (x .out .now) ≡ x .n * x .n)
