@@ -1,12 +1,11 @@
 -- What the definitions say, as demand 3 puts it: `near-pairs` and `nearest-first` of candidates, `equal-fields` of equal tracks, `only-unblocked` of the pairing `paired`.
 use Prim.Native.Nat.{ℕ, _<_}
-use mathlib.Core.Path.{_≡_, refl, sym, subst}
+use mathlib.Core.Path.{_≡_, refl, sym, ap, subst}
 use mathlib.Core.Logic.{_↔_, _⊎_, inl, inr, ⊎-elim}
 use mathlib.Core.Bool.{Bool, _&&_, _||_}
-use mathlib.Core.List.{List}
 use lib.Dec.{T, ltb, ltb→lt, lt→ltb}
 use lib.Ieee.{Float, lt, eq}
-use Rattle.tracks.specs.Read.{TrackList}
+use Rattle.tracks.specs.Read.{Track, TrackList, trackOf}
 use Rattle.tracks.specs.Record.{sameBytes}
 use Rattle.tracks.proofs.Records.{same-refl, same-equal}
 use Rattle.compare.specs.declared.Comparison.{Comparison}
@@ -23,8 +22,8 @@ use Rattle.merge.specs.Demand3.{OnlyUnblocked}
 pub equal-fields : (c d : TrackList) (i j : ℕ) → T (equalTracks c i d j) ↔ (trackAt c i ≡ trackAt d j)
 unfolding equalTracks
 equal-fields c d i j = (
-  λ t. same-equal (trackAt c i) (trackAt d j) (is-true (sameBytes (trackAt c i) (trackAt d j)) t),
-  λ e. subst (λ (v : List ℕ). T (sameBytes (trackAt c i) v)) e (rw (same-refl (trackAt c i)) tt),
+  λ t. ap trackOf (same-equal (trackAt c i .values) (trackAt d j .values) (is-true (sameBytes (trackAt c i .values) (trackAt d j .values)) t)),
+  λ e. subst (λ (t : Track). T (sameBytes (trackAt c i .values) (t .values))) e (rw (same-refl (trackAt c i .values)) tt),
 )
 
 near-is : (x : Comparison) → T (isNear x) → (d2 : Float) × (x ≡ Near d2)

@@ -29,7 +29,7 @@ use Rattle.merge.proofs.Candidates.{keyed-partners, all-keyed-partners}
 
 -- the values of n tracks of f fields are those of a list
 abbrev pub Holds : TrackList → List Float → ℕ → Type 0
-Holds c values f = (i : ℕ) → i < trackCount c → rowOf values f i ≡ doubles (trackAt c i)
+Holds c values f = (i : ℕ) → i < trackCount c → rowOf values f i ≡ doubles (trackAt c i .values)
 
 nobody-free : (n i : ℕ) → i < n → isFree (nobodies n) i ≡ true
 unfolding nobodies

@@ -13,7 +13,7 @@ use Rattle.kernel.specs.Bytes.{Bytes}
 use Rattle.kernel.specs.Lists.{over}
 use Rattle.kernel.proofs.Lists.{getD-tabulate, row-within}
 use Rattle.tracks.specs.Layout.{fields}
-use Rattle.tracks.specs.Read.{TrackList, contents}
+use Rattle.tracks.specs.Read.{Track, TrackList, trackOf, contents}
 use Rattle.tracks.specs.Write.{tracksOf}
 use Rattle.tracks.specs.Calls.{doubles, joined}
 use Rattle.tracks.specs.Record.{offset, recordAt, sameBytes}
@@ -33,14 +33,14 @@ module _ (l : List ℕ) (h : Bytes l) (c : TrackList) (ok : contents l ≡ answe
   abbrev f : ℕ
   f = fields (c .dimension)
 
-  cut : (i : ℕ) → i < trackCount c → take f (drop (i * f) (joined (c .tracks))) ≡ trackAt c i
+  cut : (i : ℕ) → i < trackCount c → take f (drop (i * f) (joined (c .tracks))) ≡ trackAt c i .values
   unfolding tracksOf
   cut i lt =
-      sym (getD-tabulate (trackCount c) (λ j. take f (drop (j * f) (joined (c .tracks)))) [] i lt)
-      ∙ ap (λ (ts : List (List ℕ)). getD ts i []) (tracks-joined f (c .tracks) (λ k lk. accepted-fit l h c ok k lk .long))
+      ap (λ (t : Track). t .values) (sym (getD-tabulate (trackCount c) (λ j. trackOf (take f (drop (j * f) (joined (c .tracks))))) (trackOf []) i lt)
+      ∙ ap (λ (ts : List Track). getD ts i (trackOf [])) (tracks-joined f (c .tracks) (λ k lk. accepted-fit l h c ok k lk .long)))
 
   -- the values of track i among those of all
-  pub values-read : (old : List Float) (i : ℕ) → i < trackCount c → take f (drop (i * f) (over old 0 (doubles (joined (c .tracks))))) ≡ doubles (trackAt c i)
+  pub values-read : (old : List Float) (i : ℕ) → i < trackCount c → take f (drop (i * f) (over old 0 (doubles (joined (c .tracks))))) ≡ doubles (trackAt c i .values)
   unfolding over
   values-read old i lt =
       let vs = doubles (joined (c .tracks)) in

@@ -22,8 +22,8 @@ use Rattle.merge.specs.Tracks.{trackCount, trackAt}
 unfoldable pub comparison : TrackList → TrackList → Float → Float → ℕ → ℕ → Comparison
 comparison a b floor gate i j =
     let d = a .dimension in
-    let u = doubles (trackAt a i) in
-    let v = doubles (trackAt b j) in
+    let u = doubles (trackAt a i .values) in
+    let v = doubles (trackAt b j .values) in
     compared (trackState d u) (trackState d v) (trackCovariance d u) (trackCovariance d v) d floor gate
 
 -- Near pairs are candidates.

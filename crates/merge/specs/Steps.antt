@@ -53,7 +53,7 @@ pub record Read (l offsets : List ℕ) (values : List Float) (n : ℕ) : Type 0 
   pub located : Located l offsets
   pub number : n ≡ trackCount (held l)
   pub long : length values ≡ 1728
-  pub fields-of : (i : ℕ) → i < n → rowOf values (fields (held l .dimension)) i ≡ doubles (trackAt (held l) i)
+  pub fields-of : (i : ℕ) → i < n → rowOf values (fields (held l .dimension)) i ≡ doubles (trackAt (held l) i .values)
 
 -- That three lists of the dimension d, of m, n and l tracks, are read.
 pub record AllRead (base base-offsets : List ℕ) (base-values : List Float) (ours ours-offsets : List ℕ) (ours-values : List Float)

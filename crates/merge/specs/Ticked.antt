@@ -18,7 +18,7 @@ use Rattle.repair.specs.Repair.{Repair, nearestPsd}
 use Rattle.pivoting.specs.Pivot.{rowNorms, stage, pivotAt, bestOf}
 use Rattle.pivoting.specs.Solve.{matSolve, matInv}
 use Rattle.pivoting.specs.Det.{matDet}
-use Rattle.tracks.specs.Read.{contents}
+use Rattle.tracks.specs.Read.{trackOf, contents}
 use Rattle.tracks.specs.Write.{written}
 use Rattle.tracks.specs.Examples.{oneTrack, zeroAndOne, one-track-read, one-track-written, example-j}
 use Rattle.merge.specs.Merge.{merging, afterMerge}
@@ -104,7 +104,7 @@ abbrev pub J : Type 0
 J =
     (contents (0x01 ∷ 0x01 ∷ 0x06 ∷ []) ≡ refused 13)
     × (oneTrack ≡ 0x01 ∷ 0x01 ∷ 0x02 ∷ 0x00 ∷ 0x00 ∷ 0x00 ∷ 0x00 ∷ 0x00 ∷ 0x00 ∷ 0xF0 ∷ 0x3F ∷ [])
-    × (contents oneTrack ≡ answered (record { dimension = 1; tracks = zeroAndOne ∷ [] }))
+    × (contents oneTrack ≡ answered (record { dimension = 1; tracks = trackOf zeroAndOne ∷ [] }))
     × (written 1 1 zeroAndOne 11 ≡ answered oneTrack)
 
 -- d = 1, all variances 1, base 10, 20, 30; ours 10, 30; theirs 10, 20, 30.5; floor 1, gate 16: rows `0 0 0 0`, `1 - 1 3`, `2 1 2 2` and counts `2 1 0`.

@@ -12,7 +12,7 @@ use crate::rows::write_rows;
 use crate::verdicts::write_verdicts;
 use compare::questions::is_floor_and_gate;
 use kernel::question;
-use tracks::layout::field_count;
+use tracks::inside::fields;
 
 // Merges three lists of one dimension, of m, n and l tracks.
 pub(crate) fn merge_three(
@@ -42,7 +42,7 @@ pub(crate) fn merge_three(
     if rows.len() < 4 * (m + n + l) {
         return Merged::Refused(question::ROW_BUFFER);
     }
-    let f = field_count(d);
+    let f = fields(d);
     let terms = Terms { d, f, floor, gate };
     let pairings = pair_all(base_values, m, ours_values, n, theirs_values, l, terms);
     let total = write_rows(pairings, m, n, l, rows);

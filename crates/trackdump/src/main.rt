@@ -1,12 +1,13 @@
 // trackdump FILE [triangle]: shows a track list as text. The first line has the count and the dimension; then there is a line
 // for each track, with its index, its state and its variances, or with the word `triangle` the lower triangle of its
 // covariance, row by row. A list that is refused is shown as `no`, the question's number and the question.
+ghost use Prim.Native.Nat.{_≤_};
 mod number;
 mod shortest;
 mod whole;
 
 use kernel::question;
-use tracks::layout;
+use tracks::inside;
 use tracks::read;
 use tracks::read::ReadList;
 
@@ -67,13 +68,15 @@ fn print_tracks(values: &[f64], count: usize, d: usize, f: usize, whole: bool) {
     }
 }
 
-fn print_list(values: &[f64], count: usize, d: usize, whole: bool) {
+fn print_list(values: &[f64], count: usize, d: usize, whole: bool)
+    requires { ⌜ d ≤ 9 ⌝ }
+{
     io::write_all(1, b"count ");
     io::print_decimal(1, count as u64);
     io::write_all(1, b" dimension ");
     io::print_decimal(1, d as u64);
     io::write_all(1, b"\n");
-    print_tracks(values, count, d, layout::field_count(d), whole);
+    print_tracks(values, count, d, inside::fields(d), whole);
 }
 
 // A question that a reader puts, in words.

@@ -11,15 +11,15 @@ use lib.Ieee.Bits.{nanBits-above}
 use lib.ListN.{length}
 use borrow.Author.Tests.{leb-true, eqb-true, not-true, ltb-true, le-ltb, le-leb, eq-eqb, ne-eqb}
 use Rattle.kernel.specs.Answer.{Outcome, answered, andThen}
-use Rattle.tracks.specs.Layout.{fields, mapBytes, stands, spare, finiteBits, countMet, dimensionMet}
+use Rattle.tracks.specs.Layout.{fields, mapBits, stands, spare, finiteBits, countMet, dimensionMet}
 use Rattle.kernel.specs.Bytes.{word}
-use Rattle.tracks.specs.Read.{Item, TrackList, stored, storedIf, field, items, track, tracks, count, dimension, nothingAfter, contents}
+use Rattle.tracks.specs.Read.{Item, Track, TrackList, itemOf, trackOf, afterMap, stored, storedIf, field, items, track, tracks, count, dimension, nothingAfter, contents}
 use Rattle.tracks.specs.Calls.{readAnswer}
-use Rattle.tracks.specs.Steps.{ends, Within}
+use Rattle.tracks.specs.Private.{ends, Within}
 use Rattle.tracks.specs.declared.read.ReadList.{ReadList}
 use Rattle.tracks.specs.declared.read.ReadList.the-variants as ReadList
 use Rattle.tracks.specs.declared.read.Checked.the-variants.{End, Refused}
-use Rattle.tracks.proofs.Items.{ended, stopped, items-ind, items-length}
+use Rattle.tracks.proofs.Items.{ended, stopped, made-met, items-ind, items-length}
 use Rattle.kernel.proofs.Answers.{answered-inj, ask-met, and-then-met}
 
 -- a stored field: it is all there, finite, and not all zero bits
@@ -66,32 +66,40 @@ fields-within l map base h =
     (λ k xs x p e. omega (arith, next-within l map k (xs .next) x (p .1) e))
 
 -- an accepted track: its map is all there, its spare bits are 0, and its fields are accepted
-pub record Track (l : List ℕ) (f at : ℕ) (ys : Item (List ℕ)) : Type 0 where
-  pub there : at + mapBytes f ≤ length l
-  pub spare : spare l f at ≡ true
-  pub fields : items (field l at) (at + mapBytes f) f ≡ answered ys
-  pub long : length (ys .value) ≡ f
-  pub from : at + mapBytes f ≤ ys .next
-  pub within : ys .next ≤ length l
+pub record TrackMet (l : List ℕ) (d at : ℕ) (t : Item Track) : Type 0 where
+  pub there : afterMap d at ≤ length l
+  pub spare : spare l (mapBits d) at ≡ true
+  pub read : items (field l at) (afterMap d at) (fields d) ≡ answered (itemOf (λ u. u .values) t)
+  pub long : length (t .value .values) ≡ fields d
+  pub from : afterMap d at ≤ t .next
+  pub within : t .next ≤ length l
 
-pub track-met : (l : List ℕ) (f at : ℕ) (ys : Item (List ℕ)) → track l f at ≡ answered ys → Track l f at ys
+pub track-met : (l : List ℕ) (d at : ℕ) (t : Item Track) → track l d at ≡ answered t → TrackMet l d at t
 unfolding track
-track-met l f at ys e =
-    let a = ask-met 12 (leb (at + mapBytes f) (length l)) _ e in
-    let b = ask-met 13 (spare l f at) _ (a .1) in
-    let h : at + mapBytes f ≤ length l = leb-true _ _ (a .0) in
-    let w = fields-within l at (at + mapBytes f) h f ys (b .1) in
-    record { there = h; spare = b .0; fields = b .1; long = items-length (field l at) (at + mapBytes f) f ys (b .1); from = w .0; within = w .1 }
+track-met l d at t e =
+    let a = ask-met 12 (leb (afterMap d at) (length l)) _ e in
+    let b = ask-met 13 (spare l (mapBits d) at) _ (a .1) in
+    let h : afterMap d at ≤ length l = leb-true _ _ (a .0) in
+    let v = made-met trackOf (items (field l at) (afterMap d at) (fields d)) (b .1) in
+    let w = fields-within l at (afterMap d at) h (fields d) (v .0) (v .1) in
+    subst (TrackMet l d at) (v .2) (record {
+      there = h;
+      spare = b .0;
+      read = v .1;
+      long = items-length (field l at) (afterMap d at) (fields d) (v .0) (v .1);
+      from = w .0;
+      within = w .1;
+    })
 
-pub track-within : (l : List ℕ) (f at : ℕ) → Within l (ends (track l f at))
-track-within l f at e p = let a = ended (track l f at) e p in omega (arith, track-met l f at (a .0) (a .1) .within, a .2)
+pub track-within : (l : List ℕ) (d at : ℕ) → Within l (ends (track l d at))
+track-within l d at e p = let a = ended (track l d at) e p in omega (arith, track-met l d at (a .0) (a .1) .within, a .2)
 
 -- accepted tracks end within the list
-pub tracks-within : (l : List ℕ) (f n : ℕ) → 2 ≤ length l → Within l (ends (tracks l f n))
+pub tracks-within : (l : List ℕ) (d n : ℕ) → 2 ≤ length l → Within l (ends (tracks l d n))
 unfolding tracks
-tracks-within l f n h e p =
-    let a = ended (tracks l f n) e p in
-    rw (sym (a .2)) (items-ind (λ _. track l f) 2 (λ n ys. ys .next ≤ length l) h (λ k xs x q t. track-met l f (xs .next) x t .within) n (a .0) (a .1))
+tracks-within l d n h e p =
+    let a = ended (tracks l d n) e p in
+    rw (sym (a .2)) (items-ind (λ _. track l d) 2 (λ n ys. ys .next ≤ length l) h (λ k xs x q t. track-met l d (xs .next) x t .within) n (a .0) (a .1))
 
 -- which of the two an accepted field is, by its bit
 pub field-stored : (l : List ℕ) (map k at : ℕ) {x : Item ℕ} → stands l map k ≡ true → field l map k at ≡ answered x → Stored l at x
@@ -107,17 +115,17 @@ pub finite-no-nan : (b : ℕ) → finiteBits b ≡ true → T (not (nanBits bina
 finite-no-nan b h = rw (nanBits-above binary64 b ∙ le-ltb (2047 * 2 ^ 52) (b % 2 ^ 63) (omega (arith, ltb-true (b % 2 ^ 63) (2047 * 2 ^ 52) h))) tt
 
 -- the tracks that a list's first two bytes tell
-abbrev pub tracked : List ℕ → Outcome (Item (List (List ℕ)))
-tracked l = tracks l (fields (dimension l)) (count l)
+abbrev pub tracked : List ℕ → Outcome (Item (List Track))
+tracked l = tracks l (dimension l) (count l)
 
 -- a list whose first two bytes are accepted, by its tracks
 pub contents-head : (l : List ℕ) → 2 ≤ length l → countMet (count l) ≡ true → dimensionMet (dimension l) ≡ true → contents l ≡ andThen (tracked l) (nothingAfter l)
 unfolding contents
 contents-head l h n d = simp (le-leb 2 (length l) h, n, d)
 
-tracked-length : (l : List ℕ) (x : Item (List (List ℕ))) → tracked l ≡ answered x → length (x .value) ≡ count l
+tracked-length : (l : List ℕ) (x : Item (List Track)) → tracked l ≡ answered x → length (x .value) ≡ count l
 unfolding tracks
-tracked-length l = items-length (λ _. track l (fields (dimension l))) 2 (count l)
+tracked-length l = items-length (λ _. track l (dimension l)) 2 (count l)
 
 -- a dimension that is accepted is at most 9
 pub dimension-small : (d : ℕ) → dimensionMet d ≡ true → d ≤ 9
@@ -144,7 +152,7 @@ pub record Whole (l : List ℕ) (c : TrackList) : Type 0 where
   pub two : 2 ≤ length l
   pub few : countMet (length (c .tracks)) ≡ true
   pub sized : dimensionMet (c .dimension) ≡ true
-  pub read : tracks l (fields (c .dimension)) (length (c .tracks)) ≡ answered (record { value = c .tracks; next = length l })
+  pub read : tracks l (c .dimension) (length (c .tracks)) ≡ answered (record { value = c .tracks; next = length l })
   pub count : length (c .tracks) ≡ count l
   pub dimension : c .dimension ≡ dimension l
 
@@ -161,7 +169,7 @@ contents-met l e =
       two = leb-true _ _ (a .0);
       few = rw n (b .0);
       sized = d .0;
-      read = ap (tracks l (fields (dimension l))) n ∙ t .1 ∙ ap (λ (k : ℕ). answered (record { value = t .0 .value; next = k })) (eqb-true _ _ (last .0));
+      read = ap (tracks l (dimension l)) n ∙ t .1 ∙ ap (λ (k : ℕ). answered (record { value = t .0 .value; next = k })) (eqb-true _ _ (last .0));
       count = n;
       dimension = refl;
     })

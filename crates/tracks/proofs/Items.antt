@@ -11,9 +11,9 @@ use lib.ListN.{length, getD, length-append, List·getD-append}
 use lib.Seq.{getD-at}
 use Rattle.kernel.specs.Answer.{Outcome, refused, answered, andThen, through}
 use Rattle.kernel.proofs.Answers.{answered-inj, never-both}
-use Rattle.tracks.specs.Read.{Item, push, items}
+use Rattle.tracks.specs.Read.{Item, itemOf, push, items}
 use Rattle.tracks.specs.Record.{endOf}
-use Rattle.tracks.specs.Steps.{ends, continued, checkedEnd}
+use Rattle.tracks.specs.Private.{ends, continued, checkedEnd}
 use Rattle.tracks.specs.declared.read.Checked.{Checked}
 use Rattle.tracks.specs.declared.read.Checked.the-variants.{End, Refused}
 
@@ -26,6 +26,15 @@ ended (answered x) e p = (x, refl, cc)
 pub stopped : {A : Type 0} (o : Outcome (Item A)) (q : ℕ) → ends o ≡ Refused q → o ≡ refused q
 stopped (refused n) q p = cc
 stopped (answered x) q p = let z : _≡_ {A = ℕ} 0 1 = cc in absurd (omega arith)
+
+-- what something is made of, where it is accepted, and that it ends where that ends
+pub made-met : {A B : Type 0} (make : A → B) (o : Outcome (Item A)) {y : Item B} → through (itemOf make) o ≡ answered y → (x : Item A) × (o ≡ answered x) × (itemOf make x ≡ y)
+made-met make (refused q) e = never-both (sym e)
+made-met make (answered x) e = (x, refl, answered-inj e)
+
+pub ends-made : {A B : Type 0} (make : A → B) (o : Outcome (Item A)) → ends (through (itemOf make) o) ≡ ends o
+ends-made make (refused q) = refl
+ends-made make (answered x) = refl
 
 -- where items end, by what was read and by what was checked
 pub checked-end : {A : Type 0} (o : Outcome (Item A)) → checkedEnd (ends o) ≡ endOf o

@@ -1,17 +1,19 @@
 -- What the answer to a list tells. `known-list`: n tracks of dimension d; `known-fields` and `known-tracks`: their fields, and that they are read; `reading-fits` and its
--- neighbours: what question 2 decides after the others.
+-- neighbours: what question 2 decides after the others; `reading-small`: the dimension of what is read.
 use Prim.Native.Nat.{ℕ, _*_, _<_, _≤_}
 use native.Mathlib.Omega.{arith}
 use mathlib.Core.Path.{_≡_, refl, sym, ap, _∙_}
 use mathlib.Core.List.{List}
+use lib.Dec.{leb}
 use lib.ListN.{length}
 use borrow.Author.Tests.{leb-true, le-leb, lt-leb}
-use Rattle.kernel.specs.Answer.{Outcome, refused, answered}
+use Rattle.kernel.specs.Answer.{Outcome, refused, answered, ask}
 use Rattle.tracks.specs.Layout.{fields}
 use Rattle.tracks.specs.Read.{TrackList, tracks, contents, reading}
 use Rattle.tracks.specs.Calls.{readAnswer}
 use Rattle.tracks.specs.declared.read.ReadList.{ReadList}
 use Rattle.tracks.specs.declared.read.ReadList.the-variants as ReadList
+use Rattle.kernel.proofs.Answers.{ask-met, and-then-met}
 use Rattle.tracks.proofs.Accepted.{Whole, contents-met, dimension-small}
 
 -- a list is accepted exactly if its answer is its count and dimension
@@ -47,15 +49,12 @@ known-list l e p =
       small = rw (a .3) (dimension-small _ (w .sized));
     }
 
-module _ {l : List ℕ} {n d f : ℕ} (k : Known l n d) (e : f ≡ fields d) where
-  known-size : f ≡ fields (k .held .dimension)
-  known-size = e ∙ ap fields (k .dimension)
+module _ {l : List ℕ} {n d : ℕ} (k : Known l n d) where
+  pub known-fields : {f : ℕ} → f ≡ fields d → n * f ≡ length (k .held .tracks) * fields (k .held .dimension)
+  known-fields {f} e = ap (λ (m : ℕ). m * f) (k .count) ∙ ap (λ (g : ℕ). length (k .held .tracks) * g) (e ∙ ap fields (k .dimension))
 
-  pub known-fields : n * f ≡ length (k .held .tracks) * fields (k .held .dimension)
-  known-fields = ap (λ (m : ℕ). m * f) (k .count) ∙ ap (λ (g : ℕ). length (k .held .tracks) * g) known-size
-
-  pub known-tracks : tracks l f n ≡ answered (record { value = k .held .tracks; next = length l })
-  known-tracks = ap (tracks l f) (k .count) ∙ ap (λ (g : ℕ). tracks l g (length (k .held .tracks))) known-size ∙ k .whole .read
+  pub known-tracks : tracks l d n ≡ answered (record { value = k .held .tracks; next = length l })
+  known-tracks = ap (tracks l d) (k .count) ∙ ap (λ (e : ℕ). tracks l e (length (k .held .tracks))) (k .dimension) ∙ k .whole .read
 
 -- question 2 after the others
 pub reading-fits : (l : List ℕ) (room : ℕ) {c : TrackList} → contents l ≡ answered c → length (c .tracks) * fields (c .dimension) ≤ room → reading l room ≡ answered c
@@ -65,6 +64,17 @@ reading-fits l room e h = rw (e, le-leb _ room h) refl
 pub reading-short : (l : List ℕ) (room : ℕ) {c : TrackList} → contents l ≡ answered c → room < length (c .tracks) * fields (c .dimension) → reading l room ≡ refused 2
 unfolding reading
 reading-short l room e h = rw (e, lt-leb _ room h) refl
+
+pub reading-met : (l : List ℕ) (room : ℕ) {c : TrackList} → reading l room ≡ answered c → contents l ≡ answered c
+unfolding reading
+reading-met l room e =
+    let a = and-then-met (contents l) (λ c. ask 2 (leb (length (c .tracks) * fields (c .dimension)) room) (answered c)) e in
+    let b = ask-met 2 (leb (length (a .0 .tracks) * fields (a .0 .dimension)) room) _ (a .2) in
+    a .1 ∙ b .1
+
+-- a list that `read_list` has read has a dimension of 9 at most
+pub reading-small : (l : List ℕ) (room : ℕ) {n d : ℕ} → readAnswer (reading l room) ≡ ReadList.Read n d → d ≤ 9
+reading-small l room e = let a = read-accepted (reading l room) e in rw (a .3) (dimension-small _ (contents-met l (reading-met l room (a .1)) .sized))
 
 pub reading-refused : (l : List ℕ) (room : ℕ) {q : ℕ} → contents l ≡ refused q → reading l room ≡ refused q
 unfolding reading

@@ -1,3 +1,4 @@
+pub mod Fields
 pub mod Items
 pub mod Accepted
 pub mod Known

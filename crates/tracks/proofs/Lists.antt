@@ -10,6 +10,7 @@ use lib.ListN.{length, getD, take, drop, set, length-append}
 use lib.Seq.{take-suc}
 use Rattle.kernel.specs.Lists.{tabulate, over}
 use Rattle.kernel.proofs.Lists.{tabulate-more, over-set, over-more, over-over}
+use Rattle.tracks.specs.Read.{Track}
 use Rattle.tracks.specs.Calls.{joined}
 
 -- the place after one list more
@@ -26,9 +27,9 @@ pub flatMap-more : {A B : Type 0} (g : A → List B) (us : List A) (v : A) → f
 unfolding flatMap
 flatMap-more g us v = rw (flatMap-append g us (v ∷ []), append-nil (g v)) refl
 
-pub joined-more : {A : Type 0} (vs : List (List A)) (v : List A) → joined (vs ++ (v ∷ [])) ≡ joined vs ++ v
+pub joined-more : (ts : List Track) (t : Track) → joined (ts ++ (t ∷ [])) ≡ joined ts ++ t .values
 unfolding joined
-joined-more vs v = flatMap-more (λ v. v) vs v
+joined-more ts t = flatMap-more (λ u. u .values) ts t
 
 -- an index within a list needs no default
 pub getD-any : {A : Type 0} (l : List A) (i : ℕ) (d e : A) → i < length l → getD l i d ≡ getD l i e

@@ -13,7 +13,7 @@ use Rattle.tracks.specs.Layout.{fields}
 use Rattle.tracks.specs.Read.{TrackList, contents}
 use Rattle.tracks.specs.Record.{offset, placing}
 use Rattle.tracks.specs.Calls.{readingPlaced}
-use Rattle.tracks.specs.Steps.{Offsets}
+use Rattle.tracks.specs.Private.{Offsets}
 use Rattle.tracks.proofs.Accepted.{contents-met}
 use Rattle.tracks.proofs.Known.{Known}
 

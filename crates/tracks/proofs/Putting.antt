@@ -11,7 +11,7 @@ use Rattle.kernel.specs.Answer.{Outcome, answered}
 use Rattle.kernel.proofs.Answers.{answered-inj}
 use Rattle.tracks.specs.Read.{Item, items, push}
 use Rattle.tracks.specs.Calls.{doubles}
-use Rattle.tracks.specs.Steps.{Puts}
+use Rattle.tracks.specs.Private.{Puts}
 use Rattle.tracks.proofs.Items.{items-at, items-more}
 use Rattle.tracks.proofs.Laid.{Laid, laid-more, laid-all}
 

@@ -9,27 +9,26 @@ use borrow.Author.Tests.{eq-eqb, ne-eqb, eqb-true}
 use lib.Dec.{eqb}
 use lib.ListN.{length, drop, length-take, length-drop}
 use Rattle.kernel.specs.Answer.{Outcome, refused, answered}
-use Rattle.tracks.specs.Layout.{fields}
 use Rattle.tracks.specs.Read.{TrackList, track, contents}
-use Rattle.tracks.specs.Steps.{ends}
+use Rattle.tracks.specs.Private.{ends}
 use Rattle.tracks.specs.Record.{recordEnd, recordIn, recordAt, sameBytes}
 use Rattle.tracks.specs.declared.read.Checked.the-variants.{End, Refused}
 use Rattle.tracks.proofs.Items.{ended, stopped}
 
-module _ (l : List ℕ) (f at from n : ℕ) where
+module _ (l : List ℕ) (d at from n : ℕ) where
   -- the record that starts here
-  pub end-here : {next : ℕ} → ends (track l f from) ≡ End next → from ≡ at → recordEnd l f at from (suc n) ≡ next
+  pub end-here : {next : ℕ} → ends (track l d from) ≡ End next → from ≡ at → recordEnd l d at from (suc n) ≡ next
   unfolding recordEnd
-  end-here {next} e s = let t = ended (track l f from) next e in rw (t .1, eq-eqb from at s) (t .2)
+  end-here {next} e s = let t = ended (track l d from) next e in rw (t .1, eq-eqb from at s) (t .2)
 
   -- one that starts later
-  pub end-later : {next : ℕ} → ends (track l f from) ≡ End next → (from ≡ at → ⊥) → recordEnd l f at from (suc n) ≡ recordEnd l f at next n
+  pub end-later : {next : ℕ} → ends (track l d from) ≡ End next → (from ≡ at → ⊥) → recordEnd l d at from (suc n) ≡ recordEnd l d at next n
   unfolding recordEnd
-  end-later {next} e s = let t = ended (track l f from) next e in rw (t .1, ne-eqb from at s) (ap (λ (i : ℕ). recordEnd l f at i n) (t .2))
+  end-later {next} e s = let t = ended (track l d from) next e in rw (t .1, ne-eqb from at s) (ap (λ (i : ℕ). recordEnd l d at i n) (t .2))
 
-  pub end-refused : {q : ℕ} → ends (track l f from) ≡ Refused q → recordEnd l f at from (suc n) ≡ 0
+  pub end-refused : {q : ℕ} → ends (track l d from) ≡ Refused q → recordEnd l d at from (suc n) ≡ 0
   unfolding recordEnd
-  end-refused {q} e = rw (stopped (track l f from) q e) refl
+  end-refused {q} e = rw (stopped (track l d from) q e) refl
 
 -- a part is no longer than what follows its offset
 pub record-short : (l : List ℕ) (at : ℕ) → length (recordAt l at) ≤ length l - at
@@ -38,7 +37,7 @@ record-short l at = by (contents l)
   where
     by : (o : Outcome TrackList) → length (recordIn l at o) ≤ length l - at
     by (refused q) = omega arith
-    by (answered c) = let e = recordEnd l (fields (c .dimension)) at 2 (length (c .tracks)) in omega (arith, length-take (e - at) (drop at l), length-drop at l)
+    by (answered c) = let e = recordEnd l (c .dimension) at 2 (length (c .tracks)) in omega (arith, length-take (e - at) (drop at l), length-drop at l)
 
 -- ---- equal bytes
 

@@ -2,7 +2,6 @@
 -- `list-bytes`: the list of tracks that it can hold is made of bytes.
 use Prim.Native.Nat.{ℕ, zero, suc, _+_, _*_, _/_, _^_, _<_, _≤_}
 use native.Mathlib.Omega.{arith}
-use native.Mathlib.Nat.{mul-le-mul-right}
 use mathlib.Core.Path.{_≡_, refl, sym, ap, _∙_}
 use mathlib.Core.Bool.{Bool, true, false, cond}
 use mathlib.Core.List.{List, [], _∷_, _++_, flatMap}
@@ -13,34 +12,31 @@ use Rattle.kernel.specs.Bytes.{Bytes, bytes}
 use Rattle.kernel.specs.Lists.{tabulate}
 use Rattle.kernel.proofs.Lists.{length-tabulate}
 use Rattle.kernel.proofs.Words.{length-bytes}
-use Rattle.tracks.specs.Layout.{Words, fields, mapBytes, countMet, dimensionMet}
-use Rattle.tracks.specs.Read.{TrackList, contents}
+use Rattle.tracks.specs.Layout.{fields, mapBits, mapBytes, countMet, dimensionMet}
+use Rattle.tracks.specs.Read.{Track, TrackList, trackOf, contents}
 use Rattle.tracks.specs.Write.{nonzero, mapByte, mapOf, fieldBytes, storedBytes, recordOf, recordsOf, listOf, allFinite, tracksOf, trackList}
+use Rattle.tracks.proofs.Fields.{one-bit-each, most-fields}
 use Rattle.tracks.proofs.Accepted.{contents-met, dimension-small}
 use Rattle.tracks.proofs.Lists.{getD-more, flatMap-more}
 use Rattle.tracks.proofs.Written.{packed-lt, field-some, record-length, stored-size, list-length}
-use Rattle.tracks.proofs.Values.{all-more}
+use Rattle.tracks.proofs.Values.{Words, all-more}
 use Rattle.tracks.proofs.RoundTrip.{Fits, accepted-fit, accepted-records, list-accepted, cut-fit}
 
 -- a record of at most 54 fields has at most 7 + 8 * 54 bytes
-records-size : (f : ℕ) (ts : List (List ℕ)) → f ≤ 54 → Fits f ts → length (recordsOf ts) ≤ 439 * length ts
+records-size : (d : ℕ) (ts : List Track) → fields d ≤ 54 → Fits (fields d) ts → length (recordsOf d ts) ≤ 439 * length ts
 unfolding recordsOf flatMap
-records-size f [] le h = omega arith
-records-size f (t ∷ ts) le h =
+records-size d [] le h = omega arith
+records-size d (t ∷ ts) le h =
     let p = h 0 (omega arith) .long in
-    let rest = records-size f ts le (λ k lt. h (suc k) (omega arith)) in
-    omega (arith, length-append (recordOf t) (recordsOf ts), record-length t, stored-size t, p, ap mapBytes p, rest)
-
-most-fields : (d : ℕ) → d ≤ 9 → fields d ≤ 54
-unfolding fields
-most-fields d h = omega (arith, mul-le-mul-right (d + 1) h)
+    let rest = records-size d ts le (λ k lt. h (suc k) (omega arith)) in
+    omega (arith, length-append (recordOf d t) (recordsOf d ts), record-length d t, stored-size (t .values), p, one-bit-each d, rest)
 
 -- An accepted list has at most 14,050 bytes.
 pub accepted-size : (l : List ℕ) → Bytes l → (c : TrackList) → contents l ≡ answered c → length l ≤ 14050
 accepted-size l h c e =
     let w = contents-met l e in
     let most = most-fields (c .dimension) (dimension-small (c .dimension) (w .sized)) in
-    let size = records-size (fields (c .dimension)) (c .tracks) most (accepted-fit l h c e) in
+    let size = records-size (c .dimension) (c .tracks) most (accepted-fit l h c e) in
     omega (arith, ap length (accepted-records l h c e), length-drop 2 l, size, leb-true (length (c .tracks)) 32 (w .few))
 
 -- ---- the list of tracks is made of bytes
@@ -74,19 +70,20 @@ bytes-field x = by (nonzero x)
     by true = bytes-of 8 x
     by false = λ i. omega arith
 
-map-byte-lt : (v : List ℕ) (b : ℕ) → mapByte v b < 256
+map-byte-lt : (t : Track) (b : ℕ) → mapByte t b < 256
 unfolding mapByte
-map-byte-lt v b = packed-lt (λ i. nonzero (getD v (8 * b + i) 0)) 8
+map-byte-lt t b = packed-lt (λ i. nonzero (getD (t .values) (8 * b + i) 0)) 8
 
-bytes-record : (v : List ℕ) → Bytes (recordOf v)
+bytes-record : (d : ℕ) (t : Track) → Bytes (recordOf d t)
 unfolding recordOf mapOf storedBytes
-bytes-record v = bytes-append (mapOf v) (storedBytes v) (bytes-made (mapBytes (length v)) (mapByte v) (map-byte-lt v)) (bytes-flat fieldBytes bytes-field v)
+bytes-record d t =
+    bytes-append (mapOf d t) (storedBytes (t .values)) (bytes-made (mapBytes (mapBits d)) (mapByte t) (map-byte-lt t)) (bytes-flat fieldBytes bytes-field (t .values))
 
 pub list-bytes : (c : TrackList) → countMet (length (c .tracks)) ≡ true → dimensionMet (c .dimension) ≡ true → Bytes (listOf c)
 unfolding listOf recordsOf
 list-bytes c few sized zero = omega (arith, leb-true (length (c .tracks)) 32 few)
 list-bytes c few sized (suc zero) = omega (arith, dimension-small (c .dimension) sized)
-list-bytes c few sized (suc (suc i)) = bytes-flat recordOf bytes-record (c .tracks) i
+list-bytes c few sized (suc (suc i)) = bytes-flat (recordOf (c .dimension)) (bytes-record (c .dimension)) (c .tracks) i
 
 -- ---- the largest list: 32 tracks of dimension 9 whose fields are all 1.0
 
@@ -123,10 +120,10 @@ unfolding tracksOf
 largest-list =
     let c = trackList 32 9 (ones 1728) in
     let long : length (ones 1728) ≡ 32 * fields 9 = length-tabulate 1728 (λ _. oneBits) ∙ sym (ap (λ (f : ℕ). 32 * f) nine) in
-    let few : countMet (length (c .tracks)) ≡ true = ap countMet (length-tabulate 32 (λ (j : ℕ). take (fields 9) (drop (j * fields 9) (ones 1728)))) in (
+    let few : countMet (length (c .tracks)) ≡ true = ap countMet (length-tabulate 32 (λ (j : ℕ). trackOf (take (fields 9) (drop (j * fields 9) (ones 1728))))) in (
       listOf c,
       c,
       list-bytes c few refl,
       list-accepted c few refl (cut-fit 32 (fields 9) (ones 1728) long (ones-finite 1728) (ones-words 1728)),
-      omega (arith, list-length 32 9 (ones 1728) long, ap mapBytes nine, ones-stored 1728),
+      omega (arith, list-length 32 9 (ones 1728) long, one-bit-each 9, nine, ones-stored 1728),
     )

@@ -4,7 +4,7 @@ use Prim.Native.Nat.{ℕ, _+_, _-_, _*_, _/_, _%_, _^_, _<_, _≤_}
 use native.Mathlib.Omega.{arith}
 use native.Mathlib.Nat.{add-sub-cancel-left, eq-or-lt-of-le}
 use native.Mathlib.Decide.{decLt}
-use mathlib.Core.Path.{_≡_, refl, sym, ap, _∙_}
+use mathlib.Core.Path.{_≡_, refl, sym, ap, _∙_, subst}
 use mathlib.Core.Logic.{⊎-elim}
 use mathlib.Core.Bool.{true, false, not}
 use mathlib.Core.List.{List, [], _∷_}
@@ -13,18 +13,19 @@ use lib.Dec.{eqb}
 use lib.ListN.{length, getD, take, drop, length-append, length-drop, List·getD-append, List·getD-eq-default}
 use lib.Seq.{getD-take, getD-drop, getD-at, length-take-le, ext-getD}
 use Rattle.kernel.specs.Answer.{answered}
-use Rattle.tracks.specs.Layout.{Words, part, mapBytes, stands, spare, finiteBits}
+use Rattle.tracks.specs.Layout.{part, fields, mapBits, mapBytes, stands, spare, finiteBits}
 use Rattle.kernel.specs.Bytes.{Bytes, bytes, word}
-use Rattle.tracks.specs.Read.{Item, field, items, track, push}
+use Rattle.tracks.specs.Read.{Item, Track, itemOf, afterMap, field, items, track, push}
 use Rattle.tracks.specs.Write.{nonzero, mapByte, mapOf, fieldBytes, storedBytes, recordOf, allFinite}
 use Rattle.tracks.proofs.Items.{items-ind}
 use Rattle.tracks.proofs.Accepted.{Stored, field-met, track-met}
+use Rattle.tracks.proofs.Fields.{one-bit-each}
 use Rattle.tracks.proofs.Bits.{byte-packed, packed-same, none-each}
 use Rattle.kernel.proofs.Words.{word-lt, word-bytes}
 use Rattle.tracks.proofs.Lists.{getD-more}
 use Rattle.kernel.proofs.Lists.{length-tabulate, getD-tabulate}
 use Rattle.tracks.proofs.Written.{field-none, field-some}
-use Rattle.tracks.proofs.Values.{all-more}
+use Rattle.tracks.proofs.Values.{Words, all-more}
 use Rattle.tracks.proofs.Stream.{Part, parts-join, read-bytes}
 
 -- ---- its fields
@@ -107,33 +108,35 @@ map-bits l f at v s p k h = split (decLt k f)
         let e : f + (k - f) ≡ k = omega arith in
         ap (stands l at) (sym e) ∙ none-each (λ i. stands l at (f + i)) (8 * mapBytes f - f) s (k - f) (omega arith) ∙ ap nonzero (sym (List·getD-eq-default v 0 (omega (arith, p .long))))
 
-map-read : (l : List ℕ) (f at : ℕ) (v : List ℕ) → Bytes l → at + mapBytes f ≤ length l → spare l f at ≡ true → Fields l at f v → Part l at (at + mapBytes f) (mapOf v)
+map-read : (l : List ℕ) (d at : ℕ) (t : Track) → Bytes l → afterMap d at ≤ length l → spare l (mapBits d) at ≡ true → Fields l at (mapBits d) (t .values)
+    → Part l at (afterMap d at) (mapOf d t)
 unfolding mapOf mapByte
-map-read l f at v h le s p =
-    let m = mapBytes f in
+map-read l d at t h le s p =
+    let m = mapBytes (mapBits d) in
     let n : length (take m (drop at l)) ≡ m = length-take-le m (drop at l) (omega (arith, length-drop at l)) in
-    let w : mapBytes (length v) ≡ m = ap mapBytes (p .long) in
     record {
       from = omega arith;
       within = le;
-      bytes = ap (λ (k : ℕ). take k (drop at l)) (add-sub-cancel-left at m) ∙ ext-getD 0 (take m (drop at l)) (mapOf v) (n ∙ sym (length-tabulate (mapBytes (length v)) (mapByte v) ∙ w)) (λ b lb.
+      bytes = ap (λ (k : ℕ). take k (drop at l)) (add-sub-cancel-left at m) ∙ ext-getD 0 (take m (drop at l)) (mapOf d t) (n ∙ sym (length-tabulate m (mapByte t))) (λ b lb.
           let lt : b < m = rw n at lb in
           getD-take m (drop at l) b 0 lt ∙ getD-drop at l b 0 ∙ sym (byte-packed (getD l (at + b) 0) (h (at + b)))
-          ∙ packed-same _ _ 8 (λ i li. sym (stands-at l at b i li) ∙ map-bits l f at v s p (8 * b + i) (omega arith))
-          ∙ sym (getD-tabulate (mapBytes (length v)) (mapByte v) 0 b (omega (arith, w))));
+          ∙ packed-same _ _ 8 (λ i li. sym (stands-at l at b i li) ∙ map-bits l (mapBits d) at (t .values) s p (8 * b + i) (omega arith))
+          ∙ sym (getD-tabulate m (mapByte t) 0 b lt));
     }
 
 -- an accepted track is its record
-pub record Read (l : List ℕ) (f at : ℕ) (ys : Item (List ℕ)) : Type 0 where
-  pub fields : Fields l at f (ys .value)
-  pub bytes : Part l at (ys .next) (recordOf (ys .value))
+pub record Read (l : List ℕ) (d at : ℕ) (t : Item Track) : Type 0 where
+  pub fields : Fields l at (fields d) (t .value .values)
+  pub bytes : Part l at (t .next) (recordOf d (t .value))
 
-pub track-read : (l : List ℕ) (f at : ℕ) → Bytes l → (ys : Item (List ℕ)) → track l f at ≡ answered ys → Read l f at ys
+pub track-read : (l : List ℕ) (d at : ℕ) → Bytes l → (t : Item Track) → track l d at ≡ answered t → Read l d at t
 unfolding recordOf storedBytes
-track-read l f at h ys e =
-    let t = track-met l f at ys e in
-    let p = fields-read l at (at + mapBytes f) h f ys (t .fields) in
+track-read l d at h t e =
+    let m = track-met l d at t e in
+    let v = itemOf (λ u. u .values) t in
+    let p = fields-read l at (afterMap d at) h (fields d) v (m .read) in
+    let q = subst (λ (k : ℕ). Fields l at k (v .value)) (sym (one-bit-each d)) p in
     record {
       fields = p;
-      bytes = parts-join l (map-read l f at (ys .value) h (t .there) (t .spare) p) (read-bytes fieldBytes l (field l at) (at + mapBytes f) (field-part l at h) (t .there) f ys (t .fields));
+      bytes = parts-join l (map-read l d at (t .value) h (m .there) (m .spare) q) (read-bytes fieldBytes l (field l at) (afterMap d at) (field-part l at h) (m .there) (fields d) v (m .read));
     }

@@ -4,21 +4,19 @@ use Prim.Native.Nat.{ℕ, _+_, _*_, _≤_}
 use native.Mathlib.Omega.{arith}
 use mathlib.Core.Path.{_≡_, refl, sym, ap, _∙_}
 use mathlib.Core.List.{List, _++_}
-use lib.Dec.{leb}
 use lib.Ieee.{Float, binary64, ofBits}
 use lib.ListN.{length, take, drop, length-map}
 use lib.Seq.{take-at}
-use Rattle.kernel.specs.Answer.{Outcome, answered, ask}
+use Rattle.kernel.specs.Answer.{Outcome, answered}
 use Rattle.kernel.specs.Bytes.{Bytes}
 use Rattle.kernel.specs.Lists.{over}
-use Rattle.kernel.proofs.Answers.{ask-met, and-then-met}
 use Rattle.tracks.specs.Layout.{fields}
-use Rattle.tracks.specs.Read.{TrackList, contents, reading}
+use Rattle.tracks.specs.Read.{TrackList, reading}
 use Rattle.tracks.specs.Write.{written}
 use Rattle.tracks.specs.Calls.{doubles, patterns, Doubles, joined, readAnswer, readValues, writeAnswer, writeBytes}
 use Rattle.tracks.specs.declared.read.ReadList.the-variants as ReadList
 use Rattle.tracks.specs.declared.write.WrittenList.the-variants as WrittenList
-use Rattle.tracks.proofs.Known.{read-accepted, reading-fits}
+use Rattle.tracks.proofs.Known.{read-accepted, reading-fits, reading-met}
 use Rattle.tracks.proofs.Written.{write-accepted}
 use Rattle.tracks.proofs.RoundTrip.{accepted-fit, joined-fit, read-then-written, written-then-read}
 
@@ -30,14 +28,6 @@ over-front old new = let z : 0 + length new ≡ length new = omega arith in ap (
 
 front : {A : Type 0} (old new : List A) (n : ℕ) → length new ≡ n → take n (over old 0 new) ≡ new
 front old new n e = ap (take n) (over-front old new) ∙ take-at new (drop (length new) old) n e
-
--- a list that is read is accepted
-reading-met : (l : List ℕ) (room : ℕ) {c : TrackList} → reading l room ≡ answered c → contents l ≡ answered c
-unfolding reading
-reading-met l room e =
-    let a = and-then-met (contents l) (λ c. ask 2 (leb (length (c .tracks) * fields (c .dimension)) room) (answered c)) e in
-    let b = ask-met 2 (leb (length (a .0 .tracks) * fields (a .0 .dimension)) room) _ (a .2) in
-    a .1 ∙ b .1
 
 -- ---- the two trips
 

@@ -1,6 +1,6 @@
 -- Laws of values and their bits, and of tracks and their values one after another. `patterns-doubles` and `doubles-patterns` lead from bits to values and
 -- back, `joined-tracks` and `tracks-joined` from tracks to their values and back. `all-more`, `all-not` and `all-at`: when all values are finite.
-use Prim.Native.Nat.{ℕ, zero, suc, _+_, _*_, _<_}
+use Prim.Native.Nat.{ℕ, zero, suc, _+_, _*_, _^_, _<_}
 use native.Mathlib.Omega.{arith}
 use native.Mathlib.Nat.{zero-mul, suc-mul, le-of-suc-le-suc, add-comm}
 use mathlib.Core.Path.{_≡_, refl, sym, ap, _∙_, subst}
@@ -12,7 +12,8 @@ use lib.Seq.{take-add, take-all, take-at, drop-at, drop-drop, ext-getD, getD-dro
 use lib.Ieee.{Float, nan, inf, fin, binary64, ne, isNan, ofBits, toBits}
 use lib.Ieee.Compare.{differs-from-itself}
 use lib.Ieee.Bits.{ofBits-toBits, toBits-ofBits, toBits-lt, nanBits-is}
-use Rattle.tracks.specs.Layout.{Words, finiteBits}
+use Rattle.tracks.specs.Layout.{finiteBits}
+use Rattle.tracks.specs.Read.{Track, trackOf}
 use Rattle.tracks.specs.Write.{allFinite, tracksOf}
 use Rattle.kernel.specs.Lists.{tabulate}
 use Rattle.tracks.specs.Calls.{doubles, patterns, Doubles, joined}
@@ -21,6 +22,10 @@ use Rattle.tracks.proofs.Lists.{joined-more, getD-any, map-take, map-dr
 use Rattle.kernel.proofs.Lists.{length-tabulate, getD-tabulate}
 
 -- ---- values and their bits
+
+-- numbers that are patterns of 64 bits
+abbrev pub Words : List ℕ → Type 0
+Words v = (i : ℕ) → getD v i 0 < 2 ^ 64
 
 pub length-patterns : (v : List Float) → length (patterns v) ≡ length v
 length-patterns v = length-map v (toBits binary64)
@@ -124,22 +129,26 @@ joined-tracks n f v h = first n ∙ take-all (n * f) v (omega arith)
     first : (j : ℕ) → joined (tracksOf j f v) ≡ take (j * f) v
     first zero = rw (zero-mul f) refl
     first (suc j) =
-        joined-more (tracksOf j f v) (take f (drop (j * f) v)) ∙ ap (λ (u : List ℕ). u ++ take f (drop (j * f) v)) (first j)
+        joined-more (tracksOf j f v) (trackOf (take f (drop (j * f) v))) ∙ ap (λ (u : List ℕ). u ++ take f (drop (j * f) v)) (first j)
         ∙ sym (ap (λ (k : ℕ). take k v) (suc-mul j f) ∙ take-add (j * f) f v)
 
-cut-at : (f : ℕ) (ts : List (List ℕ)) → ((k : ℕ) → k < length ts → length (getD ts k []) ≡ f) → (k : ℕ) → k < length ts → take f (drop (k * f) (joined ts)) ≡ getD ts k []
+-- each track has f values
+abbrev pub OfLength : ℕ → List Track → Type 0
+OfLength f ts = (k : ℕ) → k < length ts → length (getD ts k (trackOf []) .values) ≡ f
+
+cut-at : (f : ℕ) (ts : List Track) → OfLength f ts → (k : ℕ) → k < length ts → take f (drop (k * f) (joined ts)) ≡ getD ts k (trackOf []) .values
 unfolding joined flatMap
 cut-at f [] h k lt = absurd (omega arith)
-cut-at f (t ∷ ts) h zero lt = ap (λ (i : ℕ). take f (drop i (t ++ joined ts))) (zero-mul f) ∙ take-at t (joined ts) f (h 0 lt)
+cut-at f (t ∷ ts) h zero lt = ap (λ (i : ℕ). take f (drop i (t .values ++ joined ts))) (zero-mul f) ∙ take-at (t .values) (joined ts) f (h 0 lt)
 cut-at f (t ∷ ts) h (suc k) lt =
-    ap (λ (i : ℕ). take f (drop i (t ++ joined ts))) (suc-mul k f ∙ add-comm (k * f) f)
-    ∙ ap (take f) (sym (drop-drop (k * f) f (t ++ joined ts)) ∙ ap (drop (k * f)) (drop-at t (joined ts) f (h 0 (omega arith))))
+    ap (λ (i : ℕ). take f (drop i (t .values ++ joined ts))) (suc-mul k f ∙ add-comm (k * f) f)
+    ∙ ap (take f) (sym (drop-drop (k * f) f (t .values ++ joined ts)) ∙ ap (drop (k * f)) (drop-at (t .values) (joined ts) f (h 0 (omega arith))))
     ∙ cut-at f ts (λ i l. h (suc i) (omega arith)) k (le-of-suc-le-suc lt)
 
 -- values of tracks, one after another, are cut into the tracks
-pub tracks-joined : (f : ℕ) (ts : List (List ℕ)) → ((k : ℕ) → k < length ts → length (getD ts k []) ≡ f) → tracksOf (length ts) f (joined ts) ≡ ts
+pub tracks-joined : (f : ℕ) (ts : List Track) → OfLength f ts → tracksOf (length ts) f (joined ts) ≡ ts
 unfolding tracksOf
 tracks-joined f ts h =
-    ext-getD [] (tracksOf (length ts) f (joined ts)) ts (length-tabulate (length ts) _) (λ k lk.
-    let lt : k < length ts = rw (length-tabulate (length ts) (λ (j : ℕ). take f (drop (j * f) (joined ts)))) at lk in
-    getD-tabulate (length ts) _ [] k lt ∙ cut-at f ts h k lt)
+    ext-getD (trackOf []) (tracksOf (length ts) f (joined ts)) ts (length-tabulate (length ts) _) (λ k lk.
+    let lt : k < length ts = rw (length-tabulate (length ts) (λ (j : ℕ). trackOf (take f (drop (j * f) (joined ts))))) at lk in
+    getD-tabulate (length ts) _ (trackOf []) k lt ∙ ap trackOf (cut-at f ts h k lt))

@@ -11,8 +11,9 @@ use borrow.Author.Tests.{eq-eqb, ne-eqb, eqb-true, eqb-false, leb-true}
 use lib.Dec.{eqb, leb}
 use lib.ListN.{length, getD, take, drop, set, length-append, take-append-drop, length-drop}
 use lib.Seq.{sets-eq, take-add, take-all, length-take-le}
-use Rattle.tracks.specs.Layout.{fields, mapBytes, countMet, dimensionMet}
+use Rattle.tracks.specs.Layout.{fields, mapBits, mapBytes, countMet, dimensionMet}
 use Rattle.kernel.specs.Bytes.{bytes}
+use Rattle.tracks.specs.Read.{Track, trackOf}
 use Rattle.tracks.specs.Write.{packed, mapByte, mapOf, fieldBytes, storedBytes, recordOf, recordsOf, listOf, tracksOf, trackList, allFinite, written}
 use Rattle.kernel.specs.Lists.{tabulate, over}
 use Rattle.kernel.specs.Answer.{Outcome, refused, answered}
@@ -92,45 +93,51 @@ packed-lt test (suc n) = omega (arith, packed-lt test n, pow-suc 2 n, small (tes
 
 -- ---- the records of tracks
 
-pub record-length : (v : List ℕ) → length (recordOf v) ≡ mapBytes (length v) + length (storedBytes v)
+pub record-length : (d : ℕ) (t : Track) → length (recordOf d t) ≡ mapBytes (mapBits d) + length (storedBytes (t .values))
 unfolding recordOf mapOf
-record-length v = length-append (tabulate (mapBytes (length v)) (mapByte v)) (storedBytes v) ∙ ap (λ (k : ℕ). k + length (storedBytes v)) (length-tabulate (mapBytes (length v)) (mapByte v))
+record-length d t =
+    let m = mapBytes (mapBits d) in
+    length-append (tabulate m (mapByte t)) (storedBytes (t .values)) ∙ ap (λ (k : ℕ). k + length (storedBytes (t .values))) (length-tabulate m (mapByte t))
 
-pub records-more : (j f : ℕ) (v : List ℕ) → recordsOf (tracksOf (j + 1) f v) ≡ recordsOf (tracksOf j f v) ++ recordOf (take f (drop (j * f) v))
-unfolding recordsOf tracksOf
-records-more j f v = ap recordsOf (tabulate-more j (λ (k : ℕ). take f (drop (k * f) v))) ∙ flatMap-more recordOf (tracksOf j f v) (take f (drop (j * f) v))
+module _ (d : ℕ) where
+  -- the records of the first j tracks of f fields each, among values
+  abbrev among : ℕ → ℕ → List ℕ → List ℕ
+  among j f v = recordsOf d (tracksOf j f v)
 
-pub records-part : (j n f : ℕ) (v : List ℕ) → j ≤ n → length (recordsOf (tracksOf j f v)) ≤ length (recordsOf (tracksOf n f v))
-unfolding recordsOf tracksOf
-records-part j n f v h = flatMap-part recordOf (λ (k : ℕ). take f (drop (k * f) v)) j n h
+  pub records-more : (j f : ℕ) (v : List ℕ) → among (j + 1) f v ≡ among j f v ++ recordOf d (trackOf (take f (drop (j * f) v)))
+  unfolding recordsOf tracksOf
+  records-more j f v =
+      ap (recordsOf d) (tabulate-more j (λ (k : ℕ). trackOf (take f (drop (k * f) v)))) ∙ flatMap-more (recordOf d) (tracksOf j f v) (trackOf (take f (drop (j * f) v)))
 
-pub records-length : (n f : ℕ) (v : List ℕ) → n * f ≤ length v → length (recordsOf (tracksOf n f v)) ≡ n * mapBytes f + length (storedBytes (take (n * f) v))
-unfolding recordsOf tracksOf storedBytes tabulate flatMap
-records-length zero f v h = simp zero-mul
-records-length (suc n) f v h =
-    let r : suc n * f ≡ n * f + f = suc-mul n f in
-    let u = take f (drop (n * f) v) in
-    let long : length u ≡ f = length-take-le f (drop (n * f) v) (omega (arith, length-drop (n * f) v)) in
-    omega (
-      arith,
-      records-length n f v (omega arith),
-      ap (λ (k : ℕ). length (recordsOf (tracksOf k f v))) (add-one n),
-      ap length (records-more n f v),
-      length-append (recordsOf (tracksOf n f v)) (recordOf u),
-      record-length u,
-      ap mapBytes long,
-      suc-mul n (mapBytes f),
-      ap (λ (k : ℕ). length (storedBytes (take k v))) r,
-      ap (λ (w : List ℕ). length (storedBytes w)) (take-add (n * f) f v),
-      ap length (flatMap-append fieldBytes (take (n * f) v) u),
-      length-append (storedBytes (take (n * f) v)) (storedBytes u),
-    )
+  pub records-part : (j n f : ℕ) (v : List ℕ) → j ≤ n → length (among j f v) ≤ length (among n f v)
+  unfolding recordsOf tracksOf
+  records-part j n f v h = flatMap-part (recordOf d) (λ (k : ℕ). trackOf (take f (drop (k * f) v))) j n h
+
+  pub records-length : (n f : ℕ) (v : List ℕ) → length (among n f v) ≡ n * mapBytes (mapBits d) + length (storedBytes (take (n * f) v))
+  unfolding recordsOf tracksOf storedBytes tabulate flatMap
+  records-length zero f v = simp zero-mul
+  records-length (suc n) f v =
+      let r : suc n * f ≡ n * f + f = suc-mul n f in
+      let u = take f (drop (n * f) v) in
+      omega (
+        arith,
+        records-length n f v,
+        ap (λ (k : ℕ). length (among k f v)) (add-one n),
+        ap length (records-more n f v),
+        length-append (among n f v) (recordOf d (trackOf u)),
+        record-length d (trackOf u),
+        suc-mul n (mapBytes (mapBits d)),
+        ap (λ (k : ℕ). length (storedBytes (take k v))) r,
+        ap (λ (w : List ℕ). length (storedBytes w)) (take-add (n * f) f v),
+        ap length (flatMap-append fieldBytes (take (n * f) v) u),
+        length-append (storedBytes (take (n * f) v)) (storedBytes u),
+      )
 
 -- a whole list's length
-pub list-length : (n d : ℕ) (v : List ℕ) → length v ≡ n * fields d → length (listOf (trackList n d v)) ≡ 2 + n * mapBytes (fields d) + length (storedBytes v)
+pub list-length : (n d : ℕ) (v : List ℕ) → length v ≡ n * fields d → length (listOf (trackList n d v)) ≡ 2 + n * mapBytes (mapBits d) + length (storedBytes v)
 unfolding listOf
 list-length n d v h =
-    omega (arith, records-length n (fields d) v (omega arith), ap (λ (u : List ℕ). length (storedBytes u)) (take-all (n * fields d) v (omega arith)))
+    omega (arith, records-length d n (fields d) v, ap (λ (u : List ℕ). length (storedBytes u)) (take-all (n * fields d) v (omega arith)))
 
 -- ---- a list that is written
 

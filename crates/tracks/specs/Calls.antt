@@ -8,7 +8,7 @@ use lib.Ieee.{Float, nan, binary64, fits, ofBits, toBits}
 use Rattle.kernel.specs.Answer.{Outcome, refused, answered, ask, andThen}
 use Rattle.kernel.specs.Lists.{over, tabulate}
 use Rattle.tracks.specs.Layout.{fields}
-use Rattle.tracks.specs.Read.{TrackList, contents}
+use Rattle.tracks.specs.Read.{Track, TrackList, contents}
 use Rattle.tracks.specs.Record.{offset, placing}
 use Rattle.tracks.specs.declared.read.ReadList.{ReadList}
 use Rattle.tracks.specs.declared.read.ReadList.the-variants as ReadList
@@ -26,10 +26,10 @@ patterns v = map (toBits binary64) v
 abbrev pub Doubles : List Float → Type 0
 Doubles v = (i : ℕ) → T (fits binary64 (getD v i nan))
 
--- Lists one after another.
-unfoldable pub joined : {A : Type 0} → List (List A) → List A
+-- The values of tracks, one track after another.
+unfoldable pub joined : List Track → List ℕ
 unfolding flatMap
-joined vs = flatMap (λ v. v) vs
+joined ts = flatMap (λ t. t .values) ts
 
 -- The answer to a list that is read: how many tracks it has, and of which dimension.
 abbrev pub readAnswer : Outcome TrackList → ReadList

@@ -9,13 +9,14 @@ use lib.ListN.{getD, take, drop}
 abbrev pub part : List ℕ → ℕ → ℕ → List ℕ
 part l from to = take (to - from) (drop from l)
 
--- That the elements of a list are patterns of 64 bits.
-abbrev pub Words : List ℕ → Type 0
-Words v = (i : ℕ) → getD v i 0 < 2 ^ 64
-
 -- The fields of a track of dimension d: the d state values, then the covariance's lower triangle.
 unfoldable pub fields : ℕ → ℕ
 fields d = d + d * (d + 1) / 2
+
+-- The bits of its map: one for each field.
+unfoldable pub mapBits : ℕ → ℕ
+unfolding fields
+mapBits d = fields d
 
 -- Questions 10 and 11.
 abbrev pub countMet : ℕ → Bool
@@ -24,9 +25,9 @@ countMet n = leb n 32
 abbrev pub dimensionMet : ℕ → Bool
 dimensionMet d = leb 1 d && leb d 9
 
--- The bytes of a map of f bits.
+-- The bytes of a map of so many bits.
 abbrev pub mapBytes : ℕ → ℕ
-mapBytes f = (f + 7) / 8
+mapBytes bits = (bits + 7) / 8
 
 -- Bit k of the map that starts at an offset of the list: bit k mod 8 of byte k div 8.
 unfoldable pub stands : List ℕ → ℕ → ℕ → Bool
@@ -41,7 +42,7 @@ unfoldable pub none : (ℕ → Bool) → ℕ → Bool
 none test zero = true
 none test (suc n) = none test n && not (test n)
 
--- Whether the spare bits of the map of f fields at an offset are 0.
+-- Whether the spare bits of the map at an offset are 0: those past its bits, in its last byte.
 unfoldable pub spare : List ℕ → ℕ → ℕ → Bool
 unfolding stands none
-spare l f map = none (λ i. stands l map (f + i)) (8 * mapBytes f - f)
+spare l bits map = none (λ i. stands l map (bits + i)) (8 * mapBytes bits - bits)

@@ -3,5 +3,5 @@ pub mod Read
 pub mod Write
 pub mod Record
 pub mod Calls
-pub mod Steps
 pub mod Examples
+pub mod Private

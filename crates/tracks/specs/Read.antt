@@ -5,13 +5,17 @@ use mathlib.Core.List.{List, [], _∷_, _++_}
 use lib.Dec.{eqb, leb}
 use lib.ListN.{length, getD}
 use Rattle.kernel.specs.Answer.{Outcome, answered, ask, andThen, through}
-use Rattle.tracks.specs.Layout.{fields, countMet, dimensionMet, mapBytes, stands, finiteBits, spare}
+use Rattle.tracks.specs.Layout.{fields, mapBits, mapBytes, countMet, dimensionMet, stands, finiteBits, spare}
 use Rattle.kernel.specs.Bytes.{word}
 
 -- What stands at an offset, and the offset after it.
 pub record Item (A : Type 0) : Type 0 where
   pub value : A
   pub next : ℕ
+
+-- What stands there, made into something else.
+abbrev pub itemOf : {A B : Type 0} → (A → B) → Item A → Item B
+itemOf make x = record { value = make (x .value); next = x .next }
 
 -- The items read so far, and one more.
 abbrev pub push : {A : Type 0} → Item (List A) → Item A → Item (List A)
@@ -40,18 +44,29 @@ unfoldable pub field : List ℕ → ℕ → ℕ → ℕ → Outcome (Item ℕ)
 unfolding stands stored
 field l map k at = storedIf (stands l map k) l at
 
--- The track of f fields at an offset: questions 12 and 13 for its map, then its fields.
-unfoldable pub track : List ℕ → ℕ → ℕ → Outcome (Item (List ℕ))
-unfolding spare items field
-track l f at =
-    ask 12 (leb (at + mapBytes f) (length l))
-    (ask 13 (spare l f at)
-    (items (field l at) (at + mapBytes f) f))
+-- A track: its fields in their order, each as its 64 bits.
+pub record Track : Type 0 where
+  pub values : List ℕ
 
--- The first n tracks of f fields. They start after the two bytes of count and dimension.
-unfoldable pub tracks : List ℕ → ℕ → ℕ → Outcome (Item (List (List ℕ)))
+abbrev pub trackOf : List ℕ → Track
+trackOf v = record { values = v }
+
+-- Where the stored fields of the track at an offset start: after its map.
+abbrev pub afterMap : ℕ → ℕ → ℕ
+afterMap d at = at + mapBytes (mapBits d)
+
+-- The track of dimension d at an offset: questions 12 and 13 for its map, then its fields.
+unfoldable pub track : List ℕ → ℕ → ℕ → Outcome (Item Track)
+unfolding fields mapBits spare items field
+track l d at =
+    ask 12 (leb (afterMap d at) (length l))
+    (ask 13 (spare l (mapBits d) at)
+    (through (itemOf trackOf) (items (field l at) (afterMap d at) (fields d))))
+
+-- The first n tracks of dimension d. They start after the two bytes of count and dimension.
+unfoldable pub tracks : List ℕ → ℕ → ℕ → Outcome (Item (List Track))
 unfolding items track
-tracks l f n = items (λ _. track l f) 2 n
+tracks l d n = items (λ _. track l d) 2 n
 
 -- Byte 0 is the count, byte 1 the dimension.
 abbrev pub count : List ℕ → ℕ
@@ -60,23 +75,23 @@ count l = getD l 0 0
 abbrev pub dimension : List ℕ → ℕ
 dimension l = getD l 1 0
 
--- The dimension of a list and its tracks, each the 64 bits of its fields in their order.
+-- The dimension of a list, and its tracks.
 pub record TrackList : Type 0 where
   pub dimension : ℕ
-  pub tracks : List (List ℕ)
+  pub tracks : List Track
 
 -- Question 16: nothing after the last track.
-abbrev pub nothingAfter : List ℕ → Item (List (List ℕ)) → Outcome TrackList
+abbrev pub nothingAfter : List ℕ → Item (List Track) → Outcome TrackList
 nothingAfter l ts = ask 16 (eqb (ts .next) (length l)) (answered (record { dimension = dimension l; tracks = ts .value }))
 
 -- What a list holds.
 unfoldable pub contents : List ℕ → Outcome TrackList
-unfolding fields tracks
+unfolding tracks
 contents l =
     ask 9 (leb 2 (length l))
     (ask 10 (countMet (count l))
     (ask 11 (dimensionMet (dimension l))
-    (andThen (tracks l (fields (dimension l)) (count l)) (nothingAfter l))))
+    (andThen (tracks l (dimension l) (count l)) (nothingAfter l))))
 
 -- Reading a list into a slice of some length: question 2 is the last.
 unfoldable pub reading : List ℕ → ℕ → Outcome TrackList

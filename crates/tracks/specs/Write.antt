@@ -6,11 +6,11 @@ use lib.Dec.{eqb, leb}
 use lib.ListN.{length, getD, take, drop}
 use Rattle.kernel.specs.Answer.{Outcome, answered, ask}
 use Rattle.kernel.specs.Lists.{tabulate}
-use Rattle.tracks.specs.Layout.{fields, mapBytes, finiteBits, countMet, dimensionMet}
+use Rattle.tracks.specs.Layout.{fields, mapBits, mapBytes, finiteBits, countMet, dimensionMet}
 use Rattle.kernel.specs.Bytes.{bytes}
-use Rattle.tracks.specs.Read.{TrackList}
+use Rattle.tracks.specs.Read.{Track, TrackList, trackOf}
 
--- A field's bit stands exactly when its 64 bits are not all zero.
+-- Which fields are stored: all but +0.0, the one whose 64 bits are 0.
 abbrev pub nonzero : ℕ → Bool
 nonzero x = not (eqb x 0)
 
@@ -20,13 +20,13 @@ packed test zero = 0
 packed test (suc n) = packed test n + cond (test n) (2 ^ n) 0
 
 -- Byte b of a track's map. There is no field past the last, so a spare bit is 0.
-unfoldable pub mapByte : List ℕ → ℕ → ℕ
+unfoldable pub mapByte : Track → ℕ → ℕ
 unfolding packed
-mapByte v b = packed (λ i. nonzero (getD v (8 * b + i) 0)) 8
+mapByte t b = packed (λ i. nonzero (getD (t .values) (8 * b + i) 0)) 8
 
-unfoldable pub mapOf : List ℕ → List ℕ
-unfolding tabulate mapByte
-mapOf v = tabulate (mapBytes (length v)) (mapByte v)
+unfoldable pub mapOf : ℕ → Track → List ℕ
+unfolding mapBits tabulate mapByte
+mapOf d t = tabulate (mapBytes (mapBits d)) (mapByte t)
 
 -- +0.0 is left out, any other field is its eight bytes.
 unfoldable pub fieldBytes : ℕ → List ℕ
@@ -37,19 +37,19 @@ unfoldable pub storedBytes : List ℕ → List ℕ
 unfolding flatMap fieldBytes
 storedBytes v = flatMap fieldBytes v
 
--- A track's own bytes: its map, then the fields whose bits stand.
-unfoldable pub recordOf : List ℕ → List ℕ
+-- The own bytes of a track of dimension d: its map, then the fields whose bits stand.
+unfoldable pub recordOf : ℕ → Track → List ℕ
 unfolding mapOf storedBytes
-recordOf v = mapOf v ++ storedBytes v
+recordOf d t = mapOf d t ++ storedBytes (t .values)
 
-unfoldable pub recordsOf : List (List ℕ) → List ℕ
+unfoldable pub recordsOf : ℕ → List Track → List ℕ
 unfolding flatMap recordOf
-recordsOf ts = flatMap recordOf ts
+recordsOf d ts = flatMap (recordOf d) ts
 
 -- The bytes of a list: the count, the dimension, and the tracks' records.
 unfoldable pub listOf : TrackList → List ℕ
 unfolding recordsOf
-listOf c = length (c .tracks) ∷ c .dimension ∷ recordsOf (c .tracks)
+listOf c = length (c .tracks) ∷ c .dimension ∷ recordsOf (c .dimension) (c .tracks)
 
 -- Whether each field is finite: question 14.
 unfoldable pub allFinite : List ℕ → Bool
@@ -57,9 +57,9 @@ allFinite [] = true
 allFinite (x ∷ v) = finiteBits x && allFinite v
 
 -- n tracks of f fields each, out of their fields one after another.
-unfoldable pub tracksOf : ℕ → ℕ → List ℕ → List (List ℕ)
+unfoldable pub tracksOf : ℕ → ℕ → List ℕ → List Track
 unfolding tabulate
-tracksOf n f v = tabulate n (λ j. take f (drop (j * f) v))
+tracksOf n f v = tabulate n (λ j. trackOf (take f (drop (j * f) v)))
 
 -- n tracks of dimension d, out of their fields.
 abbrev pub trackList : ℕ → ℕ → List ℕ → TrackList

@@ -1,17 +1,25 @@
-// The layout of a list: a track's fields, its map, and the questions that reading and writing share.
+// The layout of a list: a track's map, and the questions that reading and writing share.
 ghost use mathlib.Core.Path.{_≡_};
-ghost use mathlib.Core.Bool.{cond};
 ghost use Prim.Native.Nat.{_+_, _/_, _<_, _≤_};
 ghost use lib.ListN.{length};
-ghost use Rattle.tracks.specs.Layout.{fields, mapBytes, stands, finiteBits, spare, countMet, dimensionMet};
+ghost use Rattle.tracks.specs.Layout.{mapBits, mapBytes, stands, finiteBits, spare, countMet, dimensionMet};
+use crate::inside;
 use kernel::constants;
 
-// The fields of a track of dimension d.
-pub(crate) fn fields(d: usize) -> usize
+// The bits of the map of a track of dimension d: one for each field.
+pub(crate) fn map_bits(d: usize) -> usize
     requires { ⌜ d ≤ 9 ⌝ }
-    ensures { λ r. ⌜ (r ≡ fields d) × (r ≤ 54) ⌝ }
+    ensures { λ r. ⌜ (r ≡ mapBits d) × (r ≤ 54) ⌝ }
 {
-    d + d * (d + 1) / 2
+    inside::fields(d)
+}
+
+// The bytes of that map.
+pub(crate) fn map_bytes(d: usize) -> usize
+    requires { ⌜ d ≤ 9 ⌝ }
+    ensures { λ r. ⌜ (r ≡ mapBytes (mapBits d)) × (r ≤ 7) ⌝ }
+{
+    (map_bits(d) + 7) / 8
 }
 
 // Question 10.
@@ -31,16 +39,6 @@ pub(crate) fn dimension_met(d: usize) -> bool
     d <= 9
 }
 
-// How many fields a track of dimension d has; 0 where d breaks question 11.
-pub fn field_count(d: usize) -> usize
-    ensures { λ r. ⌜ r ≡ cond (dimensionMet d) (fields d) 0 ⌝ }
-{
-    if !dimension_met(d) {
-        return 0;
-    }
-    fields(d)
-}
-
 // Bit k of the map at an offset.
 pub(crate) fn stands(list: &[u8], map: usize, k: usize) -> bool
     requires { ⌜ map + k / 8 < length (now list) ⌝ }
@@ -57,12 +55,12 @@ pub(crate) fn finite(bits: u64) -> bool
 }
 
 // Question 13: whether the spare bits of the map at an offset are 0.
-pub(crate) fn spare_clear(list: &[u8], f: usize, map: usize) -> bool
-    requires { ⌜ (f ≤ 64) × (map + mapBytes f ≤ length (now list)) ⌝ }
-    ensures { λ r. ⌜ r ≡ spare (now (list .entry)) f map ⌝ }
+pub(crate) fn spare_clear(list: &[u8], bits: usize, map: usize) -> bool
+    requires { ⌜ (bits ≤ 64) × (map + mapBytes bits ≤ length (now list)) ⌝ }
+    ensures { λ r. ⌜ r ≡ spare (now (list .entry)) bits map ⌝ }
 {
-    for i in 0..(f + 7) / 8 * 8 - f {
-        if stands(list, map, f + i) {
+    for i in 0..(bits + 7) / 8 * 8 - bits {
+        if stands(list, map, bits + i) {
             return false;
         }
     }

@@ -4,11 +4,11 @@ ghost use Prim.Native.Nat.{_+_, _/_, _<_, _≤_};
 ghost use mathlib.Core.List.{[], _∷_};
 ghost use lib.ListN.{length, take};
 ghost use Rattle.kernel.specs.Lists.{over, tabulate};
-ghost use Rattle.tracks.specs.Layout.{mapBytes};
 ghost use Rattle.tracks.specs.Read.{stored, field, items, track, tracks, contents, reading};
 ghost use Rattle.tracks.specs.Calls.{joined, readAnswer, readValues, readWithOffsets};
 ghost use Rattle.tracks.specs.Record.{endOf};
-ghost use Rattle.tracks.specs.Steps.{ends, continued, checkedEnd, Within, Puts, Offsets, TracksChecked, FieldPut, TrackPut, TracksPut};
+ghost use Rattle.tracks.specs.Private.{ends, continued, checkedEnd, Within, Puts, Offsets, TracksChecked, FieldsChecked, FieldPut, TrackPut, TracksPut};
+use crate::inside;
 use crate::layout;
 use kernel::bytes;
 use kernel::question;
@@ -54,13 +54,13 @@ fn check_field(list: &[u8], map: usize, k: usize, at: usize) -> Checked
     Checked::End(at)
 }
 
-// The questions of the f fields of the track whose map is at an offset. It stops at the first that is refused: with a loop
+// The questions of the f fields, from an offset on, of the track whose map is at another. It stops at the first that is refused: with a loop
 // that carries the refusal along, as that over tracks does, reading the largest list took 40 % longer.
-fn check_fields(list: &[u8], f: usize, map: usize) -> Checked
-    requires { ⌜ (f ≤ 64) × (map + mapBytes f ≤ length (now list)) ⌝ }
-    ensures { λ r. ⌜ r ≡ ends (items (field (now (list .entry)) map) (map + mapBytes f) f) ⌝ }
+fn check_fields(list: &[u8], f: usize, map: usize, start: usize) -> Checked
+    requires { ⌜ FieldsChecked (now list) f map start ⌝ }
+    ensures { λ r. ⌜ r ≡ ends (items (field (now (list .entry)) map) start f) ⌝ }
 {
-    let mut at = map + (f + 7) / 8;
+    let mut at = start;
     for k in 0..f {
         let c = check_field(list, map, k, at);
         match c {
@@ -75,27 +75,29 @@ fn check_fields(list: &[u8], f: usize, map: usize) -> Checked
     Checked::End(at)
 }
 
-// The questions of the track of f fields at an offset.
-pub(crate) fn check_track(list: &[u8], f: usize, at: usize) -> Checked
-    requires { ⌜ (f ≤ 64) × (at ≤ length (now list)) ⌝ }
-    ensures { λ r. ⌜ r ≡ ends (track (now (list .entry)) f at) ⌝ }
+// The questions of the track of dimension d at an offset.
+pub(crate) fn check_track(list: &[u8], d: usize, at: usize) -> Checked
+    requires { ⌜ (d ≤ 9) × (at ≤ length (now list)) ⌝ }
+    ensures { λ r. ⌜ r ≡ ends (track (now (list .entry)) d at) ⌝ }
 {
-    if list.len() - at < (f + 7) / 8 {
+    let bits = layout::map_bits(d);
+    let size = layout::map_bytes(d);
+    if list.len() - at < size {
         return Checked::Refused(question::PRESENT);
     }
-    if !layout::spare_clear(list, f, at) {
+    if !layout::spare_clear(list, bits, at) {
         return Checked::Refused(question::SPARE_BITS);
     }
-    check_fields(list, f, at)
+    check_fields(list, inside::fields(d), at, at + size)
 }
 
 // Where a track ends after the tracks before it, unless one of those is refused.
-pub(crate) fn next_track(list: &[u8], f: usize, c: Checked) -> Checked
-    requires { ⌜ (f ≤ 64) × Within (now list) c ⌝ }
-    ensures { λ r. ⌜ r ≡ continued c (λ at. ends (track (now (list .entry)) f at)) ⌝ }
+pub(crate) fn next_track(list: &[u8], d: usize, c: Checked) -> Checked
+    requires { ⌜ (d ≤ 9) × Within (now list) c ⌝ }
+    ensures { λ r. ⌜ r ≡ continued c (λ at. ends (track (now (list .entry)) d at)) ⌝ }
 {
     match c {
-        Checked::End(at) => check_track(list, f, at),
+        Checked::End(at) => check_track(list, d, at),
         Checked::Refused(q) => Checked::Refused(q),
     }
 }
@@ -110,16 +112,16 @@ fn end_of(c: Checked) -> usize
     }
 }
 
-// The questions of the first n tracks of f fields. Where each track starts is stored, and where the last one ends.
-fn check_tracks(list: &[u8], f: usize, n: usize, offsets: &mut [usize]) -> Checked
-    requires { ⌜ TracksChecked (now list) f n (now offsets) ⌝ }
-    ensures { λ r. ⌜ r ≡ ends (tracks (now (list .entry)) f n) ⌝ }
-    ensures { λ _. ⌜ now (offsets .exit) ≡ over (now (offsets .entry)) 0 (tabulate (n + 1) (λ j. endOf (tracks (now (list .entry)) f j))) ⌝ }
+// The questions of the first n tracks of dimension d. Where each track starts is stored, and where the last one ends.
+fn check_tracks(list: &[u8], d: usize, n: usize, offsets: &mut [usize]) -> Checked
+    requires { ⌜ TracksChecked (now list) d n (now offsets) ⌝ }
+    ensures { λ r. ⌜ r ≡ ends (tracks (now (list .entry)) d n) ⌝ }
+    ensures { λ _. ⌜ now (offsets .exit) ≡ over (now (offsets .entry)) 0 (tabulate (n + 1) (λ j. endOf (tracks (now (list .entry)) d j))) ⌝ }
 {
     let mut c = Checked::End(2);
     for j in 0..n {
         offsets[j] = end_of(c);
-        c = next_track(list, f, c);
+        c = next_track(list, d, c);
     }
     offsets[n] = end_of(c);
     c
@@ -142,7 +144,7 @@ pub(crate) fn check_offsets(list: &[u8], offsets: &mut [usize]) -> ReadList
     if !layout::dimension_met(d) {
         return ReadList::Refused(question::DIMENSION);
     }
-    let c = check_tracks(list, layout::fields(d), n, offsets);
+    let c = check_tracks(list, d, n, offsets);
     match c {
         Checked::End(end) => {
             if end == list.len() {
@@ -179,12 +181,13 @@ fn put_field(list: &[u8], map: usize, k: usize, at: usize, values: &mut [f64], i
     at
 }
 
-// Stores the f fields of an accepted track from an index of the values on, and gives the offset after the track.
-fn put_track(list: &[u8], f: usize, map: usize, values: &mut [f64], i: usize) -> usize
-    requires { ⌜ TrackPut (now list) f map (now values) i ⌝ }
-    ensures { λ r. ⌜ Puts (λ v. v) (track (now (list .entry)) f map) (now (values .entry)) i r (now (values .exit)) ⌝ }
+// Stores the fields of an accepted track from an index of the values on, and gives the offset after the track.
+fn put_track(list: &[u8], d: usize, map: usize, values: &mut [f64], i: usize) -> usize
+    requires { ⌜ TrackPut (now list) d map (now values) i ⌝ }
+    ensures { λ r. ⌜ Puts (λ t. t .values) (track (now (list .entry)) d map) (now (values .entry)) i r (now (values .exit)) ⌝ }
 {
-    let mut at = map + (f + 7) / 8;
+    let f = inside::fields(d);
+    let mut at = map + layout::map_bytes(d);
     for k in 0..f {
         at = put_field(list, map, k, at, values, i + k);
     }
@@ -192,14 +195,15 @@ fn put_track(list: &[u8], f: usize, map: usize, values: &mut [f64], i: usize) ->
 }
 
 // Stores the fields of the first n tracks.
-fn put_tracks(list: &[u8], f: usize, n: usize, values: &mut [f64]) -> usize
-    requires { ⌜ TracksPut (now list) f n (now values) ⌝ }
-    ensures { λ r. ⌜ Puts joined (tracks (now (list .entry)) f n) (now (values .entry)) 0 r (now (values .exit)) ⌝ }
+fn put_tracks(list: &[u8], d: usize, n: usize, values: &mut [f64]) -> usize
+    requires { ⌜ TracksPut (now list) d n (now values) ⌝ }
+    ensures { λ r. ⌜ Puts joined (tracks (now (list .entry)) d n) (now (values .entry)) 0 r (now (values .exit)) ⌝ }
 {
+    let f = inside::fields(d);
     let mut at = 2;
     let mut i = 0;
     for _ in 0..n {
-        at = put_track(list, f, at, values, i);
+        at = put_track(list, d, at, values, i);
         i += f;
     }
     at
@@ -213,11 +217,11 @@ pub fn read_list(list: &[u8], values: &mut [f64]) -> ReadList
     let c = check_list(list);
     match c {
         ReadList::Read { count, dimension } => {
-            let f = layout::fields(dimension);
+            let f = inside::fields(dimension);
             if values.len() < count * f {
                 return ReadList::Refused(question::LENGTH);
             }
-            put_tracks(list, f, count, values);
+            put_tracks(list, dimension, count, values);
             ReadList::Read { count, dimension }
         }
         ReadList::Refused(q) => ReadList::Refused(q),
@@ -243,14 +247,14 @@ pub fn read_with_offsets(list: &[u8], values: &mut [f64], offsets: &mut [usize])
     let c = check_offsets(list, &mut found);
     match c {
         ReadList::Read { count, dimension } => {
-            let f = layout::fields(dimension);
+            let f = inside::fields(dimension);
             if values.len() < count * f {
                 return ReadList::Refused(question::LENGTH);
             }
             if offsets.len() <= count {
                 return ReadList::Refused(question::LENGTH);
             }
-            put_tracks(list, f, count, values);
+            put_tracks(list, dimension, count, values);
             copy_offsets(&found, count + 1, offsets);
             ReadList::Read { count, dimension }
         }

@@ -1,24 +1,22 @@
 // A track's own bytes, as a part of the caller's list.
 ghost use mathlib.Core.Path.{_≡_};
 ghost use Prim.Native.Nat.{_≤_};
-ghost use lib.ListN.{length};
-ghost use Rattle.tracks.specs.Layout.{fields};
-ghost use Rattle.tracks.specs.Record.{recordEnd, recordAt, OwnBytes, nextOffset, atEnd, sameBytes};
+ghost use lib.ListN.{length, getD};
+ghost use Rattle.tracks.specs.Record.{recordEnd, recordAt, OwnBytes, trackRecord, nextOffset, atEnd, sameBytes};
 ghost use Rattle.tracks.specs.Calls.{trackOffsets};
-use crate::layout;
 use crate::read;
 use crate::read::Checked;
 use crate::read::ReadList;
 use kernel::question;
 
-// Where the record that starts at an offset ends, among n records of f fields; 0 where none of them starts there.
-fn find_end(list: &[u8], f: usize, n: usize, at: usize) -> usize
-    requires { ⌜ (f ≤ 64) × (2 ≤ length (now list)) ⌝ }
-    ensures { λ r. ⌜ (r ≡ recordEnd (now (list .entry)) f at 2 n) × (r ≤ length (now (list .entry))) ⌝ }
+// Where the record that starts at an offset ends, among n records of dimension d; 0 where none of them starts there.
+fn find_end(list: &[u8], d: usize, n: usize, at: usize) -> usize
+    requires { ⌜ (d ≤ 9) × (2 ≤ length (now list)) ⌝ }
+    ensures { λ r. ⌜ (r ≡ recordEnd (now (list .entry)) d at 2 n) × (r ≤ length (now (list .entry))) ⌝ }
 {
     let mut here = 2;
     for _ in 0..n {
-        let c = read::check_track(list, f, here);
+        let c = read::check_track(list, d, here);
         match c {
             Checked::End(next) => {
                 if here == at {
@@ -41,7 +39,7 @@ pub fn record(list: &[u8], at: usize) -> &[u8]
     let c = read::check_list(list);
     match c {
         ReadList::Read { count, dimension } => {
-            let end = find_end(list, layout::fields(dimension), count, at);
+            let end = find_end(list, dimension, count, at);
             if end < at {
                 return &list[..0];
             }
@@ -68,6 +66,28 @@ pub fn track_offsets(list: &[u8], offsets: &mut [usize]) -> ReadList
         }
         ReadList::Refused(q) => ReadList::Refused(q),
     }
+}
+
+// The record of track i, by the offsets that `track_offsets` leaves: a track's own bytes without going through the list again. Where
+// the offsets are no part's ends, as in an order that falls or past the list, or there are none for i, it is an empty part.
+pub fn track_record<'a>(list: &'a [u8], offsets: &[usize], i: usize) -> &'a [u8]
+    ensures { λ r. ⌜ (now r ≡ trackRecord (now (list .entry)) (now (offsets .entry)) i) × OwnBytes (list .entry) (getD (now (offsets .entry)) i 0) r ⌝ }
+{
+    if offsets.len() <= i {
+        return &list[..0];
+    }
+    if offsets.len() == i + 1 {
+        return &list[..0];
+    }
+    let start = offsets[i];
+    let end = offsets[i + 1];
+    if list.len() < end {
+        return &list[..0];
+    }
+    if end < start {
+        return &list[..0];
+    }
+    &list[start..end]
 }
 
 // The offset after the record at an offset; the offset itself where no record starts there.

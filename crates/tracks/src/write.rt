@@ -4,10 +4,11 @@ ghost use Prim.Native.Nat.{_+_, _*_, _<_, _≤_};
 ghost use lib.ListN.{length, getD};
 ghost use Rattle.kernel.specs.Bytes.{bytes};
 ghost use Rattle.kernel.specs.Lists.{over};
-ghost use Rattle.tracks.specs.Layout.{mapBytes};
+ghost use Rattle.tracks.specs.Layout.{fields, mapBits, mapBytes};
 ghost use Rattle.tracks.specs.Write.{allFinite, nonzero, mapByte, mapOf, fieldBytes, storedBytes, recordOf, recordsOf, tracksOf, written};
 ghost use Rattle.tracks.specs.Calls.{patterns, writeAnswer, writeBytes};
-ghost use Rattle.tracks.specs.Steps.{Writes, TracksWritten};
+ghost use Rattle.tracks.specs.Private.{given, Writes, TracksWritten};
+use crate::inside;
 use crate::layout;
 use kernel::question;
 
@@ -76,7 +77,7 @@ fn is_stored(v: &[f64], k: usize) -> bool
 // Byte b of a track's map.
 fn map_byte(v: &[f64], b: usize) -> u8
     requires { ⌜ b < 64 ⌝ }
-    ensures { λ r. ⌜ r ≡ mapByte (patterns (now (v .entry))) b ⌝ }
+    ensures { λ r. ⌜ r ≡ mapByte (given (now (v .entry))) b ⌝ }
 {
     let mut byte: usize = 0;
     let mut weight: usize = 1;
@@ -89,12 +90,12 @@ fn map_byte(v: &[f64], b: usize) -> u8
     byte as u8
 }
 
-// Writes a track's map.
-fn write_map(v: &[f64], out: &mut [u8], at: usize) -> usize
-    requires { ⌜ (length (now v) ≤ 64) × (at + mapBytes (length (now v)) ≤ length (now out)) ⌝ }
-    ensures { λ r. ⌜ Writes (mapOf (patterns (now (v .entry)))) (now (out .entry)) at r (now (out .exit)) ⌝ }
+// Writes the map of a track of dimension d.
+fn write_map(v: &[f64], d: usize, out: &mut [u8], at: usize) -> usize
+    requires { ⌜ (d ≤ 9) × (at + mapBytes (mapBits d) ≤ length (now out)) ⌝ }
+    ensures { λ r. ⌜ Writes (mapOf d (given (now (v .entry)))) (now (out .entry)) at r (now (out .exit)) ⌝ }
 {
-    let n = (v.len() + 7) / 8;
+    let n = layout::map_bytes(d);
     for b in 0..n {
         out[at + b] = map_byte(v, b);
     }
@@ -140,25 +141,26 @@ fn write_fields(v: &[f64], out: &mut [u8], start: usize) -> usize
     at
 }
 
-// Writes a track's own bytes.
-fn write_record(v: &[f64], out: &mut [u8], at: usize) -> usize
-    requires { ⌜ (length (now v) ≤ 64) × (at + length (recordOf (patterns (now v))) ≤ length (now out)) ⌝ }
-    ensures { λ r. ⌜ Writes (recordOf (patterns (now (v .entry)))) (now (out .entry)) at r (now (out .exit)) ⌝ }
+// Writes the own bytes of a track of dimension d.
+fn write_record(v: &[f64], d: usize, out: &mut [u8], at: usize) -> usize
+    requires { ⌜ (d ≤ 9) × (at + length (recordOf d (given (now v))) ≤ length (now out)) ⌝ }
+    ensures { λ r. ⌜ Writes (recordOf d (given (now (v .entry)))) (now (out .entry)) at r (now (out .exit)) ⌝ }
 {
-    let next = write_map(v, out, at);
+    let next = write_map(v, d, out, at);
     write_fields(v, out, next)
 }
 
-// Writes n tracks of f fields, after the two bytes of count and dimension.
-fn write_tracks(v: &[f64], f: usize, n: usize, out: &mut [u8]) -> usize
-    requires { ⌜ TracksWritten (now v) f n (now out) ⌝ }
-    ensures { λ r. ⌜ Writes (recordsOf (tracksOf n f (patterns (now (v .entry))))) (now (out .entry)) 2 r (now (out .exit)) ⌝ }
+// Writes n tracks of dimension d, after the two bytes of count and dimension.
+fn write_tracks(v: &[f64], d: usize, n: usize, out: &mut [u8]) -> usize
+    requires { ⌜ TracksWritten (now v) d n (now out) ⌝ }
+    ensures { λ r. ⌜ Writes (recordsOf d (tracksOf n (fields d) (patterns (now (v .entry))))) (now (out .entry)) 2 r (now (out .exit)) ⌝ }
 {
+    let f = inside::fields(d);
     let mut at = 2;
     let mut i = 0;
     for _ in 0..n {
         let next = i + f;
-        at = write_record(&v[i..next], out, at);
+        at = write_record(&v[i..next], d, out, at);
         i = next;
     }
     at
@@ -174,14 +176,13 @@ fn check_write(n: usize, d: usize, v: &[f64], room: usize) -> WrittenList
     if !layout::dimension_met(d) {
         return WrittenList::Refused(question::DIMENSION);
     }
-    let f = layout::fields(d);
-    if v.len() != n * f {
+    if v.len() != n * inside::fields(d) {
         return WrittenList::Refused(question::LENGTH);
     }
     if !all_finite(v) {
         return WrittenList::Refused(question::FINITE_FIELD);
     }
-    let length = 2 + n * ((f + 7) / 8) + stored_length(v);
+    let length = 2 + n * layout::map_bytes(d) + stored_length(v);
     if room < length {
         return WrittenList::Refused(question::LIST_BUFFER);
     }
@@ -198,7 +199,7 @@ pub fn write_list(n: usize, d: usize, values: &[f64], out: &mut [u8]) -> Written
         WrittenList::Length(length) => {
             out[0] = n as u8;
             out[1] = d as u8;
-            write_tracks(values, layout::fields(d), n, out);
+            write_tracks(values, d, n, out);
             WrittenList::Length(length)
         }
         WrittenList::Refused(q) => WrittenList::Refused(q),

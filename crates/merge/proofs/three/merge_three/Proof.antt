@@ -2,7 +2,7 @@
 use mathlib.Core.Path.{_≡_, sym, ap, _∙_}
 use Prim.Native.Nat.{ℕ, _+_, _*_, _≤_}
 use native.Mathlib.Omega.{arith}
-use mathlib.Core.Bool.{Bool, true, cond}
+use mathlib.Core.Bool.{true}
 use mathlib.Core.List.{List}
 use borrow.Author.Needs.{needs}
 use borrow.Author.Tests.{not-true, not-false}
@@ -10,6 +10,7 @@ use denote.Ref.{now}
 use lib.ListN.{length}
 use Rattle.tracks.specs.Layout.{fields}
 use Rattle.tracks.specs.Read.{TrackList}
+use Rattle.tracks.proofs.Accepted.{dimension-small}
 use Rattle.compare.specs.Distance.{floorAndGate}
 use Rattle.merge.specs.Tracks.{trackCount}
 use Rattle.merge.specs.Rows.{Row, rowsOf, verdictOn}
@@ -30,13 +31,13 @@ start-of c = c .before .before .before .before .before .before .before .before .
 abbrev begun : tie.Else1 → tie.Start
 begun c = start-of (c .before .before)
 
-abbrev asked : tie.After-field-count → tie.Else2
+abbrev asked : tie.After-fields → tie.Else2
 asked c = c .before
 
-abbrev entered : tie.After-field-count → tie.Start
+abbrev entered : tie.After-fields → tie.Start
 entered c = begun (asked c .before)
 
-abbrev sized : tie.After-write-rows → tie.After-field-count
+abbrev sized : tie.After-write-rows → tie.After-fields
 sized c = c .before .before .before
 
 abbrev written : tie.After-write-verdicts → tie.After-write-rows
@@ -74,12 +75,12 @@ returns-2 c =
     three-19 (b s) (o s) (t s) (s .args .floor) (s .args .gate) (old s) (met-18 (c .before)) (omega (arith, number-of (s .pre), c .if2 .taken))
 
 -- question 19 is met
-room : (c : tie.After-field-count) → let s = entered c in 4 * (trackCount (b s) + trackCount (o s) + trackCount (t s)) ≤ length (old s)
+room : (c : tie.After-fields) → let s = entered c in 4 * (trackCount (b s) + trackCount (o s) + trackCount (t s)) ≤ length (old s)
 room c = omega (arith, number-of (entered c .pre), asked c .if2 .left)
 
 -- the number of fields
-size-is : (c : tie.After-field-count) → c .field-count .result ≡ fields (entered c .args .d)
-size-is c = let s = entered c in c .field-count .ensures ∙ ap (λ (x : Bool). cond x (fields (s .args .d)) 0) (dimension-of (s .pre))
+size-is : (c : tie.After-fields) → c .fields .result ≡ fields (entered c .args .d)
+size-is c = c .fields .ensures .0
 
 pair-all-requires : tie.Need-pair-all-requires
 pair-all-requires c κs =
@@ -149,5 +150,5 @@ pub merge-three-spec : {M : Type 1} → statement M
 merge-three-spec =
     tie.close
     (tie.spec (λ c κs. search needs) returns (λ c. omega (arith, few-of (begun c .pre))) (λ c. omega (arith, few-of (begun c .pre))) (λ c. omega (arith, few-of (begun c .pre))) returns-2
-    (λ c κs. search needs) pair-all-requires write-rows-requires write-verdicts-requires count-rows-requires (λ c κs. count-rows-requires (c .before .before) κs)
+    (λ c κs. dimension-small _ (dimension-of (begun (c .before) .pre))) pair-all-requires write-rows-requires write-verdicts-requires count-rows-requires (λ c κs. count-rows-requires (c .before .before) κs)
     (λ c κs. count-rows-requires (c .before .before .before .before) κs) (λ c. search needs) returns-3)

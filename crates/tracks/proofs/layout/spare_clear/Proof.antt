@@ -11,10 +11,10 @@ use Rattle.tracks.proofs.layout.spare_clear.Statement.{statement}
 use Rattle.tracks.proofs.layout.spare_clear.Tie as tie
 
 abbrev Inv-loop : tie.InvT-loop
-Inv-loop list f map i₀ i-end i = (i ≤ 8 * mapBytes f - f) × (none (λ j. stands list map (f + j)) i ≡ true)
+Inv-loop list bits map i₀ i-end i = (i ≤ 8 * mapBytes bits - bits) × (none (λ j. stands list map (bits + j)) i ≡ true)
 
 abbrev μ-loop : tie.MeasureT-loop
-μ-loop list f map i₀ i-end i = 8 * mapBytes f - f - i
+μ-loop list bits map i₀ i-end i = 8 * mapBytes bits - bits - i
 
 loop-holds : tie.Need-loop-holds Inv-loop μ-loop
 unfolding none
@@ -25,7 +25,7 @@ unfolding spare
 returns c =
     let x = c .before .before .before .before .before .args in
     let i = c .before .before .before .loop in
-    sym (none-not (λ j. stands (now (x .list)) (x .map) (x .f + j)) (i .i) (8 * mapBytes (x .f) - x .f) (omega arith) (sym (c .before .stands .ensures) ∙ c .if1 .taken))
+    sym (none-not (λ j. stands (now (x .list)) (x .map) (x .bits + j)) (i .i) (8 * mapBytes (x .bits) - x .bits) (omega arith) (sym (c .before .stands .ensures) ∙ c .if1 .taken))
 
 loop-again : tie.Need-loop-again Inv-loop μ-loop
 loop-again c =
@@ -37,7 +37,7 @@ unfolding spare
 returns-2 c =
     let x = c .before .before .before .args in
     let i = c .before .loop in
-    at-end (none (λ j. stands (now (x .list)) (x .map) (x .f + j))) (i .inv .0) (omega (arith, c .loop-test .left)) (sym (i .inv .1))
+    at-end (none (λ j. stands (now (x .list)) (x .map) (x .bits + j))) (i .inv .0) (omega (arith, c .loop-test .left)) (sym (i .inv .1))
 
 pub spare-clear-spec : {M : Type 1} → statement M
 spare-clear-spec =

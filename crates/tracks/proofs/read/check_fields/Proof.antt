@@ -1,15 +1,14 @@
 -- `check_fields` meets its contract: before turn k the first k fields are accepted, and end at `at`.
 use mathlib.Core.Path.{_≡_, refl, sym, _∙_}
-use Prim.Native.Nat.{ℕ, _+_, _-_, _≤_}
+use Prim.Native.Nat.{ℕ, _-_, _≤_}
 use denote.Ref.{now}
 use native.Mathlib.Omega.{arith}
 use mathlib.Core.List.{List}
 use borrow.Author.Needs.{needs}
 use lib.ListN.{length}
 use Rattle.kernel.proofs.Loops.{at-end}
-use Rattle.tracks.specs.Layout.{mapBytes}
 use Rattle.tracks.specs.Read.{field, items}
-use Rattle.tracks.specs.Steps.{ends}
+use Rattle.tracks.specs.Private.{ends}
 use Rattle.tracks.specs.declared.read.Checked.the-variants.{End}
 use Rattle.tracks.proofs.Items.{ends-more, ends-stop}
 use Rattle.tracks.proofs.Accepted.{field-within}
@@ -17,16 +16,16 @@ use Rattle.tracks.proofs.read.check_fields.Statement.{statement}
 use Rattle.tracks.proofs.read.check_fields.Tie as tie
 
 -- k of f fields are accepted, and end at an offset
-record Checking (list : List ℕ) (f map k at : ℕ) : Type 0 where
+record Checking (list : List ℕ) (f map start k at : ℕ) : Type 0 where
   pub turns : k ≤ f
   pub within : at ≤ length list
-  pub end : ends (items (field list map) (map + mapBytes f) k) ≡ End at
+  pub end : ends (items (field list map) start k) ≡ End at
 
 abbrev Inv-loop : tie.InvT-loop
-Inv-loop list f map at₀ k₀ at k = Checking list f map k at
+Inv-loop list f map start at₀ k₀ at k = Checking list f map start k at
 
 abbrev μ-loop : tie.MeasureT-loop
-μ-loop list f map at₀ k₀ at k = f - k
+μ-loop list f map start at₀ k₀ at k = f - k
 
 loop-holds : tie.Need-loop-holds Inv-loop μ-loop
 unfolding items
@@ -47,10 +46,10 @@ returns-2 : tie.Need-returns-2 Inv-loop μ-loop
 returns-2 c =
     let x = c .before .before .before .args in
     let i = c .before .loop in
-    at-end (λ (n : ℕ). ends (items (field (now (x .list)) (x .map)) (x .map + mapBytes (x .f)) n)) (i .inv .turns) (c .loop-test .left) (sym (i .inv .end))
+    at-end (λ (n : ℕ). ends (items (field (now (x .list)) (x .map)) (x .start) n)) (i .inv .turns) (c .loop-test .left) (sym (i .inv .end))
 
 pub check-fields-spec : {M : Type 1} → statement M
 check-fields-spec =
     tie.close
-    (tie.spec Inv-loop μ-loop (λ c. omega arith) (λ c. omega arith) loop-holds (λ c κs. omega arith) (λ c. search needs) (λ c. search needs) returns
+    (tie.spec Inv-loop μ-loop loop-holds (λ c κs. omega arith) (λ c. search needs) (λ c. search needs) returns
     (λ c. omega arith) (λ c. omega arith) loop-again returns-2)

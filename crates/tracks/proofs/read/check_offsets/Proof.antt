@@ -12,11 +12,11 @@ use Rattle.kernel.specs.Lists.{over, tabulate}
 use Rattle.kernel.proofs.Answers.{never-both}
 use Rattle.tracks.specs.declared.read.ReadList.{ReadList}
 use Rattle.tracks.specs.declared.read.ReadList.the-variants as ReadList
-use Rattle.tracks.specs.Layout.{fields, countMet}
+use Rattle.tracks.specs.Layout.{countMet}
 use Rattle.tracks.specs.Read.{tracks, count, dimension, nothingAfter, contents}
 use Rattle.tracks.specs.Record.{endOf, offset}
 use Rattle.tracks.specs.Calls.{readAnswer}
-use Rattle.tracks.specs.Steps.{ends, Offsets}
+use Rattle.tracks.specs.Private.{ends, Offsets}
 use Rattle.tracks.proofs.Accepted.{tracked, contents-head, contents-met, dimension-small, tracks-ended, tracks-followed, tracks-stopped}
 use Rattle.tracks.proofs.Known.{read-refused}
 use borrow.Author.Needs.{needs}
@@ -64,13 +64,11 @@ returns-3 c =
     let l = list-of (begun t) in
     refusal l (old (begun t)) (old (begun t)) (simp (le-leb 2 (length l) (omega arith), counted t, sym (c .before .dimension-met .ensures) ∙ not-true _ (c .if3 .taken)))
 
-fields-requires : tie.Need-fields-requires
-fields-requires c κs = dimension-small _ (sym (c .before .dimension-met .ensures) ∙ not-false _ (c .if3 .left))
-
 check-tracks-requires : tie.Need-check-tracks-requires
 check-tracks-requires c κs =
-    let t = c .before .before .before .before in
-    record { small = omega (arith, c .before .fields .ensures .1); head = omega arith; room = omega (arith, leb-true (count (list-of (begun t))) 32 (counted t)) }
+    let s = c .before in
+    let t = s .before .before in
+    record { small = dimension-small _ (sym (s .before .dimension-met .ensures) ∙ not-false _ (s .if3 .left)); head = omega arith; room = omega (arith, leb-true (count (list-of (begun t))) 32 (counted t)) }
 
 abbrev start-of : tie.Else3 → tie.After-slice-known
 start-of c = begun (c .before .before)
@@ -83,27 +81,25 @@ head : (c : tie.Else3) → contents (listed c) ≡ andThen (tracked (listed c)) 
 head c = contents-head (listed c) (omega arith) (counted (c .before .before)) (sym (c .before .dimension-met .ensures) ∙ not-false _ (c .if3 .left))
 
 abbrev met : tie.After-check-tracks → tie.Else3
-met c = c .before .before .before
+met c = c .before .before
 
 checked : (c : tie.After-check-tracks) → c .check-tracks .result ≡ ends (tracked (listed (met c)))
-checked c = let l = listed (met c) in c .check-tracks .ensures .0 ∙ ap (λ (f : ℕ). ends (tracks l f (count l))) (c .before .before .fields .ensures .0)
+checked c = c .check-tracks .ensures .0
 
 -- what the tracks and 16 decide is the answer
 decided : (c : tie.After-check-tracks) {r : ReadList} → readAnswer (andThen (tracked (listed (met c))) (nothingAfter (listed (met c)))) ≡ r → r ≡ readAnswer (contents (listed (met c)))
 decided c e = sym (ap readAnswer (head (met c)) ∙ e)
 
 -- the offsets that are stored are the list's
-stored : (l before : List ℕ) (f : ℕ) → f ≡ fields (dimension l) → Offsets l before (over before 0 (tabulate (count l + 1) (λ j. endOf (tracks l f j))))
+stored : (l before : List ℕ) → Offsets l before (over before 0 (tabulate (count l + 1) (λ j. endOf (tracks l (dimension l) j))))
 unfolding offset
-stored l before f e c a =
-    ap (λ (k : ℕ). over before 0 (tabulate (count l + 1) (λ j. endOf (tracks l k j)))) e
-    ∙ ap (λ (n : ℕ). over before 0 (tabulate (n + 1) (offset l))) (sym (contents-met l a .count))
+stored l before c a = ap (λ (n : ℕ). over before 0 (tabulate (n + 1) (offset l))) (sym (contents-met l a .count))
 
 returns-4 : tie.Need-returns-4
 returns-4 c =
     let t = c .before .before .before .before .before .before in
     let l = listed (met t) in
-    (decided t (tracks-ended l (sym (checked t) ∙ c .before .before .c .given .1) (c .if4 .taken)), λ held a. t .check-tracks .ensures .1 ∙ stored l _ _ (t .before .before .fields .ensures .0) held a)
+    (decided t (tracks-ended l (sym (checked t) ∙ c .before .before .c .given .1) (c .if4 .taken)), λ held a. t .check-tracks .ensures .1 ∙ stored l _ held a)
 
 returns-5 : tie.Need-returns-5
 returns-5 c =
@@ -119,5 +115,5 @@ pub check-offsets-spec : {M : Type 1} → statement M
 check-offsets-spec =
     tie.close
     (tie.spec returns (λ c. search needs) cast-n (λ c. search needs) cast-d (λ c κs. search needs) returns-2 (λ c κs. search needs) returns-3
-    fields-requires check-tracks-requires (λ c. search needs) (λ c. search needs) (λ c. search needs) returns-4 (λ c. search needs) returns-5
+    check-tracks-requires (λ c. search needs) (λ c. search needs) (λ c. search needs) returns-4 (λ c. search needs) returns-5
     (λ c. search needs) returns-6)

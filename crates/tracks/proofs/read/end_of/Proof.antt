@@ -1,7 +1,7 @@
 -- `end_of` meets its contract: it goes by cases as `checkedEnd` does.
 use mathlib.Core.Path.{sym, ap}
 use borrow.Author.Needs.{needs}
-use Rattle.tracks.specs.Steps.{checkedEnd}
+use Rattle.tracks.specs.Private.{checkedEnd}
 use Rattle.tracks.proofs.read.end_of.Statement.{statement}
 use Rattle.tracks.proofs.read.end_of.Tie as tie
 

@@ -36,8 +36,8 @@ needed : (c : tie.After-fields) → let t = told (known c) .held in known c .bef
 needed c = known-fields (told (known c)) (c .fields .ensures .0)
 
 read : (c : tie.After-fields) → let l = list-of (known c) in
-    tracks l (c .fields .result) (known c .before .c .given .0 .0) ≡ answered (record { value = told (known c) .held .tracks; next = length l })
-read c = known-tracks (told (known c)) (c .fields .ensures .0)
+    tracks l (known c .before .c .given .0 .1 .0) (known c .before .c .given .0 .0) ≡ answered (record { value = told (known c) .held .tracks; next = length l })
+read c = known-tracks (told (known c))
 
 -- what is answered, and what is left in the values
 both : (c : tie.Start) {o : Outcome TrackList} → reading (now (c .args .list)) (length (now (c .args .values))) ≡ o
@@ -59,7 +59,12 @@ returns c =
 put-tracks-requires : tie.Need-put-tracks-requires
 put-tracks-requires c κs =
     let f = c .before .before in
-    record { small = omega arith; few = told (known f) .few; room = c .before .if1 .left; accepted = (_, read f) }
+    record {
+      small = told (known f) .small;
+      few = told (known f) .few;
+      room = omega (arith, c .before .if1 .left, ap (λ (k : ℕ). known f .before .c .given .0 .0 * k) (f .fields .ensures .0));
+      accepted = (_, read f);
+    }
 
 returns-2 : tie.Need-returns-2
 returns-2 c =

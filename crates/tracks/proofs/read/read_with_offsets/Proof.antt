@@ -81,7 +81,12 @@ put-tracks-requires : tie.Need-put-tracks-requires
 put-tracks-requires c κs =
     let f = c .before .before .before in
     let t = told (f .before) in
-    record { small = omega arith; few = t .few; room = c .before .before .if1 .left; accepted = (_, known-tracks t (f .fields .ensures .0)) }
+    record {
+      small = t .small;
+      few = t .few;
+      room = omega (arith, c .before .before .if1 .left, ap (λ (k : ℕ). f .before .before .c .given .0 .0 * k) (f .fields .ensures .0));
+      accepted = (_, known-tracks t);
+    }
 
 add-copy-offsets : tie.Need-add-copy-offsets
 add-copy-offsets c = omega (arith, told (sized c .before) .few)
@@ -100,7 +105,7 @@ returns-3 c =
     let a = told t in
     let answer = sym (t .before .c .given .1) ∙ checked t .check-offsets .ensures .0 ∙ ap readAnswer (a .accepted) in
     all-three s (answered (a .held)) (placed-fits _ _ _ (a .accepted) (omega (arith, needed f, asked (stored c) .before .if1 .left)) (omega (arith, a .count, asked (stored c) .if2 .left))) answer
-    (stored c .before .before .before .put-tracks .ensures _ (known-tracks a (f .fields .ensures .0)) .1)
+    (stored c .before .before .before .put-tracks .ensures _ (known-tracks a) .1)
     (c .before .before .copy-offsets .ensures ∙ ap (over (now (s .args .offsets)) 0) (known-front a _ _ (checked t .check-offsets .ensures .1)))
 
 returns-4 : tie.Need-returns-4

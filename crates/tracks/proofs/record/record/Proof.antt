@@ -5,7 +5,7 @@ use native.Mathlib.Omega.{arith}
 use mathlib.Core.List.{List}
 use denote.Ref.{now}
 use lib.ListN.{length, take, drop}
-use Rattle.tracks.specs.Layout.{part, fields}
+use Rattle.tracks.specs.Layout.{part}
 use Rattle.tracks.specs.Read.{contents}
 use Rattle.tracks.specs.Record.{recordEnd, recordIn, recordAt}
 use Rattle.tracks.proofs.Known.{Known, known-list, read-refused}
@@ -18,7 +18,7 @@ abbrev start-of : tie.After-known-told → tie.Start
 start-of c = c .before .before .before .before .before
 
 abbrev known : tie.After-find-end → tie.After-known-told
-known c = c .before .before
+known c = c .before
 
 abbrev begun : tie.After-find-end → tie.Start
 begun c = start-of (known c)
@@ -37,15 +37,12 @@ found c =
     let x = begun c .args in
     let l = now (x .list) in
     let a = told (known c) in
-    let f = c .before .fields .ensures .0 ∙ ap fields (a .dimension) in
-    let e = c .find-end .ensures .0 ∙ ap (recordEnd l (c .before .fields .result) (x .at) 2) (a .count) ∙ ap (λ (k : ℕ). recordEnd l k (x .at) 2 (length (a .held .tracks))) f in
+    let d = known c .before .c .given .0 .1 .0 in
+    let e = c .find-end .ensures .0 ∙ ap (recordEnd l d (x .at) 2) (a .count) ∙ ap (λ (k : ℕ). recordEnd l k (x .at) 2 (length (a .held .tracks))) (a .dimension) in
     ap (recordIn l (x .at)) (a .accepted) ∙ ap (part l (x .at)) (sym e)
 
-fields-requires : tie.Need-fields-requires
-fields-requires c κs = told c .small
-
 find-end-requires : tie.Need-find-end-requires
-find-end-requires c κs = omega (arith, c .fields .ensures .1, told (c .before) .whole .two)
+find-end-requires c κs = (told c .small, told c .whole .two)
 
 returns : tie.Need-returns
 returns c =
@@ -67,5 +64,5 @@ returns-3 c =
 pub record-spec : {M : Type 1} → statement M
 record-spec =
     tie.close
-    (tie.spec (λ c κs. search needs) (λ c. search needs) fields-requires find-end-requires (λ c. search needs) returns (λ c. search needs)
+    (tie.spec (λ c κs. search needs) (λ c. search needs) find-end-requires (λ c. search needs) returns (λ c. search needs)
     (λ c. search needs) (λ c. search needs) (λ c. search needs) returns-2 returns-3)

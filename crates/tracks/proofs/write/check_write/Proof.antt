@@ -10,7 +10,7 @@ use mathlib.Core.List.{List}
 use lib.Dec.{leb}
 use lib.ListN.{length}
 use Rattle.kernel.specs.Answer.{answered, ask}
-use Rattle.tracks.specs.Layout.{fields, mapBytes, countMet, dimensionMet}
+use Rattle.tracks.specs.Layout.{fields, countMet, dimensionMet}
 use Rattle.tracks.specs.Write.{allFinite, listOf, trackList, written}
 use Rattle.tracks.specs.Calls.{patterns, writeAnswer}
 use Rattle.tracks.specs.declared.write.WrittenList.the-variants as WrittenList
@@ -37,15 +37,18 @@ begun c = start-of (counted (sized c))
 abbrev long : tie.Else4 → tie.Else3
 long c = c .before .before
 
-abbrev finite : tie.After-stored-length → tie.Else4
+abbrev finite : tie.After-map-bytes → tie.Else4
 finite c = c .before
+
+abbrev mapped : tie.After-stored-length → tie.After-map-bytes
+mapped c = c .before
 
 -- the fields of a track, known from there on
 abbrev told : tie.Else4 → tie.After-fields
 told c = long c .before
 
 abbrev told-before : tie.After-stored-length → tie.After-fields
-told-before c = told (finite c)
+told-before c = told (finite (mapped c))
 
 -- what each question that was met says
 met-10 : (c : tie.Else1) → countMet (start-of c .args .n) ≡ true
@@ -74,21 +77,22 @@ met-14 : (c : tie.Else4) → allFinite (given (told c)) ≡ true
 met-14 c = sym (c .before .all-finite .ensures) ∙ not-false _ (c .if4 .left)
 
 -- no number on the way is large
-small : (c : tie.After-fields) → (begun c .args .n * c .fields .result ≤ 1728) × (begun c .args .n * mapBytes (c .fields .result) ≤ 224)
-small c =
-    let f = c .fields .ensures .1 in
-    (omega (arith, f, mul-le-mul-right (c .fields .result) (few c)), omega (arith, f, mul-le-mul-right (mapBytes (c .fields .result)) (few c)))
+small : (c : tie.After-fields) → begun c .args .n * c .fields .result ≤ 1728
+small c = omega (arith, c .fields .ensures .1, mul-le-mul-right (c .fields .result) (few c))
+
+maps-small : (c : tie.After-map-bytes) → begun (told (finite c)) .args .n * c .map-bytes .result ≤ 224
+maps-small c = omega (arith, c .map-bytes .ensures .1, mul-le-mul-right (c .map-bytes .result) (few (told (finite c))))
 
 -- the length that is computed is the list's
 whole : (c : tie.After-stored-length) → let t = told-before c in let x = begun t .args in
-    2 + x .n * mapBytes (t .fields .result) + c .stored-length .result ≡ length (listOf (trackList (x .n) (x .d) (given t)))
+    2 + x .n * mapped c .map-bytes .result + c .stored-length .result ≡ length (listOf (trackList (x .n) (x .d) (given t)))
 whole c =
     let t = told-before c in
     let x = begun t .args in
     omega (
       arith,
-      list-length (x .n) (x .d) (given t) (met-2 (long (finite c))),
-      ap (λ (k : ℕ). x .n * mapBytes k) (t .fields .ensures .0),
+      list-length (x .n) (x .d) (given t) (met-2 (long (finite (mapped c)))),
+      ap (λ (k : ℕ). x .n * k) (mapped c .map-bytes .ensures .0),
       c .stored-length .ensures .0,
     )
 
@@ -116,17 +120,20 @@ returns-4 c =
     let t = c .before .before .before in
     simp (met-10 (counted (sized t)), met-11 (sized t), eq-eqb _ _ (met-2 (c .before .before)), sym (c .before .all-finite .ensures) ∙ not-true _ (c .if4 .taken))
 
-mul-length : tie.Need-mul-length
-mul-length c = omega (arith, small (told c))
+map-bytes-requires : tie.Need-map-bytes-requires
+map-bytes-requires c κs = dimension-small _ (met-11 (sized (told c)))
 
-add-length-2 : tie.Need-add-length-2
-add-length-2 c = omega (arith, small (told c))
+mul-length : tie.Need-mul-length
+mul-length c = omega (arith, maps-small c)
+
+add-length : tie.Need-add-length
+add-length c = omega (arith, maps-small c)
 
 stored-length-requires : tie.Need-stored-length-requires
-stored-length-requires c κs = omega (arith, long c .if3 .left, small (told c))
+stored-length-requires c κs = omega (arith, long (finite c) .if3 .left, small (told (finite c)))
 
-add-length-3 : tie.Need-add-length-3
-add-length-3 c = omega (arith, small (told-before c), c .stored-length .ensures .1, long (finite c) .if3 .left)
+add-length-2 : tie.Need-add-length-2
+add-length-2 c = omega (arith, maps-small (mapped c), small (told-before c), c .stored-length .ensures .1, long (finite (mapped c)) .if3 .left)
 
 -- with 10, 11, 2 and 14 met, 20 decides
 met-all : (c : tie.After-stored-length) {b : Bool} → let t = told-before c in let x = begun t .args in let l = listOf (trackList (x .n) (x .d) (given t)) in
@@ -134,7 +141,7 @@ met-all : (c : tie.After-stored-length) {b : Bool} → let t = told-before c in 
 unfolding written
 met-all c e =
     let t = told-before c in
-    simp (met-10 (counted (sized t)), met-11 (sized t), eq-eqb _ _ (met-2 (long (finite c))), met-14 (finite c), e)
+    simp (met-10 (counted (sized t)), met-11 (sized t), eq-eqb _ _ (met-2 (long (finite (mapped c)))), met-14 (finite (mapped c)), e)
 
 returns-5 : tie.Need-returns-5
 returns-5 c = sym (ap writeAnswer (met-all (c .before) (lt-leb _ _ (rw (whole (c .before)) at (c .if5 .taken)))))
@@ -146,4 +153,4 @@ pub check-write-spec : {M : Type 1} → statement M
 check-write-spec =
     tie.close
     (tie.spec (λ c κs. search needs) returns (λ c κs. search needs) returns-2 fields-requires (λ c. omega (arith, small c)) returns-3 (λ c κs. search needs)
-    returns-4 (λ c. search needs) mul-length add-length-2 stored-length-requires add-length-3 returns-5 returns-6)
+    returns-4 map-bytes-requires mul-length add-length stored-length-requires add-length-2 returns-5 returns-6)

@@ -5,7 +5,7 @@ use native.Mathlib.Omega.{arith}
 use mathlib.Core.List.{List, _∷_}
 use borrow.Author.Tests.{leb-true}
 use denote.Ref.{now}
-use lib.ListN.{length, length-set}
+use lib.ListN.{length, set, length-set}
 use Rattle.kernel.specs.Answer.{Outcome, answered}
 use Rattle.tracks.specs.Layout.{fields}
 use Rattle.tracks.specs.Write.{listOf, recordsOf, tracksOf, written}
@@ -32,8 +32,8 @@ bits-of c = patterns (now (c .args .values))
 abbrev given : tie.Start → Outcome (List ℕ)
 given c = written (c .args .n) (c .args .d) (bits-of c) (length (now (c .args .out)))
 
-abbrev records-of : tie.Start → ℕ → List ℕ
-records-of c f = recordsOf (tracksOf (c .args .n) f (bits-of c))
+abbrev records-of : tie.Start → List ℕ
+records-of c = recordsOf (c .args .d) (tracksOf (c .args .n) (fields (c .args .d)) (bits-of c))
 
 -- what the answer of `check_write` says
 accepted : (c : tie.After-known-told) → (l : List ℕ) × (given (start-of c) ≡ answered l) × (c .before .c .given .0 .0 ≡ length l)
@@ -46,14 +46,18 @@ small : (c : tie.After-known-told) → let x = start-of c .args in (x .n ≤ 32)
 small c = let x = start-of c .args in (leb-true (x .n) 32 (listed c .few), dimension-small (x .d) (listed c .sized))
 
 -- the list is the two bytes and the records
-shape : (c : tie.After-known-told) → let s = start-of c in accepted c .0 ≡ s .args .n ∷ s .args .d ∷ records-of s (fields (s .args .d))
+shape : (c : tie.After-known-told) → let s = start-of c in accepted c .0 ≡ s .args .n ∷ s .args .d ∷ records-of s
 unfolding listOf tracksOf
 shape c =
     let s = start-of c in
-    listed c .same ∙ ap (λ (k : ℕ). k ∷ s .args .d ∷ records-of s (fields (s .args .d))) (length-tabulate (s .args .n) _)
+    listed c .same ∙ ap (λ (k : ℕ). k ∷ s .args .d ∷ records-of s) (length-tabulate (s .args .n) _)
 
-room : (c : tie.After-known-told) → let s = start-of c in 2 + length (records-of s (fields (s .args .d))) ≤ length (now (s .args .out))
+room : (c : tie.After-known-told) → let s = start-of c in 2 + length (records-of s) ≤ length (now (s .args .out))
 room c = omega (arith, listed c .fits, ap length (shape c))
+
+-- what is stored is the list, in front of what the buffer held
+stored : (c : tie.After-known-told) → let x = start-of c .args in over (set (set (now (x .out)) 0 (x .n)) 1 (x .d)) 2 (records-of (start-of c)) ≡ over (now (x .out)) 0 (accepted c .0)
+stored c = let x = start-of c .args in over-two (now (x .out)) (x .n) (x .d) (records-of (start-of c)) (omega (arith, room c)) ∙ ap (over (now (x .out)) 0) (sym (shape c))
 
 cast-out : tie.Need-cast-out
 cast-out c = omega (arith, small c)
@@ -67,19 +71,14 @@ cast-out-2 c = omega (arith, small c)
 slice-write-out-2 : tie.Need-slice-write-out-2
 slice-write-out-2 c = simp length-set (omega (arith, room c))
 
-fields-requires : tie.Need-fields-requires
-fields-requires c κs = small c .1
-
 write-tracks-requires : tie.Need-write-tracks-requires
 write-tracks-requires c κs =
-    let t = c .before .before in
-    let s = start-of t in
-    let f = c .before .fields .ensures .0 in
+    let t = c .before in
     record {
-      small = omega arith;
+      small = small t .1;
       few = small t .0;
-      long = omega (arith, length-patterns (now (s .args .values)), listed t .long, ap (λ (k : ℕ). s .args .n * k) f);
-      room = simp length-set (omega (arith, room t, ap (λ (k : ℕ). length (records-of s k)) f));
+      long = omega (arith, length-patterns (now (start-of t .args .values)), listed t .long);
+      room = simp length-set (omega (arith, room t));
     }
 
 same-length : tie.Need-same-length
@@ -87,16 +86,10 @@ same-length c = c .before .before .write-tracks .kept .1 .1 .1 .0 ∙ simp lengt
 
 returns : tie.Need-returns
 returns c =
-    let t = c .before .before .before .before .before in
-    let f = c .before .before .before .before .fields in
-    let s = start-of t in
-    let x = s .args in
+    let t = c .before .before .before .before in
     let a = accepted t in (
       ap WrittenList.Length (a .2) ∙ sym (ap writeAnswer (a .1)),
-      c .before .before .write-tracks .ensures .1
-          ∙ over-two (now (x .out)) (x .n) (x .d) (records-of s (f .result)) (omega (arith, room t))
-          ∙ ap (over (now (x .out)) 0) (ap (λ (k : ℕ). x .n ∷ x .d ∷ records-of s k) (f .ensures .0) ∙ sym (shape t))
-          ∙ sym (ap (λ (o : Outcome (List ℕ)). writeBytes o (now (x .out))) (a .1)),
+      c .before .before .write-tracks .ensures .1 ∙ stored t ∙ sym (ap (λ (o : Outcome (List ℕ)). writeBytes o (now (start-of t .args .out))) (a .1)),
     )
 
 returns-2 : tie.Need-returns-2
@@ -108,5 +101,5 @@ returns-2 c =
 pub write-list-spec : {M : Type 1} → statement M
 write-list-spec =
     tie.close
-    (tie.spec (λ c κs. search needs) (λ c. search needs) cast-out slice-write-out cast-out-2 slice-write-out-2 fields-requires write-tracks-requires
+    (tie.spec (λ c κs. search needs) (λ c. search needs) cast-out slice-write-out cast-out-2 slice-write-out-2 write-tracks-requires
     (λ c. search needs) same-length returns returns-2)

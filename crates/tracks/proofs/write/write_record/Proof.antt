@@ -2,14 +2,13 @@
 use mathlib.Core.Path.{refl}
 use Prim.Native.Nat.{ℕ}
 use native.Mathlib.Omega.{arith}
-use mathlib.Core.List.{List}
 use denote.Ref.{now}
 use lib.ListN.{length-append}
 use Rattle.tracks.specs.Write.{mapOf, storedBytes, recordOf}
-use Rattle.tracks.specs.Calls.{patterns}
+use Rattle.tracks.specs.Read.{Track}
+use Rattle.tracks.specs.Private.{given}
 use Rattle.tracks.proofs.Laid.{Laid, laid-none, laid-room, laid-more, laid-all}
 use Rattle.tracks.proofs.Written.{record-length}
-use Rattle.tracks.proofs.Values.{length-patterns}
 use borrow.Author.Needs.{needs}
 use Rattle.tracks.proofs.write.write_record.Statement.{statement}
 use Rattle.tracks.proofs.write.write_record.Tie as tie
@@ -18,22 +17,23 @@ use Rattle.tracks.proofs.write.write_record.Tie as tie
 abbrev start-of : tie.After-write-map → tie.Start
 start-of c = c .before .before .before .before
 
-abbrev bits-of : tie.After-write-map → List ℕ
-bits-of c = patterns (now (start-of c .args .v))
+abbrev track-of : tie.After-write-map → Track
+track-of c = given (now (start-of c .args .v))
 
 -- the map is written
-mapped : (c : tie.After-write-map) → let x = start-of c .args in Laid (now (x .out)) (x .at) (mapOf (bits-of c)) (c .write-map .result) (c .write-map .last .1 .0)
+mapped : (c : tie.After-write-map) → let x = start-of c .args in Laid (now (x .out)) (x .at) (mapOf (x .d) (track-of c)) (c .write-map .result) (c .write-map .last .1 .1 .0)
 unfolding recordOf
 mapped c =
-    let p = bits-of c in
-    laid-more laid-none (mapOf p) refl (omega (arith, start-of c .pre, length-append (mapOf p) (storedBytes p))) (c .write-map .ensures .0) (c .write-map .ensures .1)
+    let t = track-of c in
+    let d = start-of c .args .d in
+    laid-more laid-none (mapOf d t) refl (omega (arith, start-of c .pre .1, length-append (mapOf d t) (storedBytes (t .values)))) (c .write-map .ensures .0) (c .write-map .ensures .1)
 
 write-map-requires : tie.Need-write-map-requires
-write-map-requires c κs = let v = now (c .before .before .before .args .v) in omega (arith, record-length (patterns v), length-patterns v)
+write-map-requires c κs = let s = c .before .before .before in (s .pre .0, omega (arith, s .pre .1, record-length (s .args .d) (given (now (s .args .v)))))
 
 write-fields-requires : tie.Need-write-fields-requires
 unfolding recordOf
-write-fields-requires c κs = let m = c .before .before .before in laid-room (mapped m) (storedBytes (bits-of m)) refl (start-of m .pre .1)
+write-fields-requires c κs = let m = c .before .before .before in laid-room (mapped m) (storedBytes (track-of m .values)) refl (start-of m .pre .1)
 
 returns : tie.Need-returns
 unfolding recordOf
@@ -41,7 +41,7 @@ returns c =
     let written = c .before .before in
     let m = written .before .before .before .before in
     let w = written .write-fields .ensures in
-    laid-all (laid-more (mapped m) (storedBytes (bits-of m)) refl (start-of m .pre .1) (w .0) (w .1)) refl
+    laid-all (laid-more (mapped m) (storedBytes (track-of m .values)) refl (start-of m .pre .1) (w .0) (w .1)) refl
 
 pub write-record-spec : {M : Type 1} → statement M
 write-record-spec =

@@ -5,8 +5,8 @@ use native.Mathlib.Nat.{mul-le-mul-right}
 use native.Mathlib.Omega.{arith}
 use borrow.Author.Needs.{needs}
 use Rattle.tracks.specs.Layout.{fields}
-use Rattle.tracks.proofs.layout.fields.Statement.{statement}
-use Rattle.tracks.proofs.layout.fields.Tie as tie
+use Rattle.tracks.proofs.inside.fields.Statement.{statement}
+use Rattle.tracks.proofs.inside.fields.Tie as tie
 
 mul-result : tie.Need-mul-result
 mul-result c = omega (arith, mul-le-mul-right (c .args .d + 1) (c .pre))

@@ -6,7 +6,8 @@ use lib.ListN.{length}
 use lib.Ieee.{Float}
 use Rattle.kernel.specs.Answer.{Outcome, refused, answered}
 use Rattle.kernel.specs.Lists.{over, tabulate}
-use Rattle.tracks.specs.Read.{Item, TrackList, field, track, tracks, contents}
+use Rattle.tracks.specs.Layout.{fields, mapBytes}
+use Rattle.tracks.specs.Read.{Item, Track, TrackList, trackOf, field, track, tracks, contents}
 use Rattle.tracks.specs.Record.{offset}
 use Rattle.tracks.specs.Write.{recordsOf, tracksOf}
 use Rattle.tracks.specs.Calls.{doubles, patterns}
@@ -36,6 +37,10 @@ Within l c = (at : ℕ) → c ≡ End at → at ≤ length l
 abbrev pub Accepted : {A : Type 0} → Outcome A → Type 0
 Accepted {A} o = (x : A) × (o ≡ answered x)
 
+-- The track with the values that are to be written.
+abbrev pub given : List Float → Track
+given v = trackOf (patterns v)
+
 -- That an item's values are left in a slice from an index on, and the offset after the item is given.
 abbrev pub Puts : {A : Type 0} → (A → List ℕ) → Outcome (Item A) → List Float → ℕ → ℕ → List Float → Type 0
 Puts {A} fieldsOf o old i next new = (x : Item A) → o ≡ answered x → (next ≡ x .next) × (new ≡ over old i (doubles (fieldsOf (x .value))))
@@ -50,11 +55,17 @@ Offsets l old new = (c : TrackList) → contents l ≡ answered c → new ≡ ov
 
 -- ---- what is asked, part by part
 
--- that f fields are a track's at most, and that a list has its two first bytes and n tracks' offsets have room, with the end of the last one
-pub record TracksChecked (list : List ℕ) (f n : ℕ) (offsets : List ℕ) : Type 0 where
-  pub small : f ≤ 64
+-- a dimension that a list may have, its first two bytes, and room for the offsets of n tracks and the end of the last one
+pub record TracksChecked (list : List ℕ) (d n : ℕ) (offsets : List ℕ) : Type 0 where
+  pub small : d ≤ 9
   pub head : 2 ≤ length list
   pub room : n < length offsets
+
+-- f fields whose bits are there, and the offset where they start
+pub record FieldsChecked (list : List ℕ) (f map start : ℕ) : Type 0 where
+  pub small : f ≤ 64
+  pub told : map + mapBytes f ≤ length list
+  pub within : start ≤ length list
 
 -- that the byte which tells of field k is there, room for the field at i, and that it is accepted
 pub record FieldPut (list : List ℕ) (map k at : ℕ) (values : List Float) (i : ℕ) : Type 0 where
@@ -62,22 +73,22 @@ pub record FieldPut (list : List ℕ) (map k at : ℕ) (values : List Float) (i 
   pub room : i < length values
   pub accepted : Accepted (field list map k at)
 
--- room for the f fields of a track from i on, and that the track is accepted
-pub record TrackPut (list : List ℕ) (f map : ℕ) (values : List Float) (i : ℕ) : Type 0 where
-  pub small : f ≤ 64
-  pub room : i + f ≤ length values
-  pub accepted : Accepted (track list f map)
+-- room for the fields of a track from i on, and that the track is accepted
+pub record TrackPut (list : List ℕ) (d map : ℕ) (values : List Float) (i : ℕ) : Type 0 where
+  pub small : d ≤ 9
+  pub room : i + fields d ≤ length values
+  pub accepted : Accepted (track list d map)
 
 -- room for the fields of n tracks, and that these are accepted
-pub record TracksPut (list : List ℕ) (f n : ℕ) (values : List Float) : Type 0 where
-  pub small : f ≤ 64
+pub record TracksPut (list : List ℕ) (d n : ℕ) (values : List Float) : Type 0 where
+  pub small : d ≤ 9
   pub few : n ≤ 32
-  pub room : n * f ≤ length values
-  pub accepted : Accepted (tracks list f n)
+  pub room : n * fields d ≤ length values
+  pub accepted : Accepted (tracks list d n)
 
 -- the values of n tracks, and room for their records
-pub record TracksWritten (values : List Float) (f n : ℕ) (out : List ℕ) : Type 0 where
-  pub small : f ≤ 64
+pub record TracksWritten (values : List Float) (d n : ℕ) (out : List ℕ) : Type 0 where
+  pub small : d ≤ 9
   pub few : n ≤ 32
-  pub long : length values ≡ n * f
-  pub room : 2 + length (recordsOf (tracksOf n f (patterns values))) ≤ length out
+  pub long : length values ≡ n * fields d
+  pub room : 2 + length (recordsOf d (tracksOf n (fields d) (patterns values))) ≤ length out
