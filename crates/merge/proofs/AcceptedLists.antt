@@ -13,7 +13,7 @@ use Rattle.kernel.specs.Answer.{answered}
 use Rattle.kernel.specs.Lists.{over}
 use Rattle.kernel.proofs.Lists.{length-over}
 use Rattle.tracks.specs.Read.{TrackList, contents, count}
-use Rattle.tracks.proofs.Accepted.{contents-met}
+use Rattle.tracks.proofs.Reading.Accepted.{contents-met}
 use Rattle.pairing.specs.Pairing.{pair, Pairs, Candidates, Ordered, paired, freeSecond}
 use Rattle.pairing.specs.Search.{isFree}
 use Rattle.pairing.proofs.Tests.{left, right}

@@ -12,7 +12,7 @@ use lib.ListN.{length, getD, set, take, drop, length-append, take-append-drop}
 use lib.Seq.{drop-cons}
 use Rattle.kernel.specs.Lists.{over, tabulate}
 use Rattle.kernel.proofs.Lists.{length-over, over-none, over-over, over-more}
-use Rattle.tracks.proofs.Lists.{flatMap-append}
+use Rattle.tracks.proofs.Slices.Lists.{flatMap-append}
 use Rattle.kernel.proofs.Lists.{length-tabulate, tabulate-more}
 use Rattle.merge.proofs.Bytes.{rows-length, rest-byte}
 use Rattle.merge.proofs.Writing.{selected-few}

@@ -6,7 +6,7 @@ use mathlib.Core.Path.{_≡_, ap, _∙_}
 use mathlib.Core.List.{List}
 use lib.ListN.{length, getD}
 use Rattle.tracks.specs.Record.{offset}
-use Rattle.tracks.proofs.Walk.{offset-rises, offset-within}
+use Rattle.tracks.proofs.Records.Walk.{offset-rises, offset-within}
 use Rattle.merge.specs.Tracks.{trackCount}
 use Rattle.merge.specs.Steps.{held, Located, LocatedTrack}
 use Rattle.merge.proofs.Tracks.{few-tracks}

@@ -7,7 +7,7 @@ use lib.Dec.{T, ltb, ltb→lt, lt→ltb}
 use lib.Ieee.{Float, lt, eq}
 use Rattle.tracks.specs.Read.{Track, TrackList, trackOf}
 use Rattle.tracks.specs.Record.{sameBytes}
-use Rattle.tracks.proofs.Records.{same-refl, same-equal}
+use Rattle.tracks.proofs.Records.Same.{same-refl, same-equal}
 use Rattle.compare.specs.declared.Comparison.{Comparison}
 use Rattle.compare.specs.declared.Comparison.the-variants.{Near, Far, NoDistance}
 use Rattle.pairing.specs.Pairing.{Pair, In, Candidates, Ordered, paired}

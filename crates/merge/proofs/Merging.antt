@@ -9,7 +9,7 @@ use lib.Ieee.{Float}
 use borrow.Author.Tests.{leb-true}
 use Rattle.dense.specs.Matrix.{rowOf}
 use Rattle.tracks.specs.Layout.{fields, dimensionMet}
-use Rattle.tracks.proofs.Accepted.{contents-met, dimension-small}
+use Rattle.tracks.proofs.Reading.Accepted.{contents-met, dimension-small}
 use Rattle.compare.specs.Distance.{floorAndGate}
 use Rattle.merge.specs.Tracks.{trackCount}
 use Rattle.merge.specs.Rows.{Pairings, rowsOf}

@@ -20,10 +20,10 @@ use Rattle.tracks.specs.Record.{offset}
 use Rattle.tracks.specs.Calls.{doubles, joined, readAnswer, placedLeft, readingPlaced, readWithOffsets}
 use Rattle.tracks.specs.declared.read.ReadList.{ReadList}
 use Rattle.tracks.specs.declared.read.ReadList.the-variants as ReadList
-use Rattle.tracks.proofs.Accepted.{contents-met, dimension-small}
-use Rattle.tracks.proofs.Known.{read-accepted, read-refused}
-use Rattle.tracks.proofs.Offsets.{placed-fits, placed-refused}
-use Rattle.tracks.proofs.RoundTrip.{accepted-fit, joined-fit}
+use Rattle.tracks.proofs.Reading.Accepted.{contents-met, dimension-small}
+use Rattle.tracks.proofs.Reading.Known.{read-accepted, read-refused}
+use Rattle.tracks.proofs.Reading.Offsets.{placed-fits, placed-refused}
+use Rattle.tracks.proofs.RoundTrip.BothWays.{accepted-fit, joined-fit}
 use Rattle.merge.specs.Tracks.{trackCount}
 use Rattle.merge.specs.Rows.{Row}
 use Rattle.merge.specs.Merge.{afterMerge, oneDimension}

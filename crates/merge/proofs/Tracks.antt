@@ -17,11 +17,11 @@ use Rattle.tracks.specs.Read.{Track, TrackList, trackOf, contents}
 use Rattle.tracks.specs.Write.{tracksOf}
 use Rattle.tracks.specs.Calls.{doubles, joined}
 use Rattle.tracks.specs.Record.{offset, recordAt, sameBytes}
-use Rattle.tracks.proofs.Accepted.{contents-met}
-use Rattle.tracks.proofs.Lists.{map-take, map-drop}
-use Rattle.tracks.proofs.Values.{tracks-joined}
-use Rattle.tracks.proofs.RoundTrip.{accepted-fit, joined-fit}
-use Rattle.tracks.proofs.RecordParts.{equal-records}
+use Rattle.tracks.proofs.Reading.Accepted.{contents-met}
+use Rattle.tracks.proofs.Slices.Lists.{map-take, map-drop}
+use Rattle.tracks.proofs.Numbers.Values.{tracks-joined}
+use Rattle.tracks.proofs.RoundTrip.BothWays.{accepted-fit, joined-fit}
+use Rattle.tracks.proofs.Records.Parts.{equal-records}
 use Rattle.pairing.proofs.Tests.{alike, is-true}
 use Rattle.merge.specs.Tracks.{trackCount, trackAt, equalTracks}
 use Rattle.merge.proofs.Meaning.{equal-fields}

@@ -17,10 +17,10 @@ use Rattle.tracks.specs.Record.{offset, recordAt, nextOffset, placing}
 use Rattle.tracks.specs.Calls.{readAnswer, offsetsLeft, trackOffsets}
 use Rattle.tracks.specs.declared.read.ReadList.{ReadList}
 use Rattle.tracks.specs.declared.read.ReadList.the-variants as ReadList
-use Rattle.tracks.proofs.Accepted.{contents-met}
-use Rattle.tracks.proofs.Known.{read-accepted, read-refused}
-use Rattle.tracks.proofs.Offsets.{placing-fits, placing-refused}
-use Rattle.tracks.proofs.Walk.{record-part, reader-next, offset-within, offsets-stored}
+use Rattle.tracks.proofs.Reading.Accepted.{contents-met}
+use Rattle.tracks.proofs.Reading.Known.{read-accepted, read-refused}
+use Rattle.tracks.proofs.Reading.Offsets.{placing-fits, placing-refused}
+use Rattle.tracks.proofs.Records.Walk.{record-part, reader-next, offset-within, offsets-stored}
 use Rattle.merge.specs.Tracks.{trackCount}
 use Rattle.merge.specs.Rows.{takeOurs, takeTheirs}
 use Rattle.merge.specs.Steps.{heldIn, held, Located}

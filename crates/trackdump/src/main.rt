@@ -2,6 +2,7 @@
 // for each track, with its index, its state and its variances, or with the word `triangle` the lower triangle of its
 // covariance, row by row. A list that is refused is shown as `no`, the question's number and the question.
 ghost use Prim.Native.Nat.{_≤_};
+
 mod number;
 mod shortest;
 mod whole;

@@ -2,9 +2,9 @@
 use Prim.Native.Nat.{ℕ, _+_, _*_}
 use mathlib.Core.Bool.{_&&_}
 use mathlib.Core.List.{List, map, flatMap}
-use lib.Dec.{T, leb}
-use lib.ListN.{length, getD}
-use lib.Ieee.{Float, nan, binary64, fits, ofBits, toBits}
+use lib.Dec.{leb}
+use lib.ListN.{length}
+use lib.Ieee.{Float, binary64, ofBits, toBits}
 use Rattle.kernel.specs.Answer.{Outcome, refused, answered, ask, andThen}
 use Rattle.kernel.specs.Lists.{over, tabulate}
 use Rattle.tracks.specs.Layout.{fields}
@@ -21,10 +21,6 @@ doubles v = map (ofBits binary64) v
 
 abbrev pub patterns : List Float → List ℕ
 patterns v = map (toBits binary64) v
-
--- That values are doubles.
-abbrev pub Doubles : List Float → Type 0
-Doubles v = (i : ℕ) → T (fits binary64 (getD v i nan))
 
 -- The values of tracks, one track after another.
 unfoldable pub joined : List Track → List ℕ

@@ -38,8 +38,8 @@ abbrev pub Accepted : {A : Type 0} → Outcome A → Type 0
 Accepted {A} o = (x : A) × (o ≡ answered x)
 
 -- The track with the values that are to be written.
-abbrev pub given : List Float → Track
-given v = trackOf (patterns v)
+abbrev pub trackOfDoubles : List Float → Track
+trackOfDoubles v = trackOf (patterns v)
 
 -- That an item's values are left in a slice from an index on, and the offset after the item is given.
 abbrev pub Puts : {A : Type 0} → (A → List ℕ) → Outcome (Item A) → List Float → ℕ → ℕ → List Float → Type 0

@@ -7,7 +7,7 @@ ghost use Rattle.kernel.specs.Lists.{over};
 ghost use Rattle.tracks.specs.Layout.{fields, mapBits, mapBytes};
 ghost use Rattle.tracks.specs.Write.{allFinite, nonzero, mapByte, mapOf, fieldBytes, storedBytes, recordOf, recordsOf, tracksOf, written};
 ghost use Rattle.tracks.specs.Calls.{patterns, writeAnswer, writeBytes};
-ghost use Rattle.tracks.specs.Private.{given, Writes, TracksWritten};
+ghost use Rattle.tracks.specs.Private.{trackOfDoubles, Writes, TracksWritten};
 use crate::inside;
 use crate::layout;
 use kernel::question;
@@ -77,7 +77,7 @@ fn is_stored(v: &[f64], k: usize) -> bool
 // Byte b of a track's map.
 fn map_byte(v: &[f64], b: usize) -> u8
     requires { ⌜ b < 64 ⌝ }
-    ensures { λ r. ⌜ r ≡ mapByte (given (now (v .entry))) b ⌝ }
+    ensures { λ r. ⌜ r ≡ mapByte (trackOfDoubles (now (v .entry))) b ⌝ }
 {
     let mut byte: usize = 0;
     let mut weight: usize = 1;
@@ -93,7 +93,7 @@ fn map_byte(v: &[f64], b: usize) -> u8
 // Writes the map of a track of dimension d.
 fn write_map(v: &[f64], d: usize, out: &mut [u8], at: usize) -> usize
     requires { ⌜ (d ≤ 9) × (at + mapBytes (mapBits d) ≤ length (now out)) ⌝ }
-    ensures { λ r. ⌜ Writes (mapOf d (given (now (v .entry)))) (now (out .entry)) at r (now (out .exit)) ⌝ }
+    ensures { λ r. ⌜ Writes (mapOf d (trackOfDoubles (now (v .entry)))) (now (out .entry)) at r (now (out .exit)) ⌝ }
 {
     let n = layout::map_bytes(d);
     for b in 0..n {
@@ -143,8 +143,8 @@ fn write_fields(v: &[f64], out: &mut [u8], start: usize) -> usize
 
 // Writes the own bytes of a track of dimension d.
 fn write_record(v: &[f64], d: usize, out: &mut [u8], at: usize) -> usize
-    requires { ⌜ (d ≤ 9) × (at + length (recordOf d (given (now v))) ≤ length (now out)) ⌝ }
-    ensures { λ r. ⌜ Writes (recordOf d (given (now (v .entry)))) (now (out .entry)) at r (now (out .exit)) ⌝ }
+    requires { ⌜ (d ≤ 9) × (at + length (recordOf d (trackOfDoubles (now v))) ≤ length (now out)) ⌝ }
+    ensures { λ r. ⌜ Writes (recordOf d (trackOfDoubles (now (v .entry)))) (now (out .entry)) at r (now (out .exit)) ⌝ }
 {
     let next = write_map(v, d, out, at);
     write_fields(v, out, next)

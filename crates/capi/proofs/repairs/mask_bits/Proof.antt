@@ -11,7 +11,7 @@ use lib.ListN.{getD}
 use lib.Pow.{pow-mono}
 use Rattle.kernel.proofs.Loops.{at-end}
 use Rattle.tracks.specs.Write.{packed}
-use Rattle.tracks.proofs.Written.{packed-more, packed-lt}
+use Rattle.tracks.proofs.Numbers.Bits.{packed-more, packed-lt}
 use Rattle.capi.specs.Repairs.{maskBits}
 use Rattle.capi.proofs.repairs.mask_bits.Statement.{statement}
 use Rattle.capi.proofs.repairs.mask_bits.Tie as tie

@@ -6,7 +6,7 @@ use denote.Ref.{now}
 use lib.ListN.{getD}
 use Rattle.tracks.specs.Layout.{part}
 use Rattle.tracks.specs.Record.{offset}
-use Rattle.tracks.proofs.Walk.{record-part}
+use Rattle.tracks.proofs.Records.Walk.{record-part}
 use Rattle.merge.specs.Steps.{held}
 use Rattle.merge.proofs.Located.{few-located, starts, ends, bounds}
 use Rattle.merge.proofs.parts.track_part.Statement.{statement}

@@ -1,5 +1,5 @@
 -- `merge_three` meets its contract: questions 18 and 19, and then the rows, their verdicts and their numbers.
-use mathlib.Core.Path.{_≡_, sym, ap, _∙_}
+use mathlib.Core.Path.{_≡_, sym, _∙_}
 use Prim.Native.Nat.{ℕ, _+_, _*_, _≤_}
 use native.Mathlib.Omega.{arith}
 use mathlib.Core.Bool.{true}
@@ -10,7 +10,7 @@ use denote.Ref.{now}
 use lib.ListN.{length}
 use Rattle.tracks.specs.Layout.{fields}
 use Rattle.tracks.specs.Read.{TrackList}
-use Rattle.tracks.proofs.Accepted.{dimension-small}
+use Rattle.tracks.proofs.Reading.Accepted.{dimension-small}
 use Rattle.compare.specs.Distance.{floorAndGate}
 use Rattle.merge.specs.Tracks.{trackCount}
 use Rattle.merge.specs.Rows.{Row, rowsOf, verdictOn}

@@ -1,7 +1,7 @@
 -- `map_bits` meets its contract: there is a bit for each field.
 use mathlib.Core.Path.{sym, _∙_}
 use borrow.Author.Needs.{needs}
-use Rattle.tracks.proofs.Fields.{one-bit-each}
+use Rattle.tracks.proofs.Numbers.Fields.{one-bit-each}
 use Rattle.tracks.proofs.layout.map_bits.Statement.{statement}
 use Rattle.tracks.proofs.layout.map_bits.Tie as tie
 

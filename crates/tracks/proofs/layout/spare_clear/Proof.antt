@@ -6,7 +6,7 @@ use denote.Ref.{now}
 use native.Mathlib.Omega.{arith}
 use Rattle.kernel.proofs.Loops.{at-end}
 use Rattle.tracks.specs.Layout.{mapBytes, stands, none, spare}
-use Rattle.tracks.proofs.Bits.{none-more, none-not}
+use Rattle.tracks.proofs.Numbers.Bits.{none-more, none-not}
 use Rattle.tracks.proofs.layout.spare_clear.Statement.{statement}
 use Rattle.tracks.proofs.layout.spare_clear.Tie as tie
 

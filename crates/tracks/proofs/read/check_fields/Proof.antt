@@ -10,8 +10,8 @@ use Rattle.kernel.proofs.Loops.{at-end}
 use Rattle.tracks.specs.Read.{field, items}
 use Rattle.tracks.specs.Private.{ends}
 use Rattle.tracks.specs.declared.read.Checked.the-variants.{End}
-use Rattle.tracks.proofs.Items.{ends-more, ends-stop}
-use Rattle.tracks.proofs.Accepted.{field-within}
+use Rattle.tracks.proofs.Reading.Items.{ends-more, ends-stop}
+use Rattle.tracks.proofs.Reading.Accepted.{field-within}
 use Rattle.tracks.proofs.read.check_fields.Statement.{statement}
 use Rattle.tracks.proofs.read.check_fields.Tie as tie
 

@@ -17,8 +17,8 @@ use Rattle.tracks.specs.Read.{tracks, count, dimension, nothingAfter, co
 use Rattle.tracks.specs.Record.{endOf, offset}
 use Rattle.tracks.specs.Calls.{readAnswer}
 use Rattle.tracks.specs.Private.{ends, Offsets}
-use Rattle.tracks.proofs.Accepted.{tracked, contents-head, contents-met, dimension-small, tracks-ended, tracks-followed, tracks-stopped}
-use Rattle.tracks.proofs.Known.{read-refused}
+use Rattle.tracks.proofs.Reading.Accepted.{tracked, contents-head, contents-met, dimension-small, tracks-ended, tracks-followed, tracks-stopped}
+use Rattle.tracks.proofs.Reading.Known.{read-refused}
 use borrow.Author.Needs.{needs}
 use Rattle.tracks.proofs.read.check_offsets.Statement.{statement}
 use Rattle.tracks.proofs.read.check_offsets.Tie as tie
@@ -68,7 +68,11 @@ check-tracks-requires : tie.Need-check-tracks-requires
 check-tracks-requires c κs =
     let s = c .before in
     let t = s .before .before in
-    record { small = dimension-small _ (sym (s .before .dimension-met .ensures) ∙ not-false _ (s .if3 .left)); head = omega arith; room = omega (arith, leb-true (count (list-of (begun t))) 32 (counted t)) }
+    record {
+      small = dimension-small _ (sym (s .before .dimension-met .ensures) ∙ not-false _ (s .if3 .left));
+      head = omega arith;
+      room = omega (arith, leb-true (count (list-of (begun t))) 32 (counted t));
+    }
 
 abbrev start-of : tie.Else3 → tie.After-slice-known
 start-of c = begun (c .before .before)

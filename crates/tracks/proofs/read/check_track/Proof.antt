@@ -8,8 +8,8 @@ use lib.ListN.{length}
 use Rattle.tracks.specs.Layout.{fields, mapBits, spare}
 use Rattle.tracks.specs.Read.{trackOf, afterMap, field, items, track}
 use Rattle.tracks.specs.Private.{ends}
-use Rattle.tracks.proofs.Fields.{one-bit-each}
-use Rattle.tracks.proofs.Items.{ends-made}
+use Rattle.tracks.proofs.Numbers.Fields.{one-bit-each}
+use Rattle.tracks.proofs.Reading.Items.{ends-made}
 use borrow.Author.Needs.{needs}
 use Rattle.tracks.proofs.read.check_track.Statement.{statement}
 use Rattle.tracks.proofs.read.check_track.Tie as tie

@@ -8,13 +8,13 @@ use denote.Ref.{now}
 use lib.ListN.{length, set, length-set}
 use Rattle.kernel.specs.Lists.{tabulate}
 use Rattle.kernel.proofs.Lists.{length-tabulate, tabulate-more}
-use Rattle.tracks.proofs.Laid.{Laid, laid-none, laid-set, laid-all}
+use Rattle.tracks.proofs.Slices.Laid.{Laid, laid-none, laid-set, laid-all}
 use Rattle.tracks.specs.Read.{items, track, tracks}
 use Rattle.tracks.specs.Record.{endOf}
 use Rattle.tracks.specs.Private.{ends, continued, checkedEnd}
 use Rattle.tracks.specs.declared.read.Checked.{Checked}
-use Rattle.tracks.proofs.Items.{ends-next, checked-end}
-use Rattle.tracks.proofs.Accepted.{tracks-within}
+use Rattle.tracks.proofs.Reading.Items.{ends-next, checked-end}
+use Rattle.tracks.proofs.Reading.Accepted.{tracks-within}
 use Rattle.tracks.proofs.read.check_tracks.Statement.{statement}
 use Rattle.tracks.proofs.read.check_tracks.Tie as tie
 

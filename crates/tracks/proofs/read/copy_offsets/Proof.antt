@@ -6,8 +6,8 @@ use native.Mathlib.Omega.{arith}
 use denote.Ref.{now}
 use lib.ListN.{take}
 use lib.Seq.{length-take-le}
-use Rattle.tracks.proofs.Lists.{take-more}
-use Rattle.tracks.proofs.Laid.{Laid, laid-none, laid-set, laid-all}
+use Rattle.tracks.proofs.Slices.Lists.{take-more}
+use Rattle.tracks.proofs.Slices.Laid.{Laid, laid-none, laid-set, laid-all}
 use Rattle.tracks.proofs.read.copy_offsets.Statement.{statement}
 use Rattle.tracks.proofs.read.copy_offsets.Tie as tie
 

@@ -8,7 +8,7 @@ use lib.Ieee.{binary64, ofBits}
 use Rattle.kernel.specs.Answer.{Outcome, answered}
 use Rattle.tracks.specs.Read.{Item, field}
 use Rattle.kernel.specs.Lists.{over}
-use Rattle.tracks.proofs.Accepted.{Stored, field-stored, field-absent, finite-no-nan}
+use Rattle.tracks.proofs.Reading.Accepted.{Stored, field-stored, field-absent, finite-no-nan}
 use Rattle.kernel.proofs.Lists.{over-set}
 use borrow.Author.Needs.{needs}
 use Rattle.tracks.proofs.read.put_field.Statement.{statement}

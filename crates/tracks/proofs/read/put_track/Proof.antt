@@ -7,10 +7,10 @@ use mathlib.Core.List.{[], _∷_}
 use denote.Ref.{now}
 use Rattle.kernel.specs.Answer.{answered}
 use Rattle.tracks.specs.Read.{itemOf, afterMap, field, items}
-use Rattle.tracks.proofs.Accepted.{TrackMet, track-met}
-use Rattle.tracks.proofs.Fields.{one-bit-each}
-use Rattle.tracks.proofs.Laid.{laid-none}
-use Rattle.tracks.proofs.Putting.{Putting, Coming, put-next, put-more, put-all}
+use Rattle.tracks.proofs.Reading.Accepted.{TrackMet, track-met}
+use Rattle.tracks.proofs.Numbers.Fields.{one-bit-each}
+use Rattle.tracks.proofs.Slices.Laid.{laid-none}
+use Rattle.tracks.proofs.Slices.Putting.{Putting, Coming, put-next, put-more, put-all}
 use Rattle.tracks.proofs.read.put_track.Statement.{statement}
 use Rattle.tracks.proofs.read.put_track.Tie as tie
 

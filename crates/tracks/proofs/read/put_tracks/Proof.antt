@@ -8,11 +8,11 @@ use denote.Ref.{now}
 use lib.ListN.{length}
 use Rattle.tracks.specs.Read.{items, track, tracks}
 use Rattle.tracks.specs.Calls.{joined}
-use Rattle.tracks.proofs.Accepted.{track-met}
-use Rattle.tracks.proofs.Laid.{laid-none}
-use Rattle.tracks.proofs.Putting.{Putting, Coming, put-next, put-more, put-all}
+use Rattle.tracks.proofs.Reading.Accepted.{track-met}
+use Rattle.tracks.proofs.Slices.Laid.{laid-none}
+use Rattle.tracks.proofs.Slices.Putting.{Putting, Coming, put-next, put-more, put-all}
 use Rattle.kernel.proofs.Lists.{row-within}
-use Rattle.tracks.proofs.Lists.{row-next, joined-more}
+use Rattle.tracks.proofs.Slices.Lists.{row-next, joined-more}
 use Rattle.tracks.proofs.read.put_tracks.Statement.{statement}
 use Rattle.tracks.proofs.read.put_tracks.Tie as tie
 

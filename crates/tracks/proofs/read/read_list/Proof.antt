@@ -10,7 +10,7 @@ use Rattle.kernel.specs.Answer.{Outcome, answered}
 use Rattle.tracks.specs.Layout.{fields}
 use Rattle.tracks.specs.Read.{TrackList, tracks, contents, reading}
 use Rattle.tracks.specs.Calls.{readAnswer, readValues}
-use Rattle.tracks.proofs.Known.{Known, known-list, known-fields, known-tracks, read-refused, reading-fits, reading-short, reading-refused}
+use Rattle.tracks.proofs.Reading.Known.{Known, known-list, known-fields, known-tracks, read-refused, reading-fits, reading-short, reading-refused}
 use borrow.Author.Needs.{needs}
 use Rattle.tracks.proofs.read.read_list.Statement.{statement}
 use Rattle.tracks.proofs.read.read_list.Tie as tie

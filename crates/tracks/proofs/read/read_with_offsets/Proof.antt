@@ -13,8 +13,8 @@ use Rattle.tracks.specs.Layout.{fields}
 use Rattle.tracks.specs.Read.{TrackList, contents}
 use Rattle.tracks.specs.Calls.{readAnswer, readValues, offsetsLeft, readingPlaced, placedLeft, readWithOffsets}
 use Rattle.tracks.specs.declared.read.ReadList.{ReadList}
-use Rattle.tracks.proofs.Known.{Known, known-list, known-fields, known-tracks, read-refused}
-use Rattle.tracks.proofs.Offsets.{placed-fits, placed-short, placed-few, placed-refused, offsets-long, known-front}
+use Rattle.tracks.proofs.Reading.Known.{Known, known-list, known-fields, known-tracks, read-refused}
+use Rattle.tracks.proofs.Reading.Offsets.{placed-fits, placed-short, placed-few, placed-refused, offsets-long, known-front}
 use borrow.Author.Needs.{needs}
 use Rattle.tracks.proofs.read.read_with_offsets.Statement.{statement}
 use Rattle.tracks.proofs.read.read_with_offsets.Tie as tie

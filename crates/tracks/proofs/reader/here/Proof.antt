@@ -35,7 +35,7 @@ use denote.Triple.Table.{entered, cited}
 use denote.Triple.Walked.{says, walkOf, ends-at}
 use Rattle.tracks.specs.Record.{recordAt, OwnBytes}
 use Rattle.tracks.specs.declared.reader.Reader.{Reader}
-use Rattle.tracks.proofs.Apart.{mach, Own, apart, stayed, keeps, Says, Found, to, Ensured, said}
+use Rattle.tracks.proofs.Records.Reader.{mach, Own, apart, stayed, keeps, Says, Found, to, Ensured, said}
 use Rattle.tracks.proofs.reader.Reader.Laws as T′
 use Rattle.tracks.proofs.record.record as called
 use Rattle.tracks.proofs.record.record.Symbol as called-def

@@ -37,7 +37,7 @@ use denote.Triple.Table.{entered, cited}
 use denote.Triple.Walked.{says, walkOf, ends-at}
 use Rattle.tracks.specs.Record.{nextOffset}
 use Rattle.tracks.specs.declared.reader.Reader.{Reader}
-use Rattle.tracks.proofs.Apart.{mach, Own, D, L, vd, apart, stayed, keeps, Says, Found, to, Ensured, said}
+use Rattle.tracks.proofs.Records.Reader.{mach, Own, D, L, vd, apart, stayed, keeps, Says, Found, to, Ensured, said}
 use Rattle.tracks.proofs.reader.Reader.Laws as T′
 use Rattle.tracks.proofs.record.next_offset as called
 use Rattle.tracks.proofs.record.next_offset.Symbol as called-def

@@ -8,8 +8,8 @@ use mathlib.Core.List.{List}
 use denote.Ref.{now}
 use lib.ListN.{length}
 use Rattle.tracks.specs.Record.{recordEnd}
-use Rattle.tracks.proofs.Records.{end-here, end-later, end-refused}
-use Rattle.tracks.proofs.Accepted.{track-within}
+use Rattle.tracks.proofs.Records.Ends.{end-here, end-later, end-refused}
+use Rattle.tracks.proofs.Reading.Accepted.{track-within}
 use Rattle.tracks.proofs.record.find_end.Statement.{statement}
 use Rattle.tracks.proofs.record.find_end.Tie as tie
 

@@ -6,7 +6,7 @@ use mathlib.Core.List.{List}
 use denote.Ref.{now}
 use lib.ListN.{length}
 use Rattle.tracks.specs.Record.{nextOffset}
-use Rattle.tracks.proofs.Records.{record-short}
+use Rattle.tracks.proofs.Records.Ends.{record-short}
 use borrow.Author.Needs.{needs}
 use Rattle.tracks.proofs.record.next_offset.Statement.{statement}
 use Rattle.tracks.proofs.record.next_offset.Tie as tie

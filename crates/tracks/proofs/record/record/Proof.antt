@@ -8,7 +8,7 @@ use lib.ListN.{length, take, drop}
 use Rattle.tracks.specs.Layout.{part}
 use Rattle.tracks.specs.Read.{contents}
 use Rattle.tracks.specs.Record.{recordEnd, recordIn, recordAt}
-use Rattle.tracks.proofs.Known.{Known, known-list, read-refused}
+use Rattle.tracks.proofs.Reading.Known.{Known, known-list, read-refused}
 use borrow.Author.Needs.{needs}
 use Rattle.tracks.proofs.record.record.Statement.{statement}
 use Rattle.tracks.proofs.record.record.Tie as tie

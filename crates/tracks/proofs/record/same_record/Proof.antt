@@ -8,7 +8,7 @@ use denote.Ref.{now}
 use lib.ListN.{length, getD}
 use lib.Seq.{ext-getD}
 use Rattle.tracks.specs.Record.{sameBytes}
-use Rattle.tracks.proofs.Records.{same-refl, same-unequal}
+use Rattle.tracks.proofs.Records.Same.{same-refl, same-unequal}
 use Rattle.tracks.proofs.record.same_record.Statement.{statement}
 use Rattle.tracks.proofs.record.same_record.Tie as tie
 

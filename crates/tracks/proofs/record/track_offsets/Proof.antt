@@ -11,8 +11,8 @@ use Rattle.tracks.specs.Read.{TrackList, contents}
 use Rattle.tracks.specs.Record.{placing}
 use Rattle.tracks.specs.Calls.{readAnswer, offsetsLeft, trackOffsets}
 use Rattle.tracks.specs.declared.read.ReadList.{ReadList}
-use Rattle.tracks.proofs.Known.{Known, known-list, read-refused}
-use Rattle.tracks.proofs.Offsets.{placing-fits, placing-short, placing-refused, offsets-long, known-front}
+use Rattle.tracks.proofs.Reading.Known.{Known, known-list, read-refused}
+use Rattle.tracks.proofs.Reading.Offsets.{placing-fits, placing-short, placing-refused, offsets-long, known-front}
 use borrow.Author.Needs.{needs}
 use Rattle.tracks.proofs.record.track_offsets.Statement.{statement}
 use Rattle.tracks.proofs.record.track_offsets.Tie as tie

@@ -10,8 +10,8 @@ use lib.Seq.{take-all}
 use Rattle.tracks.specs.Layout.{finiteBits}
 use Rattle.tracks.specs.Write.{allFinite}
 use Rattle.tracks.specs.Calls.{patterns}
-use Rattle.tracks.proofs.Lists.{take-more}
-use Rattle.tracks.proofs.Values.{length-patterns, all-more, all-not}
+use Rattle.tracks.proofs.Slices.Lists.{take-more}
+use Rattle.tracks.proofs.Numbers.Values.{length-patterns, all-more, all-not}
 use Rattle.tracks.proofs.write.all_finite.Statement.{statement}
 use Rattle.tracks.proofs.write.all_finite.Tie as tie
 

@@ -4,7 +4,7 @@ use denote.Ref.{now}
 use lib.ListN.{getD}
 use lib.Ieee.{nan}
 use Rattle.kernel.proofs.Doubles.{equals-itself}
-use Rattle.tracks.proofs.Values.{pattern-at, nan-bits}
+use Rattle.tracks.proofs.Numbers.Values.{pattern-at, nan-bits}
 use borrow.Author.Needs.{needs}
 use Rattle.tracks.proofs.write.bits_at.Statement.{statement}
 use Rattle.tracks.proofs.write.bits_at.Tie as tie

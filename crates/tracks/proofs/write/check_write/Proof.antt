@@ -14,9 +14,9 @@ use Rattle.tracks.specs.Layout.{fields, countMet, dimensionMet}
 use Rattle.tracks.specs.Write.{allFinite, listOf, trackList, written}
 use Rattle.tracks.specs.Calls.{patterns, writeAnswer}
 use Rattle.tracks.specs.declared.write.WrittenList.the-variants as WrittenList
-use Rattle.tracks.proofs.Accepted.{dimension-small}
-use Rattle.tracks.proofs.Written.{list-length}
-use Rattle.tracks.proofs.Values.{length-patterns}
+use Rattle.tracks.proofs.Reading.Accepted.{dimension-small}
+use Rattle.tracks.proofs.Records.Bytes.{list-length}
+use Rattle.tracks.proofs.Numbers.Values.{length-patterns}
 use borrow.Author.Needs.{needs}
 use Rattle.tracks.proofs.write.check_write.Statement.{statement}
 use Rattle.tracks.proofs.write.check_write.Tie as tie

@@ -2,7 +2,7 @@
 use mathlib.Core.Path.{ap, sym, _∙_}
 use native.Mathlib.Omega.{arith}
 use lib.ListN.{length}
-use Rattle.tracks.proofs.Written.{field-none, field-some}
+use Rattle.tracks.proofs.Records.Bytes.{field-none, field-some}
 use Rattle.kernel.proofs.Words.{length-bytes}
 use Rattle.tracks.proofs.write.field_length.Statement.{statement}
 use Rattle.tracks.proofs.write.field_length.Tie as tie

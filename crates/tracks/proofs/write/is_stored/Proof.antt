@@ -5,7 +5,7 @@ use denote.Ref.{now}
 use lib.ListN.{List·getD-eq-default}
 use Rattle.tracks.specs.Write.{nonzero}
 use Rattle.tracks.specs.Calls.{patterns}
-use Rattle.tracks.proofs.Values.{length-patterns}
+use Rattle.tracks.proofs.Numbers.Values.{length-patterns}
 use borrow.Author.Needs.{needs}
 use Rattle.tracks.proofs.write.is_stored.Statement.{statement}
 use Rattle.tracks.proofs.write.is_stored.Tie as tie

@@ -13,7 +13,7 @@ use lib.Pow.{pow-mono}
 use Rattle.kernel.proofs.Loops.{at-end}
 use Rattle.tracks.specs.Write.{nonzero, packed, mapByte}
 use Rattle.tracks.specs.Calls.{patterns}
-use Rattle.tracks.proofs.Written.{packed-more, packed-lt}
+use Rattle.tracks.proofs.Numbers.Bits.{packed-more, packed-lt}
 use Rattle.tracks.proofs.write.map_byte.Statement.{statement}
 use Rattle.tracks.proofs.write.map_byte.Tie as tie
 

@@ -9,8 +9,8 @@ use lib.ListN.{length, take, length-append, getD}
 use lib.Seq.{take-all}
 use Rattle.tracks.specs.Write.{fieldBytes, storedBytes}
 use Rattle.tracks.specs.Calls.{patterns}
-use Rattle.tracks.proofs.Written.{stored-more}
-use Rattle.tracks.proofs.Values.{length-patterns}
+use Rattle.tracks.proofs.Records.Bytes.{stored-more}
+use Rattle.tracks.proofs.Numbers.Values.{length-patterns}
 use Rattle.tracks.proofs.write.stored_length.Statement.{statement}
 use Rattle.tracks.proofs.write.stored_length.Tie as tie
 

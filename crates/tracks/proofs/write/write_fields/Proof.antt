@@ -8,9 +8,9 @@ use lib.ListN.{length, take}
 use lib.Seq.{take-all}
 use Rattle.tracks.specs.Write.{fieldBytes, storedBytes}
 use Rattle.tracks.specs.Calls.{patterns}
-use Rattle.tracks.proofs.Laid.{Laying, laid-none, laid-room, laid-more, laying-all}
-use Rattle.tracks.proofs.Written.{stored-more, stored-part}
-use Rattle.tracks.proofs.Values.{length-patterns}
+use Rattle.tracks.proofs.Slices.Laid.{Laying, laid-none, laid-room, laid-more, laying-all}
+use Rattle.tracks.proofs.Records.Bytes.{stored-more, stored-part}
+use Rattle.tracks.proofs.Numbers.Values.{length-patterns}
 use Rattle.tracks.proofs.write.write_fields.Statement.{statement}
 use Rattle.tracks.proofs.write.write_fields.Tie as tie
 

@@ -1,6 +1,6 @@
 -- `write_list` meets its contract: the questions, the two bytes of count and dimension, and the tracks.
 use mathlib.Core.Path.{_≡_, sym, ap, _∙_}
-use Prim.Native.Nat.{ℕ, _+_, _*_, _≤_}
+use Prim.Native.Nat.{ℕ, _+_, _≤_}
 use native.Mathlib.Omega.{arith}
 use mathlib.Core.List.{List, _∷_}
 use borrow.Author.Tests.{leb-true}
@@ -12,11 +12,11 @@ use Rattle.tracks.specs.Write.{listOf, recordsOf, tracksOf, written}
 use Rattle.tracks.specs.Calls.{patterns, writeAnswer, writeBytes}
 use Rattle.kernel.specs.Lists.{over}
 use Rattle.tracks.specs.declared.write.WrittenList.the-variants as WrittenList
-use Rattle.tracks.proofs.Accepted.{dimension-small}
-use Rattle.tracks.proofs.Lists.{over-two}
+use Rattle.tracks.proofs.Reading.Accepted.{dimension-small}
+use Rattle.tracks.proofs.Slices.Lists.{over-two}
 use Rattle.kernel.proofs.Lists.{length-tabulate}
-use Rattle.tracks.proofs.Written.{Listed, written-met, write-accepted, write-refused}
-use Rattle.tracks.proofs.Values.{length-patterns}
+use Rattle.tracks.proofs.Records.Bytes.{Listed, written-met, write-accepted, write-refused}
+use Rattle.tracks.proofs.Numbers.Values.{length-patterns}
 use borrow.Author.Needs.{needs}
 use Rattle.tracks.proofs.write.write_list.Statement.{statement}
 use Rattle.tracks.proofs.write.write_list.Tie as tie

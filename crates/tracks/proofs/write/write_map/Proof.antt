@@ -8,14 +8,14 @@ use denote.Ref.{now}
 use lib.ListN.{length}
 use Rattle.tracks.specs.Write.{mapByte, mapOf}
 use Rattle.kernel.specs.Lists.{tabulate, over}
-use Rattle.tracks.specs.Private.{given}
+use Rattle.tracks.specs.Private.{trackOfDoubles}
 use Rattle.kernel.proofs.Lists.{length-tabulate, tabulate-more}
-use Rattle.tracks.proofs.Laid.{Laying, laid-none, laid-set, laying-all}
+use Rattle.tracks.proofs.Slices.Laid.{Laying, laid-none, laid-set, laying-all}
 use Rattle.tracks.proofs.write.write_map.Statement.{statement}
 use Rattle.tracks.proofs.write.write_map.Tie as tie
 
 abbrev Inv-loop : tie.InvT-loop
-Inv-loop v d out₀ at n b₀ out b = Laying out₀ at (λ k. tabulate k (mapByte (given v))) n b (at + b) out
+Inv-loop v d out₀ at n b₀ out b = Laying out₀ at (λ k. tabulate k (mapByte (trackOfDoubles v))) n b (at + b) out
 
 abbrev μ-loop : tie.MeasureT-loop
 μ-loop v d out₀ at n b₀ out b = n - b
@@ -36,7 +36,7 @@ loop-again c =
     let m = c .before .before .before in
     let x = start-of m .args in
     let l = c .before .before .loop in
-    let t = given (now (x .v)) in
+    let t = trackOfDoubles (now (x .v)) in
     let more : tabulate (l .b + 1) (mapByte t) ≡ tabulate (l .b) (mapByte t) ++ (c .map-byte .result ∷ []) = rw (c .map-byte .ensures) (tabulate-more (l .b) (mapByte t)) in
     record { turns = omega arith; laid = laid-set (l .inv .laid) _ more (omega (arith, length-tabulate (l .b + 1) (mapByte t), m .map-bytes .ensures .0)) (omega arith) }
 
@@ -49,13 +49,14 @@ returns c =
     let m = c .before .before in
     let x = start-of m .args in
     let n = m .map-bytes .result in
-    let bytes = mapByte (given (now (x .v))) in
+    let bytes = mapByte (trackOfDoubles (now (x .v))) in
     let all = laying-all (c .before .loop .inv) (c .loop-test .left) in
-    let same : tabulate n bytes ≡ mapOf (x .d) (given (now (x .v))) = ap (λ (k : ℕ). tabulate k bytes) (m .map-bytes .ensures .0) in
+    let same : tabulate n bytes ≡ mapOf (x .d) (trackOfDoubles (now (x .v))) = ap (λ (k : ℕ). tabulate k bytes) (m .map-bytes .ensures .0) in
     (omega (arith, ap length same, length-tabulate n bytes), all .1 ∙ ap (over (now (x .out)) (x .at)) same)
 
 pub write-map-spec : {M : Type 1} → statement M
 write-map-spec =
     tie.close
-    (tie.spec Inv-loop μ-loop (λ c κs. c .before .before .pre .0) loop-holds (λ c κs. omega (arith, c .before .before .map-bytes .ensures .1)) (λ c. omega (arith, c .before .before .before .map-bytes .ensures .0)) slice-write-out (λ c. omega arith) (λ c. omega arith)
-    loop-again (λ c. omega (arith, c .before .before .map-bytes .ensures .0)) same-length returns)
+    (tie.spec Inv-loop μ-loop (λ c κs. c .before .before .pre .0) loop-holds (λ c κs. omega (arith, c .before .before .map-bytes .ensures .1))
+    (λ c. omega (arith, c .before .before .before .map-bytes .ensures .0)) slice-write-out (λ c. omega arith) (λ c. omega arith) loop-again
+    (λ c. omega (arith, c .before .before .map-bytes .ensures .0)) same-length returns)

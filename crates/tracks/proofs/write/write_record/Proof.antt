@@ -1,14 +1,13 @@
 -- `write_record` meets its contract: the map, and then the fields.
 use mathlib.Core.Path.{refl}
-use Prim.Native.Nat.{ℕ}
 use native.Mathlib.Omega.{arith}
 use denote.Ref.{now}
 use lib.ListN.{length-append}
 use Rattle.tracks.specs.Write.{mapOf, storedBytes, recordOf}
 use Rattle.tracks.specs.Read.{Track}
-use Rattle.tracks.specs.Private.{given}
-use Rattle.tracks.proofs.Laid.{Laid, laid-none, laid-room, laid-more, laid-all}
-use Rattle.tracks.proofs.Written.{record-length}
+use Rattle.tracks.specs.Private.{trackOfDoubles}
+use Rattle.tracks.proofs.Slices.Laid.{Laid, laid-none, laid-room, laid-more, laid-all}
+use Rattle.tracks.proofs.Records.Bytes.{record-length}
 use borrow.Author.Needs.{needs}
 use Rattle.tracks.proofs.write.write_record.Statement.{statement}
 use Rattle.tracks.proofs.write.write_record.Tie as tie
@@ -18,7 +17,7 @@ abbrev start-of : tie.After-write-map → tie.Start
 start-of c = c .before .before .before .before
 
 abbrev track-of : tie.After-write-map → Track
-track-of c = given (now (start-of c .args .v))
+track-of c = trackOfDoubles (now (start-of c .args .v))
 
 -- the map is written
 mapped : (c : tie.After-write-map) → let x = start-of c .args in Laid (now (x .out)) (x .at) (mapOf (x .d) (track-of c)) (c .write-map .result) (c .write-map .last .1 .1 .0)
@@ -29,7 +28,7 @@ mapped c =
     laid-more laid-none (mapOf d t) refl (omega (arith, start-of c .pre .1, length-append (mapOf d t) (storedBytes (t .values)))) (c .write-map .ensures .0) (c .write-map .ensures .1)
 
 write-map-requires : tie.Need-write-map-requires
-write-map-requires c κs = let s = c .before .before .before in (s .pre .0, omega (arith, s .pre .1, record-length (s .args .d) (given (now (s .args .v)))))
+write-map-requires c κs = let s = c .before .before .before in (s .pre .0, omega (arith, s .pre .1, record-length (s .args .d) (trackOfDoubles (now (s .args .v)))))
 
 write-fields-requires : tie.Need-write-fields-requires
 unfolding recordOf

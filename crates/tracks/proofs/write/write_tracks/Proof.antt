@@ -12,12 +12,12 @@ use Rattle.tracks.specs.Read.{trackOf}
 use Rattle.tracks.specs.Write.{recordOf, recordsOf, tracksOf}
 use Rattle.kernel.specs.Lists.{tabulate}
 use Rattle.tracks.specs.Calls.{patterns}
-use Rattle.tracks.specs.Private.{given}
-use Rattle.tracks.proofs.Laid.{Laying, laid-none, laid-room, laid-more, laying-all}
+use Rattle.tracks.specs.Private.{trackOfDoubles}
+use Rattle.tracks.proofs.Slices.Laid.{Laying, laid-none, laid-room, laid-more, laying-all}
 use Rattle.kernel.proofs.Lists.{row-within}
-use Rattle.tracks.proofs.Lists.{row-next}
-use Rattle.tracks.proofs.Written.{records-more, records-part}
-use Rattle.tracks.proofs.Values.{patterns-part}
+use Rattle.tracks.proofs.Slices.Lists.{row-next}
+use Rattle.tracks.proofs.Records.Bytes.{records-more, records-part}
+use Rattle.tracks.proofs.Numbers.Values.{patterns-part}
 use Rattle.tracks.proofs.write.write_tracks.Statement.{statement}
 use Rattle.tracks.proofs.write.write_tracks.Tie as tie
 
@@ -52,7 +52,7 @@ part : (c : tie.In-loop Inv-loop μ-loop) → List Float
 part c = let x = start-of c .args in let i = c .before .loop .i in take (i + sized c .fields .result - i) (drop i (now (x .v)))
 
 next : (c : tie.In-loop Inv-loop μ-loop) → let d = start-of c .args .d in let j = c .before .loop .counter in
-    recordsOf d (tracksOf (j + 1) (fields d) (bits-of c)) ≡ recordsOf d (tracksOf j (fields d) (bits-of c)) ++ recordOf d (given (part c))
+    recordsOf d (tracksOf (j + 1) (fields d) (bits-of c)) ≡ recordsOf d (tracksOf j (fields d) (bits-of c)) ++ recordOf d (trackOfDoubles (part c))
 unfolding part
 next c =
     let x = start-of c .args in
@@ -78,8 +78,10 @@ unfolding part
 loop-again c =
     let t = c .before .before .before .before .before in
     let l = t .before .loop in
-    let w = c .before .before .write-record .ensures in
-    (omega (arith, row-next (fields (start-of t .args .d)) (l .counter), sized t .fields .ensures .0), record { turns = omega arith; laid = laid-more (l .inv .1 .laid) _ (next t) (fits t) (w .0) (w .1) })
+    let w = c .before .before .write-record .ensures in (
+      omega (arith, row-next (fields (start-of t .args .d)) (l .counter), sized t .fields .ensures .0),
+      record { turns = omega arith; laid = laid-more (l .inv .1 .laid) _ (next t) (fits t) (w .0) (w .1) },
+    )
 
 same-length : tie.Need-same-length Inv-loop μ-loop
 same-length c = c .before .loop .inv .1 .laid .size
@@ -90,5 +92,5 @@ returns c = laying-all (c .before .loop .inv .1) (c .loop-test .left)
 pub write-tracks-spec : {M : Type 1} → statement M
 write-tracks-spec =
     tie.close
-    (tie.spec Inv-loop μ-loop (λ c κs. c .before .before .pre .small) loop-holds (λ c. omega (arith, inside c)) (λ c. omega (arith, inside c)) (λ c. omega (arith, inside c)) (λ c. omega (arith, inside c))
-    (λ c. omega (arith, inside c)) write-record-requires (λ c. omega arith) (λ c. omega arith) loop-again same-length returns)
+    (tie.spec Inv-loop μ-loop (λ c κs. c .before .before .pre .small) loop-holds (λ c. omega (arith, inside c)) (λ c. omega (arith, inside c))
+    (λ c. omega (arith, inside c)) (λ c. omega (arith, inside c)) (λ c. omega (arith, inside c)) write-record-requires (λ c. omega arith) (λ c. omega arith) loop-again same-length returns)

@@ -4,7 +4,7 @@ use native.Mathlib.Omega.{arith}
 use denote.Ref.{now}
 use lib.ListN.{length-set}
 use Rattle.kernel.specs.Lists.{over}
-use Rattle.tracks.proofs.Written.{stores}
+use Rattle.tracks.proofs.Records.Bytes.{stores}
 use Rattle.kernel.proofs.Words.{bytes-8}
 use borrow.Author.Needs.{needs}
 use Rattle.tracks.proofs.write.write_word.Statement.{statement}

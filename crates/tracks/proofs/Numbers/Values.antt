@@ -9,19 +9,23 @@ use mathlib.Core.List.{List, [], _∷_, _++_, flatMap}
 use lib.Dec.{T}
 use lib.ListN.{length, getD, take, drop, length-map, List·getD-map}
 use lib.Seq.{take-add, take-all, take-at, drop-at, drop-drop, ext-getD, getD-drop}
-use lib.Ieee.{Float, nan, inf, fin, binary64, ne, isNan, ofBits, toBits}
+use lib.Ieee.{Float, nan, inf, fin, binary64, fits, ne, isNan, ofBits, toBits}
 use lib.Ieee.Compare.{differs-from-itself}
 use lib.Ieee.Bits.{ofBits-toBits, toBits-ofBits, toBits-lt, nanBits-is}
 use Rattle.tracks.specs.Layout.{finiteBits}
 use Rattle.tracks.specs.Read.{Track, trackOf}
 use Rattle.tracks.specs.Write.{allFinite, tracksOf}
 use Rattle.kernel.specs.Lists.{tabulate}
-use Rattle.tracks.specs.Calls.{doubles, patterns, Doubles, joined}
-use Rattle.tracks.proofs.Accepted.{finite-no-nan}
-use Rattle.tracks.proofs.Lists.{joined-more, getD-any, map-take, map-drop}
+use Rattle.tracks.specs.Calls.{doubles, patterns, joined}
+use Rattle.tracks.proofs.Reading.Accepted.{finite-no-nan}
+use Rattle.tracks.proofs.Slices.Lists.{joined-more, getD-any, map-take, map-drop}
 use Rattle.kernel.proofs.Lists.{length-tabulate, getD-tabulate}
 
 -- ---- values and their bits
+
+-- values that are doubles
+abbrev pub Doubles : List Float → Type 0
+Doubles v = (i : ℕ) → T (fits binary64 (getD v i nan))
 
 -- numbers that are patterns of 64 bits
 abbrev pub Words : List ℕ → Type 0

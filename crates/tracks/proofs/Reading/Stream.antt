@@ -11,8 +11,8 @@ use lib.Seq.{take-add, drop-drop, drop-at, drop-cons, take-suc, take-length}
 use Rattle.kernel.specs.Answer.{Outcome, answered}
 use Rattle.tracks.specs.Layout.{part}
 use Rattle.tracks.specs.Read.{Item, items}
-use Rattle.tracks.proofs.Items.{items-more, items-ind}
-use Rattle.tracks.proofs.Lists.{flatMap-append, flatMap-more}
+use Rattle.tracks.proofs.Reading.Items.{items-more, items-ind}
+use Rattle.tracks.proofs.Slices.Lists.{flatMap-append, flatMap-more}
 
 -- two parts, one where the other ends
 pub part-join : (l : List ℕ) (a b c : ℕ) → a ≤ b → b ≤ c → part l a b ++ part l b c ≡ part l a c

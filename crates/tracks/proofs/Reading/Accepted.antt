@@ -19,7 +19,7 @@ use Rattle.tracks.specs.Private.{ends, Within}
 use Rattle.tracks.specs.declared.read.ReadList.{ReadList}
 use Rattle.tracks.specs.declared.read.ReadList.the-variants as ReadList
 use Rattle.tracks.specs.declared.read.Checked.the-variants.{End, Refused}
-use Rattle.tracks.proofs.Items.{ended, stopped, made-met, items-ind, items-length}
+use Rattle.tracks.proofs.Reading.Items.{ended, stopped, made-met, items-ind, items-length}
 use Rattle.kernel.proofs.Answers.{answered-inj, ask-met, and-then-met}
 
 -- a stored field: it is all there, finite, and not all zero bits

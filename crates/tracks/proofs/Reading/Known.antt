@@ -14,7 +14,7 @@ use Rattle.tracks.specs.Calls.{readAnswer}
 use Rattle.tracks.specs.declared.read.ReadList.{ReadList}
 use Rattle.tracks.specs.declared.read.ReadList.the-variants as ReadList
 use Rattle.kernel.proofs.Answers.{ask-met, and-then-met}
-use Rattle.tracks.proofs.Accepted.{Whole, contents-met, dimension-small}
+use Rattle.tracks.proofs.Reading.Accepted.{Whole, contents-met, dimension-small}
 
 -- a list is accepted exactly if its answer is its count and dimension
 pub read-accepted : {n d : ℕ} (o : Outcome TrackList) → readAnswer o ≡ ReadList.Read n d → (c : TrackList) × (o ≡ answered c) × (n ≡ length (c .tracks)) × (d ≡ c .dimension)

@@ -13,12 +13,13 @@ use Rattle.kernel.specs.Lists.{over}
 use Rattle.tracks.specs.Layout.{fields}
 use Rattle.tracks.specs.Read.{TrackList, reading}
 use Rattle.tracks.specs.Write.{written}
-use Rattle.tracks.specs.Calls.{doubles, patterns, Doubles, joined, readAnswer, readValues, writeAnswer, writeBytes}
+use Rattle.tracks.specs.Calls.{doubles, patterns, joined, readAnswer, readValues, writeAnswer, writeBytes}
 use Rattle.tracks.specs.declared.read.ReadList.the-variants as ReadList
 use Rattle.tracks.specs.declared.write.WrittenList.the-variants as WrittenList
-use Rattle.tracks.proofs.Known.{read-accepted, reading-fits, reading-met}
-use Rattle.tracks.proofs.Written.{write-accepted}
-use Rattle.tracks.proofs.RoundTrip.{accepted-fit, joined-fit, read-then-written, written-then-read}
+use Rattle.tracks.proofs.Numbers.Values.{Doubles}
+use Rattle.tracks.proofs.Reading.Known.{read-accepted, reading-fits, reading-met}
+use Rattle.tracks.proofs.Records.Bytes.{write-accepted}
+use Rattle.tracks.proofs.RoundTrip.BothWays.{accepted-fit, joined-fit, read-then-written, written-then-read}
 
 -- ---- what stands in front of lent memory
 

@@ -13,13 +13,13 @@ use Rattle.tracks.specs.Layout.{fields, mapBits, mapBytes, stands, spare
 use Rattle.kernel.specs.Bytes.{number, bytes, word}
 use Rattle.tracks.specs.Read.{Track, itemOf, trackOf, afterMap, stored, storedIf, field, items, track}
 use Rattle.tracks.specs.Write.{nonzero, mapByte, mapOf, fieldBytes, storedBytes, recordOf, allFinite}
-use Rattle.tracks.proofs.Fields.{one-bit-each}
-use Rattle.tracks.proofs.Bits.{packed-bit, none-all}
+use Rattle.tracks.proofs.Numbers.Fields.{one-bit-each}
+use Rattle.tracks.proofs.Numbers.Bits.{packed-bit, none-all}
 use Rattle.kernel.proofs.Words.{number-bytes, length-bytes, word-inside}
 use Rattle.kernel.proofs.Lists.{length-tabulate, getD-tabulate}
-use Rattle.tracks.proofs.Written.{field-none, field-some, record-length}
-use Rattle.tracks.proofs.Values.{Words, all-at}
-use Rattle.tracks.proofs.Stream.{bytes-read}
+use Rattle.tracks.proofs.Records.Bytes.{field-none, field-some, record-length}
+use Rattle.tracks.proofs.Numbers.Values.{Words, all-at}
+use Rattle.tracks.proofs.Reading.Stream.{bytes-read}
 
 -- fields that a list can hold
 pub record Fit (f : ℕ) (v : List ℕ) : Type 0 where

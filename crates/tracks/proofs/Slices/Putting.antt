@@ -12,8 +12,8 @@ use Rattle.kernel.proofs.Answers.{answered-inj}
 use Rattle.tracks.specs.Read.{Item, items, push}
 use Rattle.tracks.specs.Calls.{doubles}
 use Rattle.tracks.specs.Private.{Puts}
-use Rattle.tracks.proofs.Items.{items-at, items-more}
-use Rattle.tracks.proofs.Laid.{Laid, laid-more, laid-all}
+use Rattle.tracks.proofs.Reading.Items.{items-at, items-more}
+use Rattle.tracks.proofs.Slices.Laid.{Laid, laid-more, laid-all}
 
 -- the first k of n items are read, and end at an offset; their fields stand in the slice from i on, and end at `to`
 pub record Putting {A : Type 0} (read : ℕ → ℕ → Outcome (Item A)) (start : ℕ) (fieldsOf : List A → List ℕ) (old : List Float) (i n k at to : ℕ) (new : List Float) : Type 0 where

@@ -21,11 +21,11 @@ use Rattle.tracks.specs.Calls.{offsetsLeft, trackOffsets}
 use Rattle.tracks.specs.Private.{ends}
 use Rattle.tracks.specs.Record.{offset, recordEnd, recordIn, recordAt, trackRecord, nextOffset, atEnd}
 use Rattle.tracks.specs.declared.read.Checked.the-variants.{End}
-use Rattle.tracks.proofs.Items.{items-back, items-more}
-use Rattle.tracks.proofs.Accepted.{Whole, contents-met, track-met}
-use Rattle.tracks.proofs.Offsets.{placing-fits}
-use Rattle.tracks.proofs.Records.{end-here, end-later}
-use Rattle.tracks.proofs.Fields.{one-bit-each, some-fields}
+use Rattle.tracks.proofs.Reading.Items.{items-back, items-more}
+use Rattle.tracks.proofs.Reading.Accepted.{Whole, contents-met, track-met}
+use Rattle.tracks.proofs.Reading.Offsets.{placing-fits}
+use Rattle.tracks.proofs.Records.Ends.{end-here, end-later}
+use Rattle.tracks.proofs.Numbers.Fields.{one-bit-each, some-fields}
 
 module _ (l : List ℕ) (c : TrackList) (ok : contents l ≡ answered c) where
   abbrev pub d : ℕ

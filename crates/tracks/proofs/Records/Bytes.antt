@@ -1,27 +1,27 @@
--- Laws of the bytes of fields, maps and records, as a loop writes them. `stored-more`, `packed-more` and `records-more` are the steps of the loops,
+-- Laws of the bytes of fields, maps and records, as a loop writes them. `stored-more` and `records-more` are the steps of the loops,
 -- `list-length` is the length of a whole list, `written-met` gives each question of a list that is written.
-use Prim.Native.Nat.{ℕ, zero, suc, _+_, _*_, _^_, _<_, _≤_}
+use Prim.Native.Nat.{ℕ, zero, suc, _+_, _*_, _<_, _≤_}
 use native.Mathlib.Omega.{arith}
-use native.Mathlib.Nat.{zero-mul, suc-mul, pow-suc}
+use native.Mathlib.Nat.{zero-mul, suc-mul}
 use native.Mathlib.Numerals.{add-one}
 use mathlib.Core.Path.{_≡_, refl, sym, ap, _∙_}
-use mathlib.Core.Bool.{Bool, true, false, cond}
+use mathlib.Core.Bool.{Bool, true, false}
 use mathlib.Core.List.{List, [], _∷_, _++_, flatMap, append-assoc}
 use borrow.Author.Tests.{eq-eqb, ne-eqb, eqb-true, eqb-false, leb-true}
 use lib.Dec.{eqb, leb}
-use lib.ListN.{length, getD, take, drop, set, length-append, take-append-drop, length-drop}
-use lib.Seq.{sets-eq, take-add, take-all, length-take-le}
+use lib.ListN.{length, getD, take, drop, set, length-append, take-append-drop}
+use lib.Seq.{sets-eq, take-add, take-all}
 use Rattle.tracks.specs.Layout.{fields, mapBits, mapBytes, countMet, dimensionMet}
 use Rattle.kernel.specs.Bytes.{bytes}
 use Rattle.tracks.specs.Read.{Track, trackOf}
-use Rattle.tracks.specs.Write.{packed, mapByte, mapOf, fieldBytes, storedBytes, recordOf, recordsOf, listOf, tracksOf, trackList, allFinite, written}
+use Rattle.tracks.specs.Write.{mapByte, mapOf, fieldBytes, storedBytes, recordOf, recordsOf, listOf, tracksOf, trackList, allFinite, written}
 use Rattle.kernel.specs.Lists.{tabulate, over}
 use Rattle.kernel.specs.Answer.{Outcome, refused, answered}
 use Rattle.tracks.specs.Calls.{writeAnswer}
 use Rattle.tracks.specs.declared.write.WrittenList.the-variants as WrittenList
 use Rattle.kernel.proofs.Answers.{answered-inj, ask-met}
 use Rattle.kernel.proofs.Words.{length-bytes}
-use Rattle.tracks.proofs.Lists.{flatMap-append, flatMap-more, flatMap-part, take-more}
+use Rattle.tracks.proofs.Slices.Lists.{flatMap-append, flatMap-more, flatMap-part, take-more}
 use Rattle.kernel.proofs.Lists.{length-tabulate, tabulate-more}
 
 -- ---- a field's bytes
@@ -75,21 +75,6 @@ stores l at a b c d e f g h le =
     let n6 : at + 6 ≡ suc (suc (suc (suc (suc (suc at))))) = omega arith in
     let n7 : at + 7 ≡ suc (suc (suc (suc (suc (suc (suc at)))))) = omega arith in
     rw (n1, n2, n3, n4, n5, n6, n7) (sets-eq (a ∷ b ∷ c ∷ d ∷ e ∷ f ∷ g ∷ h ∷ []) l at le ∙ append-assoc (take at l) (a ∷ b ∷ c ∷ d ∷ e ∷ f ∷ g ∷ h ∷ []) (drop (at + 8) l))
-
--- ---- a map's bits
-
-pub packed-more : (test : ℕ → Bool) (i : ℕ) {b : Bool} → test i ≡ b → packed test (i + 1) ≡ packed test i + cond b (2 ^ i) 0
-unfolding packed
-packed-more test i e = rw (add-one, e) refl
-
-pub packed-lt : (test : ℕ → Bool) (n : ℕ) → packed test n < 2 ^ n
-unfolding packed
-packed-lt test zero = omega arith
-packed-lt test (suc n) = omega (arith, packed-lt test n, pow-suc 2 n, small (test n))
-  where
-    small : (b : Bool) → cond b (2 ^ n) 0 ≤ 2 ^ n
-    small true = omega arith
-    small false = omega arith
 
 -- ---- the records of tracks
 

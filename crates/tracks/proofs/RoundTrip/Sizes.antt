@@ -15,12 +15,13 @@ use Rattle.kernel.proofs.Words.{length-bytes}
 use Rattle.tracks.specs.Layout.{fields, mapBits, mapBytes, countMet, dimensionMet}
 use Rattle.tracks.specs.Read.{Track, TrackList, trackOf, contents}
 use Rattle.tracks.specs.Write.{nonzero, mapByte, mapOf, fieldBytes, storedBytes, recordOf, recordsOf, listOf, allFinite, tracksOf, trackList}
-use Rattle.tracks.proofs.Fields.{one-bit-each, most-fields}
-use Rattle.tracks.proofs.Accepted.{contents-met, dimension-small}
-use Rattle.tracks.proofs.Lists.{getD-more, flatMap-more}
-use Rattle.tracks.proofs.Written.{packed-lt, field-some, record-length, stored-size, list-length}
-use Rattle.tracks.proofs.Values.{Words, all-more}
-use Rattle.tracks.proofs.RoundTrip.{Fits, accepted-fit, accepted-records, list-accepted, cut-fit}
+use Rattle.tracks.proofs.Numbers.Bits.{packed-lt}
+use Rattle.tracks.proofs.Numbers.Fields.{one-bit-each, most-fields}
+use Rattle.tracks.proofs.Reading.Accepted.{contents-met, dimension-small}
+use Rattle.tracks.proofs.Slices.Lists.{getD-more, flatMap-more}
+use Rattle.tracks.proofs.Records.Bytes.{field-some, record-length, stored-size, list-length}
+use Rattle.tracks.proofs.Numbers.Values.{Words, all-more}
+use Rattle.tracks.proofs.RoundTrip.BothWays.{Fits, accepted-fit, accepted-records, list-accepted, cut-fit}
 
 -- a record of at most 54 fields has at most 7 + 8 * 54 bytes
 records-size : (d : ℕ) (ts : List Track) → fields d ≤ 54 → Fits (fields d) ts → length (recordsOf d ts) ≤ 439 * length ts

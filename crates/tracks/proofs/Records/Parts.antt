@@ -4,7 +4,7 @@ use Prim.Native.Nat.{ℕ, zero, suc, _+_, _-_, _<_, _≤_}
 use native.Mathlib.Omega.{arith}
 use mathlib.Core.Path.{_≡_, refl, sym, ap, _∙_, subst}
 use mathlib.Core.Bool.{true}
-use mathlib.Core.List.{List, [], _∷_, _++_, flatMap, append-nil}
+use mathlib.Core.List.{List, [], _++_, flatMap, append-nil}
 use lib.ListN.{length, getD, take, drop}
 use lib.Dec.{eqb}
 use lib.Seq.{take-suc, take-length}
@@ -15,16 +15,17 @@ use Rattle.tracks.specs.Read.{Item, Track, TrackList, trackOf, track, tr
 use Rattle.tracks.specs.Write.{recordOf, recordsOf}
 use Rattle.kernel.specs.Lists.{tabulate}
 use Rattle.tracks.specs.Record.{offset, recordEnd, recordIn, recordAt, atEnd, sameBytes}
-use Rattle.tracks.proofs.Items.{items-get}
+use Rattle.tracks.proofs.Reading.Items.{items-get}
 use Rattle.kernel.proofs.Answers.{answered-inj}
-use Rattle.tracks.proofs.Accepted.{contents-met}
-use Rattle.tracks.proofs.Lists.{flatMap-more}
-use Rattle.tracks.proofs.Walk.{whole, offset-is, step, later, ends-at, reader-start, record-part}
-use Rattle.tracks.proofs.Records.{end-later, same-refl, same-equal}
-use Rattle.tracks.proofs.TrackRead.{track-read}
-use Rattle.tracks.proofs.Track.{Fit, track-of}
-use Rattle.tracks.proofs.RoundTrip.{accepted-fit, accepted-records}
-use Rattle.tracks.proofs.Fields.{some-fields}
+use Rattle.tracks.proofs.Reading.Accepted.{contents-met}
+use Rattle.tracks.proofs.Slices.Lists.{flatMap-more}
+use Rattle.tracks.proofs.Records.Walk.{whole, offset-is, step, later, ends-at, reader-start, record-part}
+use Rattle.tracks.proofs.Records.Ends.{end-later}
+use Rattle.tracks.proofs.Records.Same.{same-refl, same-equal}
+use Rattle.tracks.proofs.RoundTrip.TracksRead.{track-read}
+use Rattle.tracks.proofs.RoundTrip.RecordsRead.{Fit, track-of}
+use Rattle.tracks.proofs.RoundTrip.BothWays.{accepted-fit, accepted-records}
+use Rattle.tracks.proofs.Numbers.Fields.{some-fields}
 
 -- ---- records and fields
 

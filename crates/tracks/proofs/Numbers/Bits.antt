@@ -13,7 +13,21 @@ use borrow.Author.Tests.{eqb-true, eqb-false, eq-eqb}
 use lib.Dec.{eqb}
 use Rattle.tracks.specs.Layout.{none}
 use Rattle.tracks.specs.Write.{packed}
-use Rattle.tracks.proofs.Written.{packed-lt}
+
+-- ---- bits that are packed one by one
+
+pub packed-more : (test : ℕ → Bool) (i : ℕ) {b : Bool} → test i ≡ b → packed test (i + 1) ≡ packed test i + cond b (2 ^ i) 0
+unfolding packed
+packed-more test i e = rw (add-one, e) refl
+
+pub packed-lt : (test : ℕ → Bool) (n : ℕ) → packed test n < 2 ^ n
+unfolding packed
+packed-lt test zero = omega arith
+packed-lt test (suc n) = omega (arith, packed-lt test n, pow-suc 2 n, small (test n))
+  where
+    small : (b : Bool) → cond b (2 ^ n) 0 ≤ 2 ^ n
+    small true = omega arith
+    small false = omega arith
 
 -- ---- bits
 

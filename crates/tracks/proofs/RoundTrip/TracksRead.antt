@@ -17,16 +17,16 @@ use Rattle.tracks.specs.Layout.{part, fields, mapBits, mapBytes, stands,
 use Rattle.kernel.specs.Bytes.{Bytes, bytes, word}
 use Rattle.tracks.specs.Read.{Item, Track, itemOf, afterMap, field, items, track, push}
 use Rattle.tracks.specs.Write.{nonzero, mapByte, mapOf, fieldBytes, storedBytes, recordOf, allFinite}
-use Rattle.tracks.proofs.Items.{items-ind}
-use Rattle.tracks.proofs.Accepted.{Stored, field-met, track-met}
-use Rattle.tracks.proofs.Fields.{one-bit-each}
-use Rattle.tracks.proofs.Bits.{byte-packed, packed-same, none-each}
+use Rattle.tracks.proofs.Reading.Items.{items-ind}
+use Rattle.tracks.proofs.Reading.Accepted.{Stored, field-met, track-met}
+use Rattle.tracks.proofs.Numbers.Fields.{one-bit-each}
+use Rattle.tracks.proofs.Numbers.Bits.{byte-packed, packed-same, none-each}
 use Rattle.kernel.proofs.Words.{word-lt, word-bytes}
-use Rattle.tracks.proofs.Lists.{getD-more}
+use Rattle.tracks.proofs.Slices.Lists.{getD-more}
 use Rattle.kernel.proofs.Lists.{length-tabulate, getD-tabulate}
-use Rattle.tracks.proofs.Written.{field-none, field-some}
-use Rattle.tracks.proofs.Values.{Words, all-more}
-use Rattle.tracks.proofs.Stream.{Part, parts-join, read-bytes}
+use Rattle.tracks.proofs.Records.Bytes.{field-none, field-some}
+use Rattle.tracks.proofs.Numbers.Values.{Words, all-more}
+use Rattle.tracks.proofs.Reading.Stream.{Part, parts-join, read-bytes}
 
 -- ---- its fields
 

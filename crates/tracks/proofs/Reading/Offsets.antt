@@ -14,8 +14,8 @@ use Rattle.tracks.specs.Read.{TrackList, contents}
 use Rattle.tracks.specs.Record.{offset, placing}
 use Rattle.tracks.specs.Calls.{readingPlaced}
 use Rattle.tracks.specs.Private.{Offsets}
-use Rattle.tracks.proofs.Accepted.{contents-met}
-use Rattle.tracks.proofs.Known.{Known}
+use Rattle.tracks.proofs.Reading.Accepted.{contents-met}
+use Rattle.tracks.proofs.Reading.Known.{Known}
 
 -- question 2 after the others
 pub placing-fits : (l : List ℕ) (room : ℕ) {c : TrackList} → contents l ≡ answered c → length (c .tracks) + 1 ≤ room → placing l room ≡ answered c
