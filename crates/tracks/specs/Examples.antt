@@ -6,7 +6,7 @@ use Rattle.kernel.specs.Answer.{refused, answered}
 use Rattle.tracks.specs.Layout.{part, fields, mapBits, stands, none, spare}
 use Rattle.kernel.specs.Bytes.{number, bytes, word}
 use Rattle.tracks.specs.Read.{trackOf, items, stored, field, track, tracks, contents}
-use Rattle.tracks.specs.Record.{recordEnd, recordAt}
+use Rattle.tracks.specs.Record.{recordEnd, recordAt, trackRecord}
 use Rattle.tracks.specs.Write.{packed, mapByte, mapOf, fieldBytes, storedBytes, recordOf, recordsOf, listOf, allFinite, tracksOf, written}
 use Rattle.kernel.specs.Lists.{tabulate}
 
@@ -35,6 +35,10 @@ example-j = refl
 pub one-track-part : recordAt oneTrack 2 ≡ part oneTrack 2 11
 unfolding fields mapBits stands number word none spare items stored field track tracks contents recordEnd recordAt
 one-track-part = refl
+
+pub one-track-by-offsets : trackRecord oneTrack (2 ∷ 11 ∷ []) 0 ≡ part oneTrack 2 11
+unfolding trackRecord
+one-track-by-offsets = refl
 
 pub no-part-inside : recordAt oneTrack 3 ≡ []
 unfolding fields mapBits stands number word none spare items stored field track tracks contents recordEnd recordAt

@@ -54,8 +54,8 @@ fn check_field(list: &[u8], map: usize, k: usize, at: usize) -> Checked
     Checked::End(at)
 }
 
-// The questions of the f fields, from an offset on, of the track whose map is at another. It stops at the first that is refused: with a loop
-// that carries the refusal along, as that over tracks does, reading the largest list took 40 % longer.
+// The questions of the f fields, from a start on, of the track whose map is at an offset. It stops at the first that is
+// refused: with a loop that carries the refusal along, as that over tracks does, reading the largest list took 40 % longer.
 fn check_fields(list: &[u8], f: usize, map: usize, start: usize) -> Checked
     requires { ⌜ FieldsChecked (now list) f map start ⌝ }
     ensures { λ r. ⌜ r ≡ ends (items (field (now (list .entry)) map) start f) ⌝ }

@@ -1,6 +1,6 @@
 -- The records of an accepted list, one after the other. `record-part`: at a track's offset the part is the track's record, up to the next offset. `offset-rises`,
 -- `offset-within` and `offset-last`: each record has bytes, within the list, and the last one ends where the list ends. `offsets-stored`: what `track_offsets` leaves;
--- `track-record`: so `track_record` hands out each track's record.
+-- `track-record` and `records-by-offsets`: so `track_record` hands out each track's record.
 -- `reader-start` and `reader-next`: a reader goes through them.
 use Prim.Native.Nat.{ℕ, zero, suc, _+_, _-_, _<_, _≤_}
 use native.Mathlib.Omega.{arith}
@@ -115,10 +115,14 @@ module _ (l : List ℕ) (c : TrackList) (ok : contents l ≡ answered c) where
   pub offset-within : (j : ℕ) → j < n → offset l (suc j) ≤ length l
   offset-within j lt = let s = step j lt in omega (arith, track-met l d (offset l j) (s .here) (s .read) .within, s .next)
 
-  -- What `track_record` hands out is the record of track j, where the numbers are the offsets of the tracks.
+  -- What `track_record` hands out is the record of track j, where its number and the next are the offsets of the tracks, as `track_offsets` leaves them.
   pub track-record : (offsets : List ℕ) (j : ℕ) → j < n → getD offsets j 0 ≡ offset l j → getD offsets (j + 1) 0 ≡ offset l (suc j) → trackRecord l offsets j ≡ recordAt l (offset l j)
   unfolding trackRecord
   track-record offsets j lt from to = rw (le-leb (getD offsets (j + 1) 0) (length l) (omega (arith, to, offset-within j lt)), from, to) (sym (record-part j lt))
+
+  pub records-by-offsets : (old : List ℕ) → n + 1 ≤ length old → (j : ℕ) → j < n → trackRecord l (trackOffsets l old .1) j ≡ recordAt l (offset l j)
+  records-by-offsets old room j lt =
+      track-record (trackOffsets l old .1) j lt (offsets-stored old room j (omega arith)) (offsets-stored old room (j + 1) (omega arith) ∙ ap (offset l) (add-one j))
 
   -- A reader starts at the first record, goes from each record to the next, and is at its end after the last.
   part-length : (j : ℕ) → j < n → length (recordAt l (offset l j)) ≡ offset l (suc j) - offset l j

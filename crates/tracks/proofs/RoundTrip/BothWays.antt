@@ -26,7 +26,8 @@ use Rattle.tracks.proofs.Reading.Stream.{Part, read-bytes, bytes-read}
 use Rattle.tracks.proofs.RoundTrip.TracksRead.{track-read}
 use Rattle.tracks.proofs.RoundTrip.RecordsRead.{Fit, track-of}
 use Rattle.tracks.proofs.Records.Bytes.{written-met}
-use Rattle.tracks.proofs.Numbers.Values.{Doubles, Words, patterns-doubles, doubles-patterns, patterns-words, all-append, all-take, all-drop, words-append, words-take, words-drop, joined-tracks, tracks-joined}
+use Rattle.tracks.proofs.Numbers.Values.{Doubles, Words, patterns-doubles, doubles-patterns, patterns-words, joined-tracks, tracks-joined}
+use Rattle.tracks.proofs.Numbers.Values.{all-append, all-take, all-drop, words-append, words-take, words-drop}
 
 -- ---- tracks that a list can hold
 
