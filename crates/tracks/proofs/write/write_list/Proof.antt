@@ -55,9 +55,14 @@ shape c =
 room : (c : tie.After-known-told) → let s = start-of c in 2 + length (records-of s) ≤ length (now (s .args .out))
 room c = omega (arith, listed c .fits, ap length (shape c))
 
--- what is stored is the list, in front of what the buffer held
-stored : (c : tie.After-known-told) → let x = start-of c .args in over (set (set (now (x .out)) 0 (x .n)) 1 (x .d)) 2 (records-of (start-of c)) ≡ over (now (x .out)) 0 (accepted c .0)
-stored c = let x = start-of c .args in over-two (now (x .out)) (x .n) (x .d) (records-of (start-of c)) (omega (arith, room c)) ∙ ap (over (now (x .out)) 0) (sym (shape c))
+-- the two bytes and the records are the list, in front of what the buffer held
+left : (c : tie.After-known-told) {new : List ℕ} → let s = start-of c in let x = s .args in
+    new ≡ over (set (set (now (x .out)) 0 (x .n)) 1 (x .d)) 2 (records-of s) → new ≡ writeBytes (given s) (now (x .out))
+left c e =
+    let s = start-of c in
+    let x = s .args in
+    e ∙ over-two (now (x .out)) (x .n) (x .d) (records-of s) (omega (arith, room c)) ∙ ap (over (now (x .out)) 0) (sym (shape c))
+    ∙ sym (ap (λ (o : Outcome (List ℕ)). writeBytes o (now (x .out))) (accepted c .1))
 
 cast-out : tie.Need-cast-out
 cast-out c = omega (arith, small c)
@@ -87,10 +92,8 @@ same-length c = c .before .before .write-tracks .kept .1 .1 .1 .0 ∙ simp lengt
 returns : tie.Need-returns
 returns c =
     let t = c .before .before .before .before in
-    let a = accepted t in (
-      ap WrittenList.Length (a .2) ∙ sym (ap writeAnswer (a .1)),
-      c .before .before .write-tracks .ensures .1 ∙ stored t ∙ sym (ap (λ (o : Outcome (List ℕ)). writeBytes o (now (start-of t .args .out))) (a .1)),
-    )
+    let a = accepted t in
+    (ap WrittenList.Length (a .2) ∙ sym (ap writeAnswer (a .1)), left t (c .before .before .write-tracks .ensures .1))
 
 returns-2 : tie.Need-returns-2
 returns-2 c =
