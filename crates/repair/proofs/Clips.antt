@@ -1,4 +1,4 @@
--- Laws of the report, one eigenvalue more: `count-more` (and `count-within`), `clip-more`, `mask-more`.
+-- Laws of the report, one eigenvalue more: `count-more` (by one at most, `one-at-most`), `clip-more`, `mask-more`.
 use Prim.Native.Nat.{ℕ, _+_, _<_, _≤_}
 use native.Mathlib.Omega.{arith}
 use native.Mathlib.Numerals.{add-one}

@@ -18,7 +18,7 @@ use Rattle.dense.proofs.Tests.{side-low}
 use Rattle.eigen.specs.Eigen.{Eigenpairs}
 use Rattle.eigen.proofs.Stability.{below-too}
 use Rattle.repair.specs.Repair.{clips, greaterClip, largestClip, reportOf, Repair, repairOf, nearestPsd}
-use Rattle.repair.proofs.Masks.{pairs-of, masked, order-side, spectrum, mask-tells, spectrum-finite, spectrum-descends, mask-falls}
+use Rattle.repair.proofs.Masks.{pairs-of, masked, order-side, spectrum, mask-tells, spectrum-finite, spectrum-descends, mask-false-then-true}
 
 -- the clip of x, 0.0 where it is not clipped
 abbrev pub clipOf : Float → Float → Float
@@ -82,7 +82,7 @@ module _ (cov : List Float) (floor : Float) (n : ℕ) (out : List Float) (r : Re
     where
       go : Dec (i ≡ n - 1) → masked r (n - 1) ≡ true
       go (yes s) = ap (masked r) (sym s) ∙ c
-      go (no s) = mask-falls cov floor n out r met i (n - 1) (omega (arith, s)) (omega arith) c
+      go (no s) = mask-false-then-true cov floor n out r met i (n - 1) (omega (arith, s)) (omega arith) c
 
   pub clipped-none : ((i : ℕ) → i < n → masked r i ≡ false) → r .report .«max_clip_magnitude» ≡ nought
   clipped-none h = last-tells (h (n - 1) (omega (arith, some)))

@@ -1,4 +1,4 @@
--- What the eigenpairs' answer means for a repair: `repair-refused` and `repair-done`.
+-- What the eigenpairs' answer means for a repair from question 4 on: `repair-refused` and `repair-done`.
 use Prim.Native.Nat.{ℕ, _*_}
 use native.Mathlib.Omega.{arith}
 use mathlib.Core.Bool.{true}
@@ -7,7 +7,7 @@ use mathlib.Core.Path.{_≡_, sym, ap, _∙_}
 use borrow.Author.Tests.{eq-eqb}
 use lib.Ieee.{Float}
 use lib.ListN.{length}
-use Rattle.kernel.specs.Answer.{Outcome, refused, answered}
+use Rattle.kernel.specs.Answer.{Outcome, refused, answered, through}
 use Rattle.kernel.specs.Lists.{tabulate}
 use Rattle.dense.specs.Matrix.{nth, matrix, isSide, hasLength}
 use Rattle.dense.specs.declared.Written.{Written}
@@ -15,7 +15,7 @@ use Rattle.dense.specs.declared.Written.the-variants.{Done, Refused}
 use Rattle.eigen.specs.Eigen.{Eigenpairs, eigenpairs, matSymmetricEigen, afterPairs}
 use Rattle.repair.specs.declared.RegularizationReport.{RegularizationReport}
 use Rattle.repair.specs.declared.Repaired.{Repaired}
-use Rattle.repair.specs.Repair.{raised, reportOf, rebuiltEntry, repairOf, repair, refusal, reported, afterRepair}
+use Rattle.repair.specs.Repair.{raised, reportOf, rebuiltEntry, repairOf, refusal, reported, afterRepair}
 
 long-of : (a : List Float) (n : ℕ) → length a ≡ n → hasLength a n ≡ true
 unfolding hasLength
@@ -44,12 +44,11 @@ module _ (cov : List Float) (floor : Float) (n : ℕ) (e v : List Float) where
   answered-by (answered r) p = ap (λ (z : Told). answered (record { values = z .1; vectors = z .2 })) (sym p)
 
   pub repair-refused : (out : List Float) {q : ℕ} {a : Written} {x y : List Float} {r : Repaired} → matSymmetricEigen cov n e v ≡ eigenpairs cov n → a ≡ Refused q
-      → _≡_ {A = Told} (a, x, y) (afterPairs (matSymmetricEigen cov n e v) e v) → r ≡ refusal q → (r, out) ≡ afterRepair (repair cov floor n) out
-  unfolding repair
+      → _≡_ {A = Told} (a, x, y) (afterPairs (matSymmetricEigen cov n e v) e v) → r ≡ refusal q → (r, out) ≡ afterRepair (through (repairOf floor n) (eigenpairs cov n)) out
   repair-refused out m t p f = rw (f, sym m ∙ refused-by (matSymmetricEigen cov n e v) (rw t at p))
 
   pub repair-done : (out : List Float) {a : Written} {x y z new : List Float} {t : RegularizationReport} {r : Repaired} → matSymmetricEigen cov n e v ≡ eigenpairs cov n → a ≡ Done
       → _≡_ {A = Told} (a, x, y) (afterPairs (matSymmetricEigen cov n e v) e v) → t ≡ reportOf x floor n → z ≡ tabulate n (λ k. raised floor (nth x k))
-      → new ≡ matrix n n (rebuiltEntry y z n) → r ≡ reported t → (r, new) ≡ afterRepair (repair cov floor n) out
-  unfolding repair repairOf
+      → new ≡ matrix n n (rebuiltEntry y z n) → r ≡ reported t → (r, new) ≡ afterRepair (through (repairOf floor n) (eigenpairs cov n)) out
+  unfolding repairOf
   repair-done out m t p ft fz fn fr = rw (sym m ∙ answered-by (matSymmetricEigen cov n e v) (rw t at p), fr, ft, fn, fz)

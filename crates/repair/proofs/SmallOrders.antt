@@ -1,4 +1,4 @@
--- Orders 1 and 2. `single-asked` and `single-repaired`: the call on one entry; `plane-repaired`: a repair from the numbers of a plane.
+-- Orders 1 and 2. `single-refused` and `single-repaired`: the repair of one entry; `plane-repaired`: a repair from the numbers of a plane.
 use Prim.Native.Nat.{ℕ, _+_}
 use native.Mathlib.Omega.{arith}
 use mathlib.Core.Bool.{Bool, true, false, cond, _&&_}
@@ -6,23 +6,22 @@ use mathlib.Core.List.{List, [], _∷_}
 use mathlib.Core.Path.{_≡_, refl, sym, ap, _∙_}
 use lib.Ieee.{Float}
 use lib.ListN.{length}
-use Rattle.kernel.specs.Answer.{Outcome, answered, ask, through}
+use Rattle.kernel.specs.Answer.{refused, answered, ask, through}
 use Rattle.kernel.specs.Constants.{nought, one}
 use Rattle.kernel.specs.Lists.{tabulate}
 use Rattle.kernel.specs.Number.{add, mul, finite}
-use Rattle.dense.specs.Matrix.{nth, matrix, sumFrom, isSide, hasLength, finiteEntries}
+use Rattle.dense.specs.Matrix.{nth, matrix, sumFrom, finiteEntries}
 use Rattle.eigen.specs.declared.Plane.{Plane}
 use Rattle.eigen.specs.Eigen.{Eigenpairs, eigenpairs}
 use Rattle.eigen.specs.Pair.{shownBy, planePairs}
 use Rattle.eigen.proofs.Single.{single-eigenpairs, single-list}
-use Rattle.repair.specs.Repair.{Repair, clips, clipCount, greaterClip, largestClip, raised, rebuiltEntry, reportOf, repairOf, repair, nearestPsd}
+use Rattle.repair.specs.Repair.{Repair, clips, clipCount, greaterClip, largestClip, raised, rebuiltEntry, reportOf, repairOf, repair}
 
 -- ---- one entry
 
-pub single-asked : (x : List Float) (floor : Float) (out : List Float)
-    → nearestPsd x floor 1 out ≡ ask 2 (hasLength x 1 && hasLength out 1) (ask 3 (finite (nth x 0)) (repair x floor 1))
-unfolding nearestPsd isSide finiteEntries
-single-asked x floor out = refl
+pub single-refused : (x : List Float) (floor : Float) → finite (nth x 0) ≡ false → repair x floor 1 ≡ refused 3
+unfolding repair finiteEntries
+single-refused x floor h = rw h
 
 -- the repair of one finite entry
 abbrev pub mended : List Float → Float → Repair
@@ -34,8 +33,8 @@ unfolding repairOf rebuiltEntry matrix tabulate sumFrom
 of-pairs x floor l h = rw h (ap (λ (e : List Float). answered (record { rebuilt = mended x floor .rebuilt; report = reportOf e floor 1 })) (sym (single-list x l)))
 
 pub single-repaired : (x : List Float) (floor : Float) → length x ≡ 1 → finite (nth x 0) ≡ true → repair x floor 1 ≡ answered (mended x floor)
-unfolding repair
-single-repaired x floor l h = ap (through (repairOf floor 1)) (single-eigenpairs x) ∙ of-pairs x floor l h
+unfolding repair finiteEntries
+single-repaired x floor l h = rw h (ap (through (repairOf floor 1)) (single-eigenpairs x) ∙ of-pairs x floor l h)
 
 -- ---- two rows
 
@@ -67,8 +66,8 @@ through-asked f p true = refl
 through-asked f p false = refl
 
 pub plane-repaired : (x : List Float) (floor : Float) (p : Plane) → planePairs p ≡ eigenpairs x 2
-    → repair x floor 2
+    → through (repairOf floor 2) (eigenpairs x 2)
     ≡ ask 4 (finite (p .app) && finite (p .aqq))
     (answered (record { rebuilt = rebuiltPlane p (raised floor (p .app)) (raised floor (p .aqq)); report = reportOf (p .app ∷ p .aqq ∷ []) floor 2 }))
-unfolding repair planePairs repairOf tabulate
+unfolding planePairs repairOf tabulate
 plane-repaired x floor p e = ap (through (repairOf floor 2)) (sym e) ∙ through-asked (repairOf floor 2) (shownBy p) (finite (p .app) && finite (p .aqq))

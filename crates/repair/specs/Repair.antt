@@ -9,7 +9,6 @@ use Rattle.kernel.specs.Answer.{Outcome, refused, answered, ask, through}
 use Rattle.kernel.specs.Constants.{nought}
 use Rattle.kernel.specs.Lists.{tabulate}
 use Rattle.dense.specs.Matrix.{total, sumFrom, nth, at, matrix, isSide, hasLength, finiteEntries}
-use Rattle.dense.specs.declared.Written.{Written}
 use Rattle.dense.specs.declared.Written.the-variants as written
 use Rattle.eigen.specs.Eigen.{Eigenpairs, eigenpairs}
 use Rattle.repair.specs.declared.RegularizationReport.{RegularizationReport}
@@ -69,21 +68,20 @@ repairOf floor n p =
       report = reportOf (p .values) floor n;
     }
 
--- question 4, and then the repair of cov, n by n
+-- the repair of cov, n by n: question 3, then 4, which the eigenpairs ask
 unfoldable pub repair : List Float → Float → ℕ → Outcome Repair
-unfolding repairOf eigenpairs
-repair cov floor n = through (repairOf floor n) (eigenpairs cov n)
+unfolding repairOf eigenpairs finiteEntries
+repair cov floor n = ask 3 (finiteEntries cov (n * n)) (through (repairOf floor n) (eigenpairs cov n))
 
 -- ---- the calls
 
 -- `nearest_psd`, and `eigenvalue_floor`, which is the same
 unfoldable pub nearestPsd : List Float → Float → ℕ → List Float → Outcome Repair
-unfolding repair isSide hasLength finiteEntries
+unfolding repair isSide hasLength
 nearestPsd cov floor n out =
     ask 1 (isSide n)
     (ask 2 (hasLength cov (n * n) && hasLength out (n * n))
-    (ask 3 (finiteEntries cov (n * n))
-    (repair cov floor n)))
+    (repair cov floor n))
 
 -- the report of a refusal
 unfoldable pub blank : RegularizationReport
@@ -99,11 +97,12 @@ refusal q = record { answer = written.Refused q; report = blank }
 abbrev pub reported : RegularizationReport → Repaired
 reported t = record { answer = written.Done; report = t }
 
+-- The answer by its outcome.
+abbrev pub repairAnswer : Outcome Repair → Repaired
+repairAnswer (refused q) = refusal q
+repairAnswer (answered r) = reported (r .report)
+
 -- The answer, and what the slice holds afterwards: a refusal leaves it as it was.
 abbrev pub afterRepair : Outcome Repair → List Float → Repaired × List Float
-afterRepair (refused q) old = (refusal q, old)
-afterRepair (answered r) old = (reported (r .report), r .rebuilt)
-
--- The same where no report is wanted.
-abbrev pub withoutReport : Repaired × List Float → Written × List Float
-withoutReport z = (z .0 .answer, z .1)
+afterRepair (refused q) old = (repairAnswer (refused q), old)
+afterRepair (answered r) old = (repairAnswer (answered r), r .rebuilt)

@@ -2,10 +2,12 @@
 ghost use mathlib.Core.Path.{_≡_};
 ghost use mathlib.Core.List.{[], _∷_};
 ghost use lib.ListN.{length};
+ghost use Rattle.kernel.specs.Answer.{through};
 ghost use Rattle.dense.specs.Matrix.{matrix};
+ghost use Rattle.eigen.specs.Eigen.{eigenpairs};
 ghost use Rattle.eigen.specs.Pair.{shownBy};
-ghost use Rattle.repair.specs.Room.{Mending};
-ghost use Rattle.repair.specs.Repair.{rebuiltEntry, reportOf, repair, nearestPsd, afterRepair};
+ghost use Rattle.repair.specs.Private.{Mending};
+ghost use Rattle.repair.specs.Repair.{rebuiltEntry, reportOf, repairOf, repair, afterRepair};
 use crate::RegularizationReport;
 use crate::Repaired;
 use crate::answer::done;
@@ -15,21 +17,17 @@ use crate::clip::greater_clip;
 use crate::clip::raised;
 use crate::clip::report;
 use crate::rebuild::share;
-use dense::shape::are_matrices;
 use dense::vector::is_finite;
 use eigen::Plane;
 use eigen::pair::eigenplane;
 use kernel::question::FINITE_EIGENVALUES;
 use kernel::question::FINITE_ENTRIES;
-use kernel::question::LENGTH;
 
 // The repair of one entry, which is its own eigenvalue, with the vector 1.0.
 pub(crate) fn single_repair(cov: &[f64], floor: f64, out: &mut [f64]) -> Repaired
-    ensures { λ r. ⌜ (r, now (out .exit)) ≡ afterRepair (nearestPsd (now (cov .entry)) floor 1 (now (out .entry))) (now (out .entry)) ⌝ }
+    requires { ⌜ Mending 1 (now cov) (now out) ⌝ }
+    ensures { λ r. ⌜ (r, now (out .exit)) ≡ afterRepair (repair (now (cov .entry)) floor 1) (now (out .entry)) ⌝ }
 {
-    if !are_matrices(cov, 1, 1, out, 1, 1) {
-        return refused(LENGTH);
-    }
     if !is_finite(cov[0]) {
         return refused(FINITE_ENTRIES);
     }
@@ -64,10 +62,10 @@ fn rebuild_plane(p: Plane, e: f64, f: f64, out: &mut [f64])
     out[3] = 0.0 + share(p.vqp, e, p.vqp) + share(p.vqq, f, p.vqq);
 }
 
-// Questions 1, 2 and 3 are met: question 4, and then the repair of cov, 2 by 2.
+// The repair of cov, 2 by 2, from question 4 on.
 pub(crate) fn plane_repair(cov: &[f64], floor: f64, out: &mut [f64]) -> Repaired
     requires { ⌜ Mending 2 (now cov) (now out) ⌝ }
-    ensures { λ r. ⌜ (r, now (out .exit)) ≡ afterRepair (repair (now (cov .entry)) floor 2) (now (out .entry)) ⌝ }
+    ensures { λ r. ⌜ (r, now (out .exit)) ≡ afterRepair (through (repairOf floor 2) (eigenpairs (now (cov .entry)) 2)) (now (out .entry)) ⌝ }
 {
     let p = eigenplane(cov[0], cov[1], cov[2], cov[3]);
     if !is_finite(p.app) {

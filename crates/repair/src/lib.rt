@@ -2,6 +2,7 @@
 mod answer;
 mod clip;
 mod direct;
+pub mod inside;
 mod rebuild;
 pub mod regularize;
 

@@ -4,8 +4,8 @@ use borrow.Author.Needs.{needs}
 use Rattle.dense.proofs.Tests.{side-high}
 use Rattle.eigen.specs.Eigen.{eigenpairs, matSymmetricEigen}
 use Rattle.repair.proofs.Outcomes.{pairs-asked, repair-refused, repair-done}
-use Rattle.repair.proofs.regularize.repair_in.Statement.{statement}
-use Rattle.repair.proofs.regularize.repair_in.Tie as tie
+use Rattle.repair.proofs.inside.repair_in.Statement.{statement}
+use Rattle.repair.proofs.inside.repair_in.Tie as tie
 
 -- the places on the way
 abbrev entered : tie.After-mat-symmetric-eigen → tie.Start

@@ -5,8 +5,8 @@ use mathlib.Core.Path.{sym}
 use lib.Seq.{length-take-le}
 use borrow.Author.Needs.{needs}
 use Rattle.eigen.proofs.Pairs.{small-size}
-use Rattle.repair.proofs.regularize.small_repair.Statement.{statement}
-use Rattle.repair.proofs.regularize.small_repair.Tie as tie
+use Rattle.repair.proofs.inside.small_repair.Statement.{statement}
+use Rattle.repair.proofs.inside.small_repair.Tie as tie
 
 -- the order, and its square
 order : (c : tie.Start) → c .args .n ≤ 4

@@ -1,4 +1,4 @@
--- What the functions inside the crate ask of their slices, by name. No caller of the crate reads this.
+-- What the functions for our own crates, and the private ones, ask of their slices, by name. No definition of a call needs this.
 use Prim.Native.Nat.{ℕ, _*_}
 use mathlib.Core.Bool.{true}
 use mathlib.Core.List.{List}

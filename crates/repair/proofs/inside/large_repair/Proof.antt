@@ -6,8 +6,8 @@ use lib.Seq.{length-take-le}
 use borrow.Author.Needs.{needs}
 use Rattle.dense.proofs.Tests.{side-high}
 use Rattle.dense.proofs.Matrices.{square-size}
-use Rattle.repair.proofs.regularize.large_repair.Statement.{statement}
-use Rattle.repair.proofs.regularize.large_repair.Tie as tie
+use Rattle.repair.proofs.inside.large_repair.Statement.{statement}
+use Rattle.repair.proofs.inside.large_repair.Tie as tie
 
 -- the order, and its square
 order : (c : tie.Start) → c .args .n ≤ 16

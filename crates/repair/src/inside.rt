@@ -1,0 +1,86 @@
+// A repair for a caller that knows the lengths: what the project's own crates call, and no user does.
+ghost use mathlib.Core.Path.{_≡_};
+ghost use Prim.Native.Nat.{_*_, _≤_};
+ghost use lib.ListN.{length};
+ghost use Rattle.kernel.specs.Answer.{through};
+ghost use Rattle.eigen.specs.Eigen.{eigenpairs};
+ghost use Rattle.repair.specs.Private.{Mending};
+ghost use Rattle.repair.specs.Repair.{repairOf, repair, afterRepair};
+use crate::Repaired;
+use crate::answer::done;
+use crate::answer::refused;
+use crate::clip::raise;
+use crate::clip::report;
+use crate::direct::plane_repair;
+use crate::direct::single_repair;
+use crate::rebuild::rebuild;
+use dense::Written;
+use dense::vector::are_finite;
+use eigen::generic::mat_symmetric_eigen;
+use kernel::question::FINITE_ENTRIES;
+
+// The repair of cov, n by n, from question 4 on. The slices e and v are room for the eigenvalues and the vectors.
+fn repair_in(
+    cov: &[f64],
+    floor: f64,
+    n: usize,
+    e: &mut [f64],
+    v: &mut [f64],
+    out: &mut [f64],
+) -> Repaired
+    requires { ⌜ Mending n (now cov) (now out) × (length (now e) ≡ n) × (length (now v) ≡ n * n) ⌝ }
+    ensures { λ r. ⌜ (r, now (out .exit)) ≡ afterRepair (through (repairOf floor n) (eigenpairs (now (cov .entry)) n)) (now (out .entry)) ⌝ }
+{
+    match mat_symmetric_eigen(cov, n, e, v) {
+        Written::Refused(q) => refused(q),
+        Written::Done => {
+            let told = report(e, n, floor);
+            raise(e, n, floor);
+            rebuild(v, e, n, out);
+            done(told)
+        }
+    }
+}
+
+// The same with room for orders to 4.
+fn small_repair(cov: &[f64], floor: f64, n: usize, out: &mut [f64]) -> Repaired
+    requires { ⌜ Mending n (now cov) (now out) × (n ≤ 4) ⌝ }
+    ensures { λ r. ⌜ (r, now (out .exit)) ≡ afterRepair (through (repairOf floor n) (eigenpairs (now (cov .entry)) n)) (now (out .entry)) ⌝ }
+{
+    let mut e = [0.0f64; 4];
+    let mut v = [0.0f64; 16];
+    let size = n * n;
+    repair_in(cov, floor, n, &mut e[..n], &mut v[..size], out)
+}
+
+// The same with room for orders to 16.
+fn large_repair(cov: &[f64], floor: f64, n: usize, out: &mut [f64]) -> Repaired
+    requires { ⌜ Mending n (now cov) (now out) ⌝ }
+    ensures { λ r. ⌜ (r, now (out .exit)) ≡ afterRepair (through (repairOf floor n) (eigenpairs (now (cov .entry)) n)) (now (out .entry)) ⌝ }
+{
+    let mut e = [0.0f64; 16];
+    let mut v = [0.0f64; 256];
+    let size = n * n;
+    repair_in(cov, floor, n, &mut e[..n], &mut v[..size], out)
+}
+
+// The repair of cov, n by n, into out, from question 3 on, with the room that the order needs.
+pub fn repair(cov: &[f64], floor: f64, n: usize, out: &mut [f64]) -> Repaired
+    requires { ⌜ Mending n (now cov) (now out) ⌝ }
+    ensures { λ r. ⌜ (r, now (out .exit)) ≡ afterRepair (repair (now (cov .entry)) floor n) (now (out .entry)) ⌝ }
+{
+    if n == 1 {
+        return single_repair(cov, floor, out);
+    }
+    let size = n * n;
+    if !are_finite(cov, size) {
+        return refused(FINITE_ENTRIES);
+    }
+    if n == 2 {
+        return plane_repair(cov, floor, out);
+    }
+    if n <= 4 {
+        return small_repair(cov, floor, n, out);
+    }
+    large_repair(cov, floor, n, out)
+}
