@@ -16,10 +16,10 @@ use Rattle.dense.specs.Matrix.{sumFrom, sumRowsFrom, nth, at, identity, isSide,
 use Rattle.dense.proofs.Laws.{nth-tabulate}
 use Rattle.linalg.specs.Sums.{difference, quadraticForm}
 use Rattle.pivoting.specs.Solve.{solved, distance, mahalanobis}
-use Rattle.repair.specs.Repair.{nearestPsd}
+use Rattle.repair.specs.Repair.{Repair}
 use Rattle.compare.specs.declared.Comparison.{Comparison}
-use Rattle.compare.specs.Distance.{jointCovariance, squaredDistance, placedIf, compared, floorAndGate, comparing}
-use Rattle.compare.proofs.Joint.{joint-symmetric}
+use Rattle.compare.specs.Distance.{jointRepair, squaredDistance, comparisonOf, compared, floorAndGate, comparing}
+use Rattle.compare.proofs.Joint.{repair-symmetric}
 use Rattle.compare.proofs.Opposite.{Opposite, EqualOrZero, sub-opposite, turned-product}
 use Rattle.compare.proofs.Signed.{minusZero, add-either, add-signed}
 
@@ -93,12 +93,12 @@ module _ (mu x p q : List Float) (n : ℕ) (floor gate : Float) where
   squared-turned : squaredDistance mu x p q n floor ≡ squaredDistance x mu q p n floor
   unfolding squaredDistance
   squared-turned =
-      and-then-same _ _ (λ r. mahalanobis-turned x mu n (r .rebuilt)) (nearestPsd (jointCovariance p q n) floor n (jointCovariance p q n))
-      ∙ ap (λ (s : List Float). andThen (nearestPsd s floor n s) (λ r. mahalanobis mu x (r .rebuilt) n)) (joint-symmetric p q n)
+      and-then-same _ _ (λ r. distance-turned x mu n (r .rebuilt)) (jointRepair p q n floor)
+      ∙ ap (λ (o : Outcome Repair). andThen o (λ r. distance mu x (r .rebuilt) n)) (repair-symmetric p q n floor)
 
   pub compared-turned : compared mu x p q n floor gate ≡ compared x mu q p n floor gate
   unfolding compared
-  compared-turned = ap (λ (o : Outcome Float). placedIf o gate) squared-turned
+  compared-turned = ap (λ (o : Outcome Float). comparisonOf o gate) squared-turned
 
   pub comparing-turned : comparing mu x p q n floor gate ≡ comparing x mu q p n floor gate
   unfolding comparing

@@ -10,8 +10,8 @@ use Rattle.kernel.proofs.Lists.{length-tabulate}
 use Rattle.dense.specs.Matrix.{nth, at}
 use Rattle.dense.proofs.Laws.{cell, nth-tabulate, matrix-by-entries, matrix-ext}
 use Rattle.linalg.proofs.Symmetry.{add-float-comm}
-use Rattle.repair.specs.Repair.{nearestPsd}
-use Rattle.compare.specs.Distance.{jointCovariance}
+use Rattle.repair.specs.Repair.{repair}
+use Rattle.compare.specs.Distance.{jointCovariance, jointRepair}
 
 pub joint-sums : (p q : List Float) (n : ℕ) → tabulate (n * n) (λ k. add (nth p k) (nth q k)) ≡ jointCovariance p q n
 unfolding jointCovariance
@@ -21,6 +21,6 @@ pub joint-symmetric : (p q : List Float) (n : ℕ) → jointCovariance p q n ≡
 unfolding jointCovariance
 joint-symmetric p q n = matrix-ext n n _ _ (λ i j h k. add-float-comm (at p n i j) (at q n i j))
 
-pub repair-symmetric : (p q : List Float) (n : ℕ) (floor : Float)
-    → nearestPsd (jointCovariance p q n) floor n (jointCovariance p q n) ≡ nearestPsd (jointCovariance q p n) floor n (jointCovariance q p n)
-repair-symmetric p q n floor = ap (λ (s : List Float). nearestPsd s floor n s) (joint-symmetric p q n)
+pub repair-symmetric : (p q : List Float) (n : ℕ) (floor : Float) → jointRepair p q n floor ≡ jointRepair q p n floor
+unfolding jointRepair
+repair-symmetric p q n floor = ap (λ (s : List Float). repair s floor n) (joint-symmetric p q n)

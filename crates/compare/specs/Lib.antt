@@ -1,4 +1,4 @@
 pub mod Distance
 pub mod Fields
 pub mod Examples
-pub mod Room
+pub mod Private

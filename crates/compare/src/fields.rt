@@ -9,7 +9,7 @@ ghost use Rattle.dense.specs.Answer.{Leaves};
 ghost use Rattle.dense.specs.Matrix.{hasLength};
 ghost use Rattle.tracks.specs.Layout.{fields};
 ghost use Rattle.compare.specs.Fields.{lowerField, covarianceEntry, trackCovariance, wholeCovariance};
-ghost use Rattle.compare.specs.Room.{HasFields, RowRoom, CovarianceRoom};
+ghost use Rattle.compare.specs.Private.{HasFields, RowRoom, CovarianceRoom};
 use dense::Written;
 use dense::shape::is_matrix;
 use dense::shape::is_side;

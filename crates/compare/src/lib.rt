@@ -2,24 +2,31 @@
 ghost use mathlib.Core.Path.{_≡_};
 ghost use Rattle.compare.specs.Distance.{comparing, compareAnswer};
 
-mod distance;
 pub mod fields;
-mod place;
+mod gate;
+pub mod inside;
 pub mod questions;
 
-use crate::place::place_number;
+use crate::inside::compare_tracks;
 use crate::questions::are_tracks;
 use crate::questions::is_floor_and_gate;
 use dense::shape::is_side;
 use kernel::question::FLOOR_AND_GATE;
 use kernel::question::LENGTH;
 use kernel::question::SIDE;
+use repair::Repaired;
 
-// What a comparison answers: the squared distance with its place beside the gate, or that there is none.
+// What a comparison answers: the squared distance, near or far by the gate, or that there is none.
 pub enum Comparison {
     Near(f64),
     Far(f64),
     NoDistance,
+}
+
+// A comparison with what its repair answered, for the merge.
+pub struct ComparisonReport {
+    pub comparison: Comparison,
+    pub repair: Repaired,
 }
 
 // The answer of the call.
@@ -49,10 +56,7 @@ pub fn compare(
     if !is_floor_and_gate(floor, gate) {
         return Compared::Refused(FLOOR_AND_GATE);
     }
-    if n <= 4 {
-        let d2 = distance::small(mu, x, p_i, p_j, n, floor);
-        return Compared::Answered(place_number(d2, gate));
-    }
-    let d2 = distance::large(mu, x, p_i, p_j, n, floor);
-    Compared::Answered(place_number(d2, gate))
+    let told = compare_tracks(mu, x, p_i, p_j, n, floor, gate);
+    let comparison = told.comparison;
+    Compared::Answered(comparison)
 }

@@ -39,7 +39,7 @@ fn distance_in(
 }
 
 // The same with room for orders to 4.
-fn small_distance(x: &[f64], mu: &[f64], cov: &[f64], n: usize) -> Number
+pub(crate) fn small_distance(x: &[f64], mu: &[f64], cov: &[f64], n: usize) -> Number
     requires { ⌜ Under (now x) (now mu) (now cov) n × (n ≤ 4) ⌝ }
     ensures { λ q. ⌜ q ≡ given (distance (now (x .entry)) (now (mu .entry)) (now (cov .entry)) n) ⌝ }
 {
@@ -50,7 +50,7 @@ fn small_distance(x: &[f64], mu: &[f64], cov: &[f64], n: usize) -> Number
 }
 
 // The same with room for orders to 16.
-fn large_distance(x: &[f64], mu: &[f64], cov: &[f64], n: usize) -> Number
+pub(crate) fn large_distance(x: &[f64], mu: &[f64], cov: &[f64], n: usize) -> Number
     requires { ⌜ Under (now x) (now mu) (now cov) n × (n ≤ 16) ⌝ }
     ensures { λ q. ⌜ q ≡ given (distance (now (x .entry)) (now (mu .entry)) (now (cov .entry)) n) ⌝ }
 {
@@ -58,15 +58,4 @@ fn large_distance(x: &[f64], mu: &[f64], cov: &[f64], n: usize) -> Number
     let mut inv = [0.0f64; 256];
     let size = n * n;
     distance_in(x, mu, cov, n, &mut e[..size], &mut inv[..size])
-}
-
-// The same with the room that the order needs.
-pub(crate) fn distance(x: &[f64], mu: &[f64], cov: &[f64], n: usize) -> Number
-    requires { ⌜ Under (now x) (now mu) (now cov) n × (n ≤ 16) ⌝ }
-    ensures { λ q. ⌜ q ≡ given (distance (now (x .entry)) (now (mu .entry)) (now (cov .entry)) n) ⌝ }
-{
-    if n <= 4 {
-        return small_distance(x, mu, cov, n);
-    }
-    large_distance(x, mu, cov, n)
 }

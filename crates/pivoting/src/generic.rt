@@ -5,7 +5,7 @@ ghost use Rattle.pivoting.specs.Pivot.{rowInfNorms};
 ghost use Rattle.pivoting.specs.Det.{matDet};
 ghost use Rattle.pivoting.specs.Solve.{matSolve, matInv, mahalanobis};
 use crate::det::determinant;
-use crate::distance::distance;
+use crate::inside::distance;
 use crate::invert::inverse;
 use crate::norms::row_norms;
 use crate::solve::solve;

@@ -3,6 +3,7 @@ mod choice;
 mod det;
 mod distance;
 pub mod generic;
+pub mod inside;
 mod invert;
 mod norms;
 mod reduce;

@@ -5,8 +5,8 @@ use mathlib.Core.Path.{refl}
 use Rattle.kernel.specs.Number.{add}
 use Rattle.dense.specs.Matrix.{nth}
 use Rattle.dense.proofs.Entries.{EntryByEntry, no-entry, entry-written, every-entry}
-use Rattle.compare.proofs.distance.sums.Statement.{statement}
-use Rattle.compare.proofs.distance.sums.Tie as tie
+use Rattle.compare.proofs.inside.sums.Statement.{statement}
+use Rattle.compare.proofs.inside.sums.Tie as tie
 
 abbrev Inv-loop : tie.InvT-loop
 Inv-loop p q n y₀ k₀ y k = EntryByEntry (λ i. add (nth p i) (nth q i)) n y₀ k y

@@ -1,0 +1,56 @@
+// A squared distance by the gate.
+ghost use mathlib.Core.Path.{_≡_};
+ghost use Prim.Native.Nat.{_≤_};
+ghost use Rattle.pivoting.specs.Solve.{distance, Under};
+ghost use Rattle.compare.specs.Distance.{byGate, comparisonOf};
+ghost use Rattle.compare.specs.Private.{afterWritten};
+use crate::Comparison;
+use dense::Number;
+use dense::Written;
+use dense::vector::is_finite;
+use pivoting::inside::distance;
+
+// What d2 is by the gate.
+pub(crate) fn by_gate(d2: f64, gate: f64) -> Comparison
+    ensures { λ r. ⌜ r ≡ byGate d2 gate ⌝ }
+{
+    if !is_finite(d2) {
+        return Comparison::NoDistance;
+    }
+    if d2 < 0.0 {
+        return Comparison::NoDistance;
+    }
+    if d2 <= gate {
+        return Comparison::Near(d2);
+    }
+    Comparison::Far(d2)
+}
+
+// What the squared distance of x and mu under cov, n by n, is by the gate.
+fn compared_under(mu: &[f64], x: &[f64], cov: &[f64], n: usize, gate: f64) -> Comparison
+    requires { ⌜ Under (now x) (now mu) (now cov) n × (n ≤ 16) ⌝ }
+    ensures { λ r. ⌜ r ≡ comparisonOf (distance (now (x .entry)) (now (mu .entry)) (now (cov .entry)) n) gate ⌝ }
+{
+    match distance(x, mu, cov, n) {
+        Number::Refused(_) => Comparison::NoDistance,
+        Number::Value(d2) => by_gate(d2, gate),
+    }
+}
+
+// The same where the call that wrote cov has answered; what is refused has no distance.
+pub(crate) fn compared_after(
+    answer: Written,
+    mu: &[f64],
+    x: &[f64],
+    cov: &[f64],
+    n: usize,
+    gate: f64,
+) -> Comparison
+    requires { ⌜ Under (now x) (now mu) (now cov) n × (n ≤ 16) ⌝ }
+    ensures { λ r. ⌜ r ≡ comparisonOf (afterWritten answer (distance (now (x .entry)) (now (mu .entry)) (now (cov .entry)) n)) gate ⌝ }
+{
+    match answer {
+        Written::Refused(_) => Comparison::NoDistance,
+        Written::Done => compared_under(mu, x, cov, n, gate),
+    }
+}
