@@ -4,11 +4,11 @@ ghost use Prim.Native.Nat.{_*_, _≤_};
 ghost use Rattle.eigen.specs.Eigen.{pairsOf, eigenpairs, matSymmetricEigen, afterPairs};
 ghost use Rattle.eigen.specs.Room.{Lent, Work, Enough};
 ghost use Rattle.eigen.specs.Rows.{stateOf};
+use crate::inside::eigenpairs;
 use crate::order::arrange_values;
 use crate::order::arrange_vectors;
 use crate::order::diagonal;
 use crate::order::sort;
-use crate::pair::plane_eigenpairs;
 use crate::start::symmetrize;
 use crate::sweep::settle;
 use crate::sweep::tolerance;
@@ -97,7 +97,7 @@ fn eigenpairs_with(
 }
 
 // The same of a matrix of one entry, which no sweep changes: the eigenvalue is the entry, and its vector 1.0.
-fn single_eigenpair(a: &[f64], values: &mut [f64], vectors: &mut [f64]) -> Written
+pub(crate) fn single_eigenpair(a: &[f64], values: &mut [f64], vectors: &mut [f64]) -> Written
     requires { ⌜ Lent 1 (now a) (now values) (now vectors) ⌝ }
     ensures { λ r. ⌜ (r, now (values .exit), now (vectors .exit)) ≡ afterPairs (eigenpairs (now (a .entry)) 1) (now (values .entry)) (now (vectors .entry)) ⌝ }
 {
@@ -111,7 +111,12 @@ fn single_eigenpair(a: &[f64], values: &mut [f64], vectors: &mut [f64]) -> Writt
 }
 
 // The same with room for orders to 4.
-fn small_eigenpairs(a: &[f64], n: usize, values: &mut [f64], vectors: &mut [f64]) -> Written
+pub(crate) fn small_eigenpairs(
+    a: &[f64],
+    n: usize,
+    values: &mut [f64],
+    vectors: &mut [f64],
+) -> Written
     requires { ⌜ (n ≤ 4) × Lent n (now a) (now values) (now vectors) ⌝ }
     ensures { λ r. ⌜ (r, now (values .exit), now (vectors .exit)) ≡ afterPairs (eigenpairs (now (a .entry)) n) (now (values .entry)) (now (vectors .entry)) ⌝ }
 {
@@ -123,7 +128,12 @@ fn small_eigenpairs(a: &[f64], n: usize, values: &mut [f64], vectors: &mut [f64]
 }
 
 // The same with room for orders to 16.
-fn large_eigenpairs(a: &[f64], n: usize, values: &mut [f64], vectors: &mut [f64]) -> Written
+pub(crate) fn large_eigenpairs(
+    a: &[f64],
+    n: usize,
+    values: &mut [f64],
+    vectors: &mut [f64],
+) -> Written
     requires { ⌜ (n ≤ 16) × Lent n (now a) (now values) (now vectors) ⌝ }
     ensures { λ r. ⌜ (r, now (values .exit), now (vectors .exit)) ≡ afterPairs (eigenpairs (now (a .entry)) n) (now (values .entry)) (now (vectors .entry)) ⌝ }
 {
@@ -132,23 +142,6 @@ fn large_eigenpairs(a: &[f64], n: usize, values: &mut [f64], vectors: &mut [f64]
     let mut e = [0.0f64; 16];
     let mut l = [0usize; 16];
     eigenpairs_with(a, n, values, vectors, &mut m, &mut v, &mut e, &mut l)
-}
-
-// Questions 1 and 2 are met: question 4, and then the eigenpairs of a, n by n.
-pub(crate) fn eigenpairs(a: &[f64], n: usize, values: &mut [f64], vectors: &mut [f64]) -> Written
-    requires { ⌜ (n ≤ 16) × Lent n (now a) (now values) (now vectors) ⌝ }
-    ensures { λ r. ⌜ (r, now (values .exit), now (vectors .exit)) ≡ afterPairs (eigenpairs (now (a .entry)) n) (now (values .entry)) (now (vectors .entry)) ⌝ }
-{
-    if n == 1 {
-        return single_eigenpair(a, values, vectors);
-    }
-    if n == 2 {
-        return plane_eigenpairs(a, values, vectors);
-    }
-    if n <= 4 {
-        return small_eigenpairs(a, n, values, vectors);
-    }
-    large_eigenpairs(a, n, values, vectors)
 }
 
 // The eigenvalues of a, n by n, in descending order, into values, and their vectors into the columns of vectors.

@@ -1,6 +1,7 @@
 // Eigenvalues and eigenvectors of symmetric f64 matrices of sides 1 to 16, by the cyclic Jacobi method.
 mod angle;
 pub mod generic;
+pub mod inside;
 mod order;
 pub mod pair;
 mod rotate;

@@ -5,3 +5,4 @@ pub mod Columns
 pub mod Inverse
 pub mod Determinants
 pub mod Rooms
+pub mod Single

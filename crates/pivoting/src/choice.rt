@@ -10,7 +10,7 @@ use kernel::constants::MIN_SCALE;
 use kernel::constants::REL_TOL;
 
 // The best row so far, and then row i, whose norm is s and whose entry in the column is x.
-fn consider(best: Pivot, s: f64, x: f64, i: usize) -> Pivot
+pub(crate) fn consider(best: Pivot, s: f64, x: f64, i: usize) -> Pivot
     requires { ⌜ abs (best .ratio) ≡ best .ratio ⌝ }
     ensures { λ r. ⌜ r ≡ consider best s x i ⌝ }
 {

@@ -1,4 +1,4 @@
--- Orders 1 and 2. `single-refused` and `single-repaired`: the repair of one entry; `plane-repaired`: a repair from the numbers of a plane.
+-- Orders 1 and 2. `single-refused` and `single-repaired`: the repair of one entry, and `single-left`, what it leaves; `plane-repaired`: a repair from the numbers of a plane.
 use Prim.Native.Nat.{ℕ, _+_}
 use native.Mathlib.Omega.{arith}
 use mathlib.Core.Bool.{Bool, true, false, cond, _&&_}
@@ -15,7 +15,8 @@ use Rattle.eigen.specs.declared.Plane.{Plane}
 use Rattle.eigen.specs.Eigen.{Eigenpairs, eigenpairs}
 use Rattle.eigen.specs.Pair.{shownBy, planePairs}
 use Rattle.eigen.proofs.Single.{single-eigenpairs, single-list}
-use Rattle.repair.specs.Repair.{Repair, clips, clipCount, greaterClip, largestClip, raised, rebuiltEntry, reportOf, repairOf, repair}
+use Rattle.repair.specs.Repair.{Repair, clips, clipCount, greaterClip, largestClip, raised, rebuiltEntry, reportOf, repairOf, repair, repairAnswer, afterRepair}
+use Rattle.repair.specs.Private.{singleRebuilt}
 
 -- ---- one entry
 
@@ -25,7 +26,7 @@ single-refused x floor h = rw h
 
 -- the repair of one finite entry
 abbrev pub mended : List Float → Float → Repair
-mended x floor = record { rebuilt = add nought (mul (mul one (raised floor (nth x 0))) one) ∷ []; report = reportOf x floor 1 }
+mended x floor = record { rebuilt = singleRebuilt floor (nth x 0) ∷ []; report = reportOf x floor 1 }
 
 of-pairs : (x : List Float) (floor : Float) → length x ≡ 1 → finite (nth x 0) ≡ true
     → through (repairOf floor 1) (ask 4 (finite (nth x 0)) (answered (record { values = nth x 0 ∷ []; vectors = one ∷ [] }))) ≡ answered (mended x floor)
@@ -35,6 +36,24 @@ of-pairs x floor l h = rw h (ap (λ (e : List Float). answered (record { rebuilt
 pub single-repaired : (x : List Float) (floor : Float) → length x ≡ 1 → finite (nth x 0) ≡ true → repair x floor 1 ≡ answered (mended x floor)
 unfolding repair finiteEntries
 single-repaired x floor l h = rw h (ap (through (repairOf floor 1)) (single-eigenpairs x) ∙ of-pairs x floor l h)
+
+-- what the call leaves in a slice that held its entry
+pub single-left : (x floor : Float) → (repairAnswer (repair (x ∷ []) floor 1), singleRebuilt floor x ∷ []) ≡ afterRepair (repair (x ∷ []) floor 1) (singleRebuilt floor x ∷ [])
+single-left x floor = go (finite x) refl
+  where
+    go : (b : Bool) → finite x ≡ b → (repairAnswer (repair (x ∷ []) floor 1), singleRebuilt floor x ∷ []) ≡ afterRepair (repair (x ∷ []) floor 1) (singleRebuilt floor x ∷ [])
+    go true h = rw (single-repaired (x ∷ []) floor refl h)
+    go false h = rw (single-refused (x ∷ []) floor h)
+
+-- one eigenvalue: whether it is clipped, and by how much
+module _ (x floor : Float) where
+  pub single-count : {a : ℕ} → a ≡ cond (clips floor x) 1 0 → a ≡ clipCount (x ∷ []) floor 1
+  unfolding clipCount
+  single-count p = omega (arith, p)
+
+  pub single-largest : {g : Float} → g ≡ greaterClip nought x floor → g ≡ largestClip (x ∷ []) floor 1
+  unfolding largestClip
+  single-largest p = p
 
 -- ---- two rows
 

@@ -15,7 +15,7 @@ use crate::answer::refused;
 use crate::clip::clip;
 use crate::clip::greater_clip;
 use crate::clip::raised;
-use crate::clip::report;
+use crate::inside::single_rebuilt;
 use crate::rebuild::share;
 use dense::vector::is_finite;
 use eigen::Plane;
@@ -23,17 +23,30 @@ use eigen::pair::eigenplane;
 use kernel::question::FINITE_EIGENVALUES;
 use kernel::question::FINITE_ENTRIES;
 
-// The repair of one entry, which is its own eigenvalue, with the vector 1.0.
+// What is told of one eigenvalue.
+pub(crate) fn single_report(x: f64, floor: f64) -> RegularizationReport
+    ensures { λ r. ⌜ r ≡ reportOf (x ∷ []) floor 1 ⌝ }
+{
+    let mut mask = [false; 16];
+    mask[0] = x < floor;
+    RegularizationReport {
+        n_clipped: clip(x, floor),
+        max_clip_magnitude: greater_clip(0.0, x, floor),
+        clipped_indices: mask,
+    }
+}
+
+// The repair of one entry, which is its own eigenvalue.
 pub(crate) fn single_repair(cov: &[f64], floor: f64, out: &mut [f64]) -> Repaired
     requires { ⌜ Mending 1 (now cov) (now out) ⌝ }
     ensures { λ r. ⌜ (r, now (out .exit)) ≡ afterRepair (repair (now (cov .entry)) floor 1) (now (out .entry)) ⌝ }
 {
-    if !is_finite(cov[0]) {
+    let x = cov[0];
+    if !is_finite(x) {
         return refused(FINITE_ENTRIES);
     }
-    let told = report(cov, 1, floor);
-    out[0] = 0.0 + share(1.0, raised(cov[0], floor), 1.0);
-    done(told)
+    out[0] = single_rebuilt(x, floor);
+    done(single_report(x, floor))
 }
 
 // What is told of two eigenvalues.

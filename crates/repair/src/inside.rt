@@ -1,22 +1,27 @@
 // A repair for a caller that knows the lengths: what the project's own crates call, and no user does.
 ghost use mathlib.Core.Path.{_≡_};
+ghost use mathlib.Core.List.{[], _∷_};
 ghost use Prim.Native.Nat.{_*_, _≤_};
 ghost use lib.ListN.{length};
 ghost use Rattle.kernel.specs.Answer.{through};
 ghost use Rattle.eigen.specs.Eigen.{eigenpairs};
-ghost use Rattle.repair.specs.Private.{Mending};
-ghost use Rattle.repair.specs.Repair.{repairOf, repair, afterRepair};
+ghost use Rattle.repair.specs.Private.{Mending, singleRebuilt};
+ghost use Rattle.repair.specs.Repair.{repairOf, repair, repairAnswer, afterRepair};
 use crate::Repaired;
 use crate::answer::done;
 use crate::answer::refused;
 use crate::clip::raise;
+use crate::clip::raised;
 use crate::clip::report;
 use crate::direct::plane_repair;
 use crate::direct::single_repair;
+use crate::direct::single_report;
 use crate::rebuild::rebuild;
+use crate::rebuild::share;
 use dense::Written;
 use dense::vector::are_finite;
-use eigen::generic::mat_symmetric_eigen;
+use dense::vector::is_finite;
+use eigen::inside::eigenpairs;
 use kernel::question::FINITE_ENTRIES;
 
 // The repair of cov, n by n, from question 4 on. The slices e and v are room for the eigenvalues and the vectors.
@@ -31,7 +36,7 @@ fn repair_in(
     requires { ⌜ Mending n (now cov) (now out) × (length (now e) ≡ n) × (length (now v) ≡ n * n) ⌝ }
     ensures { λ r. ⌜ (r, now (out .exit)) ≡ afterRepair (through (repairOf floor n) (eigenpairs (now (cov .entry)) n)) (now (out .entry)) ⌝ }
 {
-    match mat_symmetric_eigen(cov, n, e, v) {
+    match eigenpairs(cov, n, e, v) {
         Written::Refused(q) => refused(q),
         Written::Done => {
             let told = report(e, n, floor);
@@ -83,4 +88,21 @@ pub fn repair(cov: &[f64], floor: f64, n: usize, out: &mut [f64]) -> Repaired
         return small_repair(cov, floor, n, out);
     }
     large_repair(cov, floor, n, out)
+}
+
+// What the repair of a matrix of one entry x answers.
+pub fn single_answer(x: f64, floor: f64) -> Repaired
+    ensures { λ r. ⌜ r ≡ repairAnswer (repair (x ∷ []) floor 1) ⌝ }
+{
+    if !is_finite(x) {
+        return refused(FINITE_ENTRIES);
+    }
+    done(single_report(x, floor))
+}
+
+// The entry of that repair.
+pub fn single_rebuilt(x: f64, floor: f64) -> f64
+    ensures { λ r. ⌜ r ≡ singleRebuilt floor x ⌝ }
+{
+    0.0 + share(1.0, raised(x, floor), 1.0)
 }
