@@ -1,26 +1,31 @@
 -- `two-tracks` says what questions 1 and 2 tell of two tracks, `comparing-met` that where 18 is met too the call answers their comparison, and `tracks-compared` the same for a caller
--- that knows the lengths. What is made of an answer: `no-distance` and `distance-by-gate` of a distance's, `with-report` of a repair's.
+-- that knows the lengths. What is made of an answer: `no-distance` and `distance-by-gate` of a distance's, `with-report` of a repair's. Dimension 1: `single-tracks`, `single-joint`.
 use Prim.Native.Nat.{ℕ, _*_}
 use native.Mathlib.Omega.{arith}
 use mathlib.Core.Bool.{true, _&&_}
-use mathlib.Core.List.{List}
+use mathlib.Core.List.{List, [], _∷_}
 use mathlib.Core.Path.{_≡_, refl, sym, ap, _∙_}
 use borrow.Author.Tests.{eq-eqb}
 use lib.Ieee.{Float}
 use lib.ListN.{length}
 use Rattle.kernel.specs.Answer.{Outcome, refused, answered, andThen}
+use Rattle.kernel.specs.Lists.{tabulate}
+use Rattle.kernel.specs.Number.{add}
 use Rattle.dense.specs.Answer.{given}
-use Rattle.dense.specs.Matrix.{isSide, hasLength}
+use Rattle.dense.specs.Matrix.{nth, matrix, isSide, hasLength}
 use Rattle.dense.specs.declared.Number.{Number}
 use Rattle.dense.specs.declared.Number.the-variants as number
 use Rattle.dense.proofs.Tests.{and-left, and-right, long-length, two-long}
+use Rattle.eigen.proofs.Single.{single-list}
 use Rattle.pivoting.specs.Solve.{distance}
 use Rattle.repair.specs.declared.Repaired.{Repaired}
-use Rattle.repair.specs.Repair.{Repair, refusal, repairAnswer, afterRepair}
+use Rattle.repair.specs.Repair.{Repair, repair, refusal, repairAnswer, afterRepair}
+use Rattle.repair.specs.Private.{singleRebuilt}
+use Rattle.repair.proofs.SmallOrders.{single-left}
 use Rattle.compare.specs.declared.Comparison.{Comparison}
 use Rattle.compare.specs.declared.Comparison.the-variants.{NoDistance}
 use Rattle.compare.specs.declared.ComparisonReport.{ComparisonReport}
-use Rattle.compare.specs.Distance.{jointRepair, squaredDistance, byGate, comparisonOf, compared, comparedWithReport, floorAndGate, comparing}
+use Rattle.compare.specs.Distance.{jointCovariance, jointRepair, squaredDistance, byGate, comparisonOf, compared, comparedWithReport, floorAndGate, comparing}
 use Rattle.compare.specs.Private.{TwoTracks, afterWritten}
 
 module _ (mu x p-i p-j : List Float) (n : ℕ) where
@@ -78,3 +83,16 @@ module _ (mu x : List Float) (n : ℕ) (gate : Float) where
       → _≡_ {A = ComparisonReport} (record { comparison = c; repair = r }) (comparedWithReport mu x p-i p-j n floor gate)
   unfolding comparedWithReport compared squaredDistance
   with-report p-i p-j old floor e f = after-repair (jointRepair p-i p-j n floor) old e f
+
+-- ---- dimension 1
+
+module _ (mu x p-i p-j : List Float) (floor gate : Float) where
+  pub single-tracks : length mu ≡ 1 → length x ≡ 1 → length p-i ≡ 1 → length p-j ≡ 1
+      → comparedWithReport (nth mu 0 ∷ []) (nth x 0 ∷ []) (nth p-i 0 ∷ []) (nth p-j 0 ∷ []) 1 floor gate ≡ comparedWithReport mu x p-i p-j 1 floor gate
+  single-tracks a b c d = rw (sym (single-list mu a), sym (single-list x b), sym (single-list p-i c), sym (single-list p-j d))
+
+pub single-joint : (p q floor : Float)
+    → _≡_ {A = Left} (repairAnswer (repair (add p q ∷ []) floor 1), singleRebuilt floor (add p q) ∷ [])
+    (afterRepair (jointRepair (p ∷ []) (q ∷ []) 1 floor) (singleRebuilt floor (add p q) ∷ []))
+unfolding jointRepair jointCovariance matrix tabulate
+single-joint p q floor = single-left (add p q) floor

@@ -1,5 +1,6 @@
 // A squared distance by the gate.
 ghost use mathlib.Core.Path.{_≡_};
+ghost use mathlib.Core.List.{[], _∷_};
 ghost use Prim.Native.Nat.{_≤_};
 ghost use Rattle.pivoting.specs.Solve.{distance, Under};
 ghost use Rattle.compare.specs.Distance.{byGate, comparisonOf};
@@ -9,9 +10,10 @@ use dense::Number;
 use dense::Written;
 use dense::vector::is_finite;
 use pivoting::inside::distance;
+use pivoting::inside::single_distance;
 
 // What d2 is by the gate.
-pub(crate) fn by_gate(d2: f64, gate: f64) -> Comparison
+fn by_gate(d2: f64, gate: f64) -> Comparison
     ensures { λ r. ⌜ r ≡ byGate d2 gate ⌝ }
 {
     if !is_finite(d2) {
@@ -52,5 +54,25 @@ pub(crate) fn compared_after(
     match answer {
         Written::Refused(_) => Comparison::NoDistance,
         Written::Done => compared_under(mu, x, cov, n, gate),
+    }
+}
+
+// The same of dimension 1: the distance of three numbers.
+fn single_under(mu: f64, x: f64, cov: f64, gate: f64) -> Comparison
+    ensures { λ r. ⌜ r ≡ comparisonOf (distance (x ∷ []) (mu ∷ []) (cov ∷ []) 1) gate ⌝ }
+{
+    match single_distance(x, mu, cov) {
+        Number::Refused(_) => Comparison::NoDistance,
+        Number::Value(d2) => by_gate(d2, gate),
+    }
+}
+
+// The same where the repair has answered.
+pub(crate) fn single_after(answer: Written, mu: f64, x: f64, cov: f64, gate: f64) -> Comparison
+    ensures { λ r. ⌜ r ≡ comparisonOf (afterWritten answer (distance (x ∷ []) (mu ∷ []) (cov ∷ []) 1)) gate ⌝ }
+{
+    match answer {
+        Written::Refused(_) => Comparison::NoDistance,
+        Written::Done => single_under(mu, x, cov, gate),
     }
 }

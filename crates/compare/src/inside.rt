@@ -1,5 +1,6 @@
 // The comparison of two tracks for a caller that knows their lengths: what the project's own crates call, and no user does.
 ghost use mathlib.Core.Path.{_≡_};
+ghost use mathlib.Core.List.{[], _∷_};
 ghost use Prim.Native.Nat.{_*_, _≤_};
 ghost use lib.ListN.{length};
 ghost use Rattle.kernel.specs.Lists.{tabulate};
@@ -9,7 +10,10 @@ ghost use Rattle.compare.specs.Distance.{comparedWithReport};
 ghost use Rattle.compare.specs.Private.{TwoTracks};
 use crate::ComparisonReport;
 use crate::gate::compared_after;
+use crate::gate::single_after;
 use repair::inside::repair;
+use repair::inside::single_answer;
+use repair::inside::single_rebuilt;
 
 // What two tracks are compared by.
 struct FloorAndGate {
@@ -86,6 +90,20 @@ fn large(
     compared_in(mu, x, p, q, n, terms, &mut s[..size], &mut r[..size])
 }
 
+// The same of dimension 1, of four numbers: no loops, and no room to clear.
+fn single(mu: f64, x: f64, p: f64, q: f64, terms: FloorAndGate) -> ComparisonReport
+    ensures { λ c. ⌜ c ≡ comparedWithReport (mu ∷ []) (x ∷ []) (p ∷ []) (q ∷ []) 1 (terms .floor) (terms .gate) ⌝ }
+{
+    let sum = p + q;
+    let repaired = single_answer(sum, terms.floor);
+    let answer = repaired.answer;
+    let cov = single_rebuilt(sum, terms.floor);
+    ComparisonReport {
+        comparison: single_after(answer, mu, x, cov, terms.gate),
+        repair: repaired,
+    }
+}
+
 // The same with the room that the dimension needs.
 pub fn compare_tracks(
     mu: &[f64],
@@ -103,6 +121,9 @@ pub fn compare_tracks(
         floor: floor,
         gate: gate,
     };
+    if n == 1 {
+        return single(mu[0], x[0], p_i[0], p_j[0], terms);
+    }
     if n <= 4 {
         return small(mu, x, p_i, p_j, n, terms);
     }
