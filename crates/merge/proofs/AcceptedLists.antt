@@ -3,9 +3,9 @@
 use Prim.Native.Nat.{ℕ, _+_, _*_, _<_, _≤_}
 use native.Mathlib.Omega.{arith}
 use mathlib.Core.Path.{_≡_, refl, sym, ap, subst, subst₂, _∙_}
-use mathlib.Core.Bool.{true, _&&_}
+use mathlib.Core.Bool.{Bool, true, false, _&&_, _||_, cond}
 use mathlib.Core.List.{List, flatMap}
-use lib.Dec.{eqb}
+use lib.Dec.{T, eqb}
 use lib.Ieee.{Float}
 use lib.ListN.{length}
 use borrow.Author.Tests.{leb-true}
@@ -18,23 +18,33 @@ use Rattle.pairing.specs.Pairing.{pair, Pairs, Candidates, Ordered, paired, fre
 use Rattle.pairing.specs.Search.{isFree}
 use Rattle.pairing.proofs.Tests.{left, right}
 use Rattle.pairing.proofs.Stable.{paired-stable}
-use Rattle.merge.specs.Tracks.{trackCount}
+use Rattle.merge.specs.Tracks.{ThreeLists, trackCount}
 use Rattle.merge.specs.Candidates.{candidatesOf, among}
-use Rattle.merge.specs.Rows.{Row, rowBytes, rowsWith, verdictOn, Pairings, rowsOf}
-use Rattle.merge.specs.Merge.{partnersIn, pairingsOf, mergedRows, roomFor}
-use Rattle.merge.specs.Steps.{Appended}
-use Rattle.merge.specs.Demand3.{Demand3, OnlyUnblocked, TrackOrNone, baseIn, oursIn, theirsIn, tracksIn, howMany, baseWithOurs, baseWithTheirs, oursWithTheirs}
+use Rattle.merge.specs.Rows.{Row, rowBytes, rowsWith, isTrack, tracksAmong, verdictOn, Pairings, rowsOf}
+use Rattle.merge.specs.Merge.{partnersIn, pairingsOf, mergedRows, roomFor, countsOf}
+use Rattle.merge.specs.Buffer.{TrackOrNone, baseIn, oursIn, theirsIn, tracksIn, howMany, baseWithOurs, baseWithTheirs, oursWithTheirs}
+use Rattle.merge.specs.Demand3.{OnlyUnblocked, MergeRows, RowBuffer, Demand3}
+use Rattle.merge.specs.Private.{Appended}
 use Rattle.merge.proofs.Candidates.{candidates-ordered, among-ordered}
 use Rattle.merge.proofs.Partners.{tabled, free-alike, among-alike}
 use Rattle.merge.proofs.Bytes.{rows-length, rest-byte}
 use Rattle.merge.proofs.Places.{rows-count, rowCount, laid}
-use Rattle.merge.proofs.Standing.{Given, each-base, each-ours, each-theirs, base-index, ours-index, theirs-index, verdict-is}
+use Rattle.merge.proofs.Standing.{Given, each-base, each-ours, each-theirs, base-index, ours-index, theirs-index, verdict-is, some-track}
 use Rattle.merge.proofs.Order.{in-order}
 use Rattle.merge.proofs.Shown.{shows-base-ours, shows-base-theirs, shows-ours-theirs}
 use Rattle.merge.proofs.Totals.{rows-with, counted, all-rows, all-tracks, rows-few}
 use Rattle.merge.proofs.Meaning.{near-pairs, nearest-first, equal-fields, only-unblocked}
 
-module _ (b o t : TrackList) (floor gate : Float) where
+module _ (lists : ThreeLists) (floor gate : Float) where
+  abbrev b : TrackList
+  b = lists .base
+
+  abbrev o : TrackList
+  o = lists .ours
+
+  abbrev t : TrackList
+  t = lists .theirs
+
   abbrev m : ℕ
   m = trackCount b
 
@@ -60,12 +70,12 @@ module _ (b o t : TrackList) (floor gate : Float) where
   pairings = record { baseOurs = partnersIn base-ours; baseTheirs = partnersIn base-theirs; oursTheirs = partnersIn ours-theirs }
 
   abbrev v : ℕ → ℕ → ℕ → ℕ
-  v = verdictOn b o t
+  v = verdictOn lists
 
   abbrev pub rows : List Row
   rows = rowsOf v pairings m n l
 
-  pub rows-are : mergedRows b o t floor gate ≡ rows
+  pub rows-are : mergedRows lists floor gate ≡ rows
   unfolding mergedRows pairingsOf
   rows-are = refl
 
@@ -96,7 +106,7 @@ module _ (b o t : TrackList) (floor gate : Float) where
     given = given-with v
 
     -- rows with any verdicts have indices of tracks
-    pub indices-in : (u : ℕ → ℕ → ℕ → ℕ) {total : ℕ} {buffer : List ℕ} → Appended (rowsOf u (pairingsOf b o t floor gate) m n l) 0 old total buffer
+    pub indices-in : (u : ℕ → ℕ → ℕ → ℕ) {total : ℕ} {buffer : List ℕ} → Appended (rowsOf u (pairingsOf lists floor gate) m n l) 0 old total buffer
         → (r : ℕ) → r < total → TrackOrNone m (baseIn buffer r) × TrackOrNone n (oursIn buffer r) × TrackOrNone l (theirsIn buffer r)
     unfolding pairingsOf
     indices-in u {total} a r h =
@@ -137,43 +147,70 @@ module _ (b o t : TrackList) (floor gate : Float) where
         (λ j h. ap (λ (s : Pairs). freeSecond base-ours s j) shown-base-ours ∙ sym (free-alike base-ours (candidates-ordered b o floor gate) few-base j h))
         (λ k h. ap (λ (s : Pairs). freeSecond base-theirs s k) shown-base-theirs ∙ sym (free-alike base-theirs (candidates-ordered b t floor gate) few-base k h))
 
-    -- ---- the record
+    -- ---- the records
 
-    pub demand : (base ours theirs : List ℕ) → contents base ≡ answered b → contents ours ≡ answered o → contents theirs ≡ answered t → roomFor b o t (length old) ≡ true
-        → Demand3 base ours theirs floor gate old new (rowsWith 3 rows) (rowsWith 2 rows) (rowsWith 1 rows)
-    demand base ours theirs read-b read-o read-t room = record {
-      b = b;
-      o = o;
-      t = t;
-      base-read = read-b;
-      ours-read = read-o;
-      theirs-read = read-t;
-      rows = all;
-      base-number = numbered-b;
-      ours-number = numbered-o;
-      theirs-number = numbered-t;
-      each-base = λ i h. each-base v pairings m n l new given i (omega (arith, numbered-b));
-      each-ours = λ j h. each-ours v pairings m n l new given j (omega (arith, numbered-o));
-      each-theirs = λ k h. each-theirs v pairings m n l new given k (omega (arith, numbered-t));
-      base-indices = λ r h. rw (sym numbered-b) (base-index v pairings m n l new given r h);
-      ours-indices = λ r h. rw (sym numbered-o) (ours-index v pairings m n l new given r h);
-      theirs-indices = λ r h. rw (sym numbered-t) (theirs-index v pairings m n l new given r h);
+    some-tracks : (r : ℕ) → r < all → 1 ≤ tracksIn new r
+    unfolding tracksAmong
+    some-tracks r h = go (isTrack (baseIn new r)) (isTrack (oursIn new r)) (isTrack (theirsIn new r)) (some-track v pairings m n l new given r h)
+      where
+        go : (x y z : Bool) → T (x || y || z) → 1 ≤ cond x 1 0 + cond y 1 0 + cond z 1 0
+        go true y z u = omega arith
+        go false true z u = omega arith
+        go false false true u = omega arith
+        go false false false u = absurd u
+
+    of-rows : MergeRows lists floor gate all new
+    of-rows = record {
+      each-base = each-base v pairings m n l new given;
+      each-ours = each-ours v pairings m n l new given;
+      each-theirs = each-theirs v pairings m n l new given;
+      base-indices = base-index v pairings m n l new given;
+      ours-indices = ours-index v pairings m n l new given;
+      theirs-indices = theirs-index v pairings m n l new given;
+      some-track = some-tracks;
       rows-order = in-order v pairings m n l new given;
       verdicts = verdict-is v pairings m n l new given;
       equal = equal-fields;
-      full-rows = rows-met 3;
-      half-rows = rows-met 2;
-      single-rows = rows-met 1;
-      all-tracks = omega (arith, numbered-b, numbered-o, numbered-t, all-tracks v pairings m n l new given, rows-met 3, rows-met 2, rows-met 1);
-      rows-number = omega (arith, rows-met 3, rows-met 2, rows-met 1, all-rows v pairings m n l new given);
-      rows-fit = omega (arith, kept, fits);
-      same-length = kept;
-      rest-stays = λ x h. rest-byte old (flatMap rowBytes rows) x (omega (arith, written, h));
-      near = λ c d. near-pairs c d floor gate;
-      nearest-first = λ c d. nearest-first c d floor gate;
+      candidate = λ c d. near-pairs c d floor gate;
+      earlier = λ c d. nearest-first c d floor gate;
       base-ours = subst (OnlyUnblocked base-ours) (sym shown-base-ours) (only-unblocked base-ours (candidates-ordered b o floor gate));
       base-theirs = subst (OnlyUnblocked base-theirs) (sym shown-base-theirs) (only-unblocked base-theirs (candidates-ordered b t floor gate));
       ours-theirs = subst₂ OnlyUnblocked (sym free-of-base) (sym shown-ours-theirs) (only-unblocked ours-theirs third-ordered);
+    }
+
+    of-buffer : roomFor lists (length old) ≡ true → RowBuffer all old new
+    of-buffer room = record {
+      rows-fit = omega (arith, kept, fits);
+      same-length = kept;
+      rest-stays = λ x h. rest-byte old (flatMap rowBytes rows) x (omega (arith, written, h));
+    }
+      where
+        fits : 4 * all ≤ length old
+        fits = omega (arith, rows-few v pairings m n l new given, leb-true (4 * (m + n + l)) (length old) room)
+
+        kept : length new ≡ length old
+        kept = length-over old 0 (flatMap rowBytes rows) (omega (arith, written, fits))
+
+    pub demand : (base ours theirs : List ℕ) → contents base ≡ answered b → contents ours ≡ answered o → contents theirs ≡ answered t → roomFor lists (length old) ≡ true
+        → Demand3 base ours theirs floor gate old new (countsOf rows)
+    demand base ours theirs read-b read-o read-t room = record {
+      lists = lists;
+      base-read = read-b;
+      ours-read = read-o;
+      theirs-read = read-t;
+      base-number = numbered-b;
+      ours-number = numbered-o;
+      theirs-number = numbered-t;
+      rows = all;
+      of-rows = of-rows;
+      of-counts = record {
+        full-rows = rows-met 3;
+        half-rows = rows-met 2;
+        single-rows = rows-met 1;
+        all-rows = omega (arith, rows-met 3, rows-met 2, rows-met 1, all-rows v pairings m n l new given);
+        all-tracks = omega (arith, numbered-b, numbered-o, numbered-t, all-tracks v pairings m n l new given, rows-met 3, rows-met 2, rows-met 1);
+      };
+      of-buffer = of-buffer room;
     }
       where
         numbered-b : m ≡ count base
@@ -184,9 +221,3 @@ module _ (b o t : TrackList) (floor gate : Float) where
 
         numbered-t : l ≡ count theirs
         numbered-t = contents-met theirs read-t .count
-
-        fits : 4 * all ≤ length old
-        fits = omega (arith, rows-few v pairings m n l new given, leb-true (4 * (m + n + l)) (length old) room)
-
-        kept : length new ≡ length old
-        kept = length-over old 0 (flatMap rowBytes rows) (omega (arith, written, fits))

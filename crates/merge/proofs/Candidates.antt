@@ -1,4 +1,4 @@
--- The candidates of two lists and their keys. `near-number`: a pair has a key exactly if it is near. `keys-agree`: the candidates are those of the keys, in the same order, so
+-- The candidates of two lists and their keys. `candidate-number`: a pair's rank is a number exactly if it is a candidate. `keys-agree`: the candidates are those of the keys, in the same order, so
 -- they are ordered (`candidates-ordered`, `among-ordered`) and the partners by key are theirs (`keyed-partners`, `all-keyed-partners`).
 use Prim.Native.Nat.{ℕ, _<_}
 use mathlib.Core.Path.{_≡_, refl, sym, ap, subst, _∙_}
@@ -9,9 +9,10 @@ use lib.Ieee.{Float, nan, inf, fin, isNan, lt, le}
 use borrow.Author.Tests.{ltb-true}
 use Rattle.kernel.specs.Answer.{Outcome, refused, answered}
 use Rattle.kernel.specs.Constants.{nought}
+use Rattle.dense.specs.Matrix.{matrix}
 use Rattle.dense.proofs.Laws.{at-matrix}
 use Rattle.tracks.specs.Read.{TrackList}
-use Rattle.compare.specs.Distance.{placed, placedIf, squaredDistance, compared}
+use Rattle.compare.specs.Distance.{byGate, comparisonOf, squaredDistance, compared}
 use Rattle.compare.specs.declared.Comparison.the-variants.{Near, Far, NoDistance}
 use Rattle.pairing.specs.Pairing.{Pair, has, In, Candidates, Ordered}
 use Rattle.pairing.specs.Keys.{keyOf, byKey, fromKeys, firstPartners, secondPartners}
@@ -19,9 +20,18 @@ use Rattle.pairing.proofs.Tests.{left, right, is-true}
 use Rattle.pairing.proofs.Keys.{ordered}
 use Rattle.pairing.proofs.Agreeing.{Agreeing, agreeing-ordered, agreeing-firsts, agreeing-seconds}
 use Rattle.merge.specs.Tracks.{trackCount}
-use Rattle.merge.specs.Candidates.{comparison, isNear, nearSquare, byDistance, candidatesOf, among, everyone, keysAmong}
+use Rattle.merge.specs.Candidates.{comparison, Candidacy, candidacyOf, candidacy, isCandidate, rank, byRank, candidatesOf, among}
 use Rattle.merge.specs.Rows.{Partners}
 use Rattle.merge.specs.Merge.{partnersIn}
+
+-- no track is left out
+abbrev everyone : ℕ → Bool
+everyone i = true
+
+-- the keys of the candidates whose two tracks are kept, as `pair_tracks` takes them: a double for each pair, in rows, and a NaN for what is no candidate
+unfoldable pub keysAmong : TrackList → TrackList → Float → Float → (ℕ → Bool) → (ℕ → Bool) → List Float
+keysAmong a b floor gate first second =
+    matrix (trackCount a) (trackCount b) (λ i j. let key = rank (candidacy a b floor gate i j) in cond (first i && second j) key nan)
 
 -- the partners by key, as `pair_tracks` writes them
 abbrev pub byKeys : TrackList → TrackList → Float → Float → (ℕ → Bool) → (ℕ → Bool) → Partners
@@ -29,16 +39,19 @@ byKeys a b floor gate first second =
     let g = fromKeys (keysAmong a b floor gate first second) (trackCount a) (trackCount b) in
     record { firsts = firstPartners g; seconds = secondPartners g }
 
--- ---- near means a number
+-- ---- a candidate's rank is a number
 
-placed-number : (o : Outcome Float) (gate : Float) → isNan (nearSquare (placedIf o gate)) ≡ not (isNear (placedIf o gate))
-unfolding isNan placed
-placed-number (refused q) gate = refl
-placed-number (answered nan) gate = refl
-placed-number (answered (inf s)) gate = refl
-placed-number (answered (fin s m e)) gate = go (not (lt (fin s m e) nought)) (le (fin s m e) gate)
+gated-number : (o : Outcome Float) (gate : Float) → isNan (rank (candidacyOf (comparisonOf o gate))) ≡ not (isCandidate (candidacyOf (comparisonOf o gate)))
+unfolding isNan byGate
+gated-number (refused q) gate = refl
+gated-number (answered nan) gate = refl
+gated-number (answered (inf s)) gate = refl
+gated-number (answered (fin s m e)) gate = go (not (lt (fin s m e) nought)) (le (fin s m e) gate)
   where
-    go : (b c : Bool) → isNan (nearSquare (cond b (cond c (Near (fin s m e)) (Far (fin s m e))) NoDistance)) ≡ not (isNear (cond b (cond c (Near (fin s m e)) (Far (fin s m e))) NoDistance))
+    gated : Bool → Bool → Candidacy
+    gated b c = candidacyOf (cond b (cond c (Near (fin s m e)) (Far (fin s m e))) NoDistance)
+
+    go : (b c : Bool) → isNan (rank (gated b c)) ≡ not (isCandidate (gated b c))
     go true true = refl
     go true false = refl
     go false c = refl
@@ -50,14 +63,15 @@ kept-number true false key h = refl
 kept-number false true key h = rw h refl
 kept-number false false key h = refl
 
-compared-number : (mu x p-i p-j : List Float) (n : ℕ) (floor gate : Float) → isNan (nearSquare (compared mu x p-i p-j n floor gate)) ≡ not (isNear (compared mu x p-i p-j n floor gate))
+compared-number : (mu x p-i p-j : List Float) (n : ℕ) (floor gate : Float)
+    → isNan (rank (candidacyOf (compared mu x p-i p-j n floor gate))) ≡ not (isCandidate (candidacyOf (compared mu x p-i p-j n floor gate)))
 unfolding compared
-compared-number mu x p-i p-j n floor gate = placed-number (squaredDistance mu x p-i p-j n floor) gate
+compared-number mu x p-i p-j n floor gate = gated-number (squaredDistance mu x p-i p-j n floor) gate
 
 module _ (a b : TrackList) (floor gate : Float) where
-  pub near-number : (i j : ℕ) → isNan (nearSquare (comparison a b floor gate i j)) ≡ not (isNear (comparison a b floor gate i j))
-  unfolding comparison
-  near-number i j = compared-number _ _ _ _ _ floor gate
+  pub candidate-number : (i j : ℕ) → isNan (rank (candidacy a b floor gate i j)) ≡ not (isCandidate (candidacy a b floor gate i j))
+  unfolding comparison candidacy
+  candidate-number i j = compared-number _ _ _ _ _ floor gate
 
   -- ---- the candidates are those of the keys
 
@@ -72,7 +86,7 @@ module _ (a b : TrackList) (floor gate : Float) where
     keyed = fromKeys keys (trackCount a) (trackCount b)
 
     key-is : (p : Pair) → p .first < trackCount a → p .second < trackCount b
-        → keyOf keys (trackCount b) p ≡ cond (first (p .first) && second (p .second)) (nearSquare (comparison a b floor gate (p .first) (p .second))) nan
+        → keyOf keys (trackCount b) p ≡ cond (first (p .first) && second (p .second)) (rank (candidacy a b floor gate (p .first) (p .second))) nan
     unfolding keysAmong keyOf
     key-is p h k = at-matrix (trackCount a) (trackCount b) _ (p .first) (p .second) h k
 
@@ -80,27 +94,27 @@ module _ (a b : TrackList) (floor gate : Float) where
     same-candidate p = go (ltb (p .first) (trackCount a)) (ltb (p .second) (trackCount b)) refl refl
       where
         near : Bool
-        near = isNear (comparison a b floor gate (p .first) (p .second))
+        near = isCandidate (candidacy a b floor gate (p .first) (p .second))
 
         go : (x y : Bool) → ltb (p .first) (trackCount a) ≡ x → ltb (p .second) (trackCount b) ≡ y
             → (x && y && near) && (first (p .first) && second (p .second)) ≡ x && y && not (isNan (keyOf keys (trackCount b) p))
-        go true true e f = rw (key-is p (ltb-true _ _ e) (ltb-true _ _ f)) (kept-number near (first (p .first) && second (p .second)) _ (near-number (p .first) (p .second)))
+        go true true e f = rw (key-is p (ltb-true _ _ e) (ltb-true _ _ f)) (kept-number near (first (p .first) && second (p .second)) _ (candidate-number (p .first) (p .second)))
         go true false e f = refl
         go false y e f = refl
 
     -- the key of a candidate
-    key-of : (p : Pair) → In (kept .candidate) p → keyOf keys (trackCount b) p ≡ nearSquare (comparison a b floor gate (p .first) (p .second))
+    key-of : (p : Pair) → In (kept .candidate) p → keyOf keys (trackCount b) p ≡ rank (candidacy a b floor gate (p .first) (p .second))
     key-of p t =
         let x = ltb (p .first) (trackCount a) in
         let y = ltb (p .second) (trackCount b) in
-        let near = isNear (comparison a b floor gate (p .first) (p .second)) in
+        let near = isCandidate (candidacy a b floor gate (p .first) (p .second)) in
         let k = first (p .first) && second (p .second) in
         let c : T (x && y) = left (x && y) near (left (x && y && near) k t) in
         let e : k ≡ true = is-true k (right (x && y && near) k t) in
         rw (key-is p (ltb→lt _ _ (left x y c)) (ltb→lt _ _ (right x y c)), e) refl
 
     pub keys-agree : Agreeing kept keyed
-    unfolding byDistance byKey
+    unfolding byRank byKey
     keys-agree = record {
       firsts = refl;
       seconds = refl;
@@ -128,7 +142,7 @@ module _ (a b : TrackList) (floor gate : Float) where
     firsts = trackCount a;
     seconds = trackCount b;
     candidate = λ i j. and-true (candidatesOf a b floor gate .candidate i j) x;
-    earlier = byDistance (comparison a b floor gate);
+    earlier = byRank (candidacy a b floor gate);
   }
     where
       and-true : (t : Bool) → t ≡ t && true

@@ -11,7 +11,7 @@ use Rattle.pairing.specs.Pairing.{some}
 use Rattle.pairing.specs.Keys.{nobody}
 use Rattle.pairing.proofs.Tests.{both, left, right, is-false, some-at, some-where}
 use Rattle.merge.specs.Rows.{isTrack}
-use Rattle.merge.specs.Demand3.{baseIn, oursIn, theirsIn, baseWithOurs, baseWithTheirs, oursWithTheirs}
+use Rattle.merge.specs.Buffer.{baseIn, oursIn, theirsIn, baseWithOurs, baseWithTheirs, oursWithTheirs}
 
 -- ---- tests on an index
 

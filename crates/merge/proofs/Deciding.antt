@@ -11,10 +11,10 @@ use Rattle.kernel.specs.Lists.{tabulate, over}
 use Rattle.kernel.proofs.Lists.{tabulate-ext, by-elements}
 use Rattle.pairing.specs.Keys.{nobody}
 use Rattle.merge.specs.Rows.{Row, rowAt, Pairings, selected, withoutBase, remaining, baseRow, oursRow, theirsRow, rowsOf}
-use Rattle.merge.specs.Demand3.{baseIn, oursIn, theirsIn}
-use Rattle.merge.specs.Steps.{rowsBytes, Appended, tablesIn}
-use Rattle.merge.specs.PairSteps.{pairingsIn}
-use Rattle.merge.specs.declared.pairs.Pairings as TablesOf
+use Rattle.merge.specs.Buffer.{baseIn, oursIn, theirsIn}
+use Rattle.merge.specs.Private.{rowsBy, rowsBytes, Appended, tablesIn, pairingsIn}
+use Rattle.merge.specs.declared.pairings.Pairings as TablesOf
+use Rattle.merge.specs.declared.questions.Sizes.{Sizes}
 use Rattle.merge.proofs.Bytes.{rows-length}
 use Rattle.merge.proofs.Paired.{front-free}
 use Rattle.merge.proofs.Places.{noRow, Shows, rowCount, rows-count, base-row, ours-row, theirs-row, Place, of-base, of-ours, of-theirs, laid}
@@ -28,11 +28,15 @@ selected-ext (suc n) s t f g e h =
     let before = selected-ext n s t f g (λ i k. e i (omega arith)) (λ i k. h i (omega arith)) in
     λ x. before x ++ cond (e n (omega arith) x) (h n (omega arith) x ∷ []) []
 
-pub rows-front : (v : ℕ → ℕ → ℕ → ℕ) (p : TablesOf.Pairings) (m n l : ℕ) → rowsOf v (tablesIn p) m n l ≡ rowsOf v (pairingsIn p m n l) m n l
+pub rows-front : (v : ℕ → ℕ → ℕ → ℕ) (p : TablesOf.Pairings) (sizes : Sizes)
+    → rowsBy v p sizes ≡ rowsOf v (pairingsIn p sizes) (sizes .base) (sizes .ours) (sizes .theirs)
 unfolding rowsOf
-rows-front v p m n l =
+rows-front v p sizes =
+    let m = sizes .base in
+    let n = sizes .ours in
+    let l = sizes .theirs in
     let whole = tablesIn p in
-    let fronts = pairingsIn p m n l in
+    let fronts = pairingsIn p sizes in
     let partner : (table : List ℕ) (k i : ℕ) → i < k → getD table i 0 ≡ _ = λ table k i h. sym (getD-take k table i 0 h) in
     let first = partner (whole .baseOurs .firsts) m in
     let second = partner (whole .baseTheirs .firsts) m in

@@ -15,9 +15,9 @@ use Rattle.kernel.proofs.Lists.{length-over, over-none, over-over, over-more}
 use Rattle.tracks.proofs.Slices.Lists.{flatMap-append}
 use Rattle.kernel.proofs.Lists.{length-tabulate, tabulate-more}
 use Rattle.merge.proofs.Bytes.{rows-length, rest-byte}
-use Rattle.merge.proofs.Writing.{selected-few}
+use Rattle.merge.proofs.RowNumbers.{selected-few}
 use Rattle.merge.specs.Rows.{Row, rowBytes, verdict, Equal, selected}
-use Rattle.merge.specs.Steps.{rowsBytes, onlyIf, Appended, RowsRoom}
+use Rattle.merge.specs.Private.{rowsBytes, onlyIf, Appended, RowsRoom}
 
 pub appended-length : {rows : List Row} {at r : ℕ} {old new : List ℕ} → Appended rows at old r new → 4 * (at + length rows) ≤ length old → length new ≡ length old
 appended-length {rows} {at} {r} {old} a h = ap length (a .bytes) ∙ length-over old (4 * at) (rowsBytes rows) (omega (arith, rows-length rows))

@@ -1,7 +1,7 @@
 pub mod Candidates
 pub mod Located
 pub mod Groups
-pub mod Counting
+pub mod HowMany
 pub mod Bytes
 pub mod Partners
 pub mod Places
@@ -13,7 +13,7 @@ pub mod Meaning
 pub mod AcceptedLists
 pub mod Demand3
 pub mod Tracks
-pub mod Writing
+pub mod RowNumbers
 pub mod Comparing
 pub mod Paired
 pub mod Sequences

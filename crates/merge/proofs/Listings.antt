@@ -8,7 +8,8 @@ use mathlib.Core.List.{List}
 use lib.Dec.{T}
 use Rattle.pairing.specs.Pairing.{Pairs}
 use Rattle.pairing.specs.Keys.{nobody}
-use Rattle.merge.specs.Demand3.{baseIn, oursIn, theirsIn, ExactlyOne, TrackOrNone}
+use Rattle.merge.specs.Buffer.{baseIn, oursIn, theirsIn, TrackOrNone}
+use Rattle.merge.specs.Demand3.{ExactlyOne}
 
 -- the rows of a buffer hold m, n and l tracks, and show the pairs of base with ours, base with theirs, and ours with theirs
 pub record Listing (m n l : ℕ) (bo bt ot : Pairs) (buffer : List ℕ) (rows : ℕ) : Type 0 where

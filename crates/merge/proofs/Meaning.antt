@@ -16,7 +16,7 @@ use Rattle.pairing.proofs.Tests.{both, left, right, or-left, or-right, or-cases
 use Rattle.pairing.proofs.Keys.{of-index, to-index}
 use Rattle.pairing.proofs.Stable.{paired-stable, others-blocked}
 use Rattle.merge.specs.Tracks.{trackCount, trackAt, equalTracks}
-use Rattle.merge.specs.Candidates.{comparison, isNear, byDistance, candidatesOf, CandidatePair, EarlierPair}
+use Rattle.merge.specs.Candidates.{comparison, candidacyOf, candidacy, isCandidate, rank, byRank, candidatesOf, CandidatePair, EarlierPair}
 use Rattle.merge.specs.Demand3.{OnlyUnblocked}
 
 pub equal-fields : (c d : TrackList) (i j : ℕ) → T (equalTracks c i d j) ↔ (trackAt c i ≡ trackAt d j)
@@ -26,13 +26,14 @@ equal-fields c d i j = (
   λ e. subst (λ (t : Track). T (sameBytes (trackAt c i .values) (t .values))) e (rw (same-refl (trackAt c i .values)) tt),
 )
 
-near-is : (x : Comparison) → T (isNear x) → (d2 : Float) × (x ≡ Near d2)
+near-is : (x : Comparison) → T (isCandidate (candidacyOf x)) → (d2 : Float) × (x ≡ Near d2)
 near-is (Near d2) t = (d2, refl)
 near-is (Far d2) t = absurd t
 near-is NoDistance t = absurd t
 
 module _ (c d : TrackList) (floor gate : Float) where
   pub near-pairs : (p : Pair) → In (candidatesOf c d floor gate .candidate) p ↔ CandidatePair c d floor gate p
+  unfolding candidacy
   near-pairs p = (forth, back)
     where
       a : Bool
@@ -42,7 +43,7 @@ module _ (c d : TrackList) (floor gate : Float) where
       b = ltb (p .second) (trackCount d)
 
       near : Bool
-      near = isNear (comparison c d floor gate (p .first) (p .second))
+      near = isCandidate (candidacy c d floor gate (p .first) (p .second))
 
       forth : T (a && b && near) → CandidatePair c d floor gate p
       forth t =
@@ -52,11 +53,11 @@ module _ (c d : TrackList) (floor gate : Float) where
       back : CandidatePair c d floor gate p → T (a && b && near)
       back w =
           both (a && b) near (both a b (lt→ltb (p .first) (trackCount c) (w .0)) (lt→ltb (p .second) (trackCount d) (w .1)))
-          (subst (λ (x : Comparison). T (isNear x)) (sym (w .2 .1)) tt)
+          (subst (λ (x : Comparison). T (isCandidate (candidacyOf x))) (sym (w .2 .1)) tt)
 
   pub nearest-first : (p q : Pair) → In (candidatesOf c d floor gate .candidate) p → In (candidatesOf c d floor gate .candidate) q
       → T (candidatesOf c d floor gate .earlier p q) ↔ EarlierPair c d floor gate p q
-  unfolding byDistance
+  unfolding byRank candidacy
   nearest-first p q s t = (forth (near-pairs p .0 s .2) (near-pairs q .0 t .2), back)
     where
       index : Bool
@@ -65,10 +66,10 @@ module _ (c d : TrackList) (floor gate : Float) where
       of : ℕ → ℕ → Comparison
       of = comparison c d floor gate
 
-      forth : (x : Float) × (of (p .first) (p .second) ≡ Near x) → (y : Float) × (of (q .first) (q .second) ≡ Near y) → T (byDistance of p q) → EarlierPair c d floor gate p q
+      forth : (x : Float) × (of (p .first) (p .second) ≡ Near x) → (y : Float) × (of (q .first) (q .second) ≡ Near y) → T (byRank (candidacy c d floor gate) p q) → EarlierPair c d floor gate p q
       forth (x, e) (y, f) u = (x, y, e, f, ⊎-elim inl (λ v. inr (left (eq x y) index v, of-index p q (right (eq x y) index v))) (or-cases (lt x y) (eq x y && index) (rw (e, f) at u)))
 
-      back : EarlierPair c d floor gate p q → T (byDistance of p q)
+      back : EarlierPair c d floor gate p q → T (byRank (candidacy c d floor gate) p q)
       back (x, y, e, f, h) = rw (e, f) (go h)
         where
           go : T (lt x y) ⊎ (T (eq x y) × ((p .first < q .first) ⊎ ((p .first ≡ q .first) × (p .second < q .second)))) → T (lt x y || (eq x y && index))

@@ -7,8 +7,8 @@ use mathlib.Core.List.{List}
 use borrow.Author.Tests.{ne-eqb}
 use Rattle.pairing.specs.Keys.{nobody}
 use Rattle.merge.specs.Rows.{Pairings, withoutBase, remaining}
-use Rattle.merge.specs.Demand3.{baseIn, oursIn, theirsIn, group, leading, Before}
-use Rattle.merge.proofs.Counting.{rank-below, rank-rises}
+use Rattle.merge.specs.Buffer.{baseIn, oursIn, theirsIn, group, leading, Before}
+use Rattle.merge.proofs.HowMany.{rank-below, rank-rises}
 use Rattle.merge.proofs.Places.{rowCount, Place, of-base, of-ours, of-theirs}
 use Rattle.merge.proofs.Standing.{Given}
 

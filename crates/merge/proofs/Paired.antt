@@ -18,14 +18,15 @@ use Rattle.tracks.specs.Calls.{doubles}
 use Rattle.pairing.specs.Pairing.{Candidates}
 use Rattle.pairing.specs.Keys.{nobody, fromKeys, firstPartners, secondPartners}
 use Rattle.pairing.specs.Search.{isFree, nobodies}
-use Rattle.merge.specs.Tracks.{trackCount, trackAt}
-use Rattle.merge.specs.Candidates.{comparison, candidatesOf, among, keysAmong}
+use Rattle.merge.specs.Tracks.{ThreeLists, trackCount, trackAt}
+use Rattle.merge.specs.Candidates.{comparison, candidacy, candidatesOf, among}
 use Rattle.merge.specs.Rows.{Partners}
 use Rattle.merge.specs.Merge.{partnersIn, pairingsOf}
-use Rattle.merge.specs.PairSteps.{keysBetween, partnersOf, partnersBetween, pairingsIn, pairedValues}
+use Rattle.merge.specs.Private.{SizesOf, keysBetween, partnersOf, partnersBetween, pairingsIn, pairedValues}
 use Rattle.merge.specs.declared.keys.Terms.{Terms}
-use Rattle.merge.specs.declared.pairs.Partners as TableOf
-use Rattle.merge.proofs.Candidates.{keyed-partners, all-keyed-partners}
+use Rattle.merge.specs.declared.questions.Sizes.{Sizes}
+use Rattle.merge.specs.declared.pairings.Partners as TableOf
+use Rattle.merge.proofs.Candidates.{keysAmong, keyed-partners, all-keyed-partners}
 
 -- the values of n tracks of f fields are those of a list
 abbrev pub Holds : TrackList → List Float → ℕ → Type 0
@@ -39,7 +40,7 @@ module _ (a b : TrackList) (terms : Terms) (us vs : List Float) (e : terms .d �
   -- the keys by values are those of the lists
   keys-between : (p q : List ℕ) (first second : ℕ → Bool) → ((i : ℕ) → i < trackCount a → isFree p i ≡ first i) → ((j : ℕ) → j < trackCount b → isFree q j ≡ second j)
       → keysBetween terms us p (trackCount a) vs q (trackCount b) ≡ keysAmong a b (terms .floor) (terms .gate) first second
-  unfolding keysAmong comparison
+  unfolding keysAmong comparison candidacy
   keys-between p q first second x y = matrix-ext (trackCount a) (trackCount b) _ _ (λ i j h k. rw (x i h, y j k, hu i h, hv j k, e) refl)
 
   partners-among : (p q : List ℕ)
@@ -56,11 +57,23 @@ module _ (a b : TrackList) (terms : Terms) (us vs : List Float) (e : terms .d �
       (keys-between (nobodies (trackCount a)) (nobodies (trackCount b)) (λ i. true) (λ j. true) (nobody-free (trackCount a)) (nobody-free (trackCount b)))
       ∙ sym (all-keyed-partners a b (terms .floor) (terms .gate))
 
-module _ (b o t : TrackList) (terms : Terms) (us vs ws : List Float) (e : terms .d ≡ b .dimension) (g : terms .d ≡ o .dimension)
-    (hu : Holds b us (terms .f)) (hv : Holds o vs (terms .f)) (hw : Holds t ws (terms .f)) where
-  pub paired-values : pairedValues terms us (trackCount b) vs (trackCount o) ws (trackCount t) ≡ pairingsOf b o t (terms .floor) (terms .gate)
+module _ (lists : ThreeLists) (terms : Terms) (us vs ws : List Float) (e : terms .d ≡ lists .base .dimension) (g : terms .d ≡ lists .ours .dimension)
+    (hu : Holds (lists .base) us (terms .f)) (hv : Holds (lists .ours) vs (terms .f)) (hw : Holds (lists .theirs) ws (terms .f)) where
+  abbrev b : TrackList
+  b = lists .base
+
+  abbrev o : TrackList
+  o = lists .ours
+
+  abbrev t : TrackList
+  t = lists .theirs
+
+  abbrev sizes-with : ℕ → ℕ → ℕ → Sizes
+  sizes-with m n l = record { base = m; ours = n; theirs = l; dimension = terms .d }
+
+  counted : pairedValues terms us vs ws (sizes-with (trackCount b) (trackCount o) (trackCount t)) ≡ pairingsOf lists (terms .floor) (terms .gate)
   unfolding pairingsOf
-  paired-values =
+  counted =
       let third : Partners → Partners → Partners = λ x y. partnersBetween terms vs (x .seconds) (trackCount o) ws (y .seconds) (trackCount t) in
       let p = partners-all b o terms us vs e hu hv in
       let q = partners-all b t terms us ws e hu hw in
@@ -68,6 +81,9 @@ module _ (b o t : TrackList) (terms : Terms) (us vs ws : List Float) (e : terms 
       let bt = partnersIn (candidatesOf b t (terms .floor) (terms .gate)) in
       let r = (λ x. third (p x) (q x)) ∙ partners-among o t terms vs ws g hv hw (bo .seconds) (bt .seconds) in
       λ x. record { baseOurs = p x; baseTheirs = q x; oursTheirs = r x }
+
+  pub paired-values : (sizes : Sizes) → SizesOf lists sizes → pairedValues terms us vs ws sizes ≡ pairingsOf lists (terms .floor) (terms .gate)
+  paired-values sizes s = (λ x. pairedValues terms us vs ws (sizes-with (s .of-base x) (s .of-ours x) (s .of-theirs x))) ∙ counted
 
 -- ---- tables
 
@@ -114,11 +130,20 @@ module _ (terms : Terms) where
   between us vs p q p' q' m n keys t x y e h =
       h ∙ ap (λ (k : List Float). partnersIn (fromKeys k m n)) (e ∙ matrix-ext m n _ _ (λ i j hi hj. rw (x i hi, y j hj) refl))
 
-  module _ (us vs ws : List Float) (m n l : ℕ) (hm : m ≤ 32) (hn : n ≤ 32) (hl : l ≤ 32) (bo bt ot : TableOf.Partners) (k1 k2 k3 : List Float) where
+  module _ (us vs ws : List Float) (sizes : Sizes) (hm : sizes .base ≤ 32) (hn : sizes .ours ≤ 32) (hl : sizes .theirs ≤ 32) (bo bt ot : TableOf.Partners) (k1 k2 k3 : List Float) where
+    abbrev m : ℕ
+    m = sizes .base
+
+    abbrev n : ℕ
+    n = sizes .ours
+
+    abbrev l : ℕ
+    l = sizes .theirs
+
     pub all-paired : take (m * n) k1 ≡ keysBetween terms us new m vs new n → partnersOf bo m n ≡ partnersIn (fromKeys (take (m * n) k1) m n)
         → take (m * l) k2 ≡ keysBetween terms us new m ws new l → partnersOf bt m l ≡ partnersIn (fromKeys (take (m * l) k2) m l)
         → take (n * l) k3 ≡ keysBetween terms vs (bo .seconds) n ws (bt .seconds) l → partnersOf ot n l ≡ partnersIn (fromKeys (take (n * l) k3) n l)
-        → pairingsIn (record { «base_ours» = bo; «base_theirs» = bt; «ours_theirs» = ot }) m n l ≡ pairedValues terms us m vs n ws l
+        → pairingsIn (record { «base_ours» = bo; «base_theirs» = bt; «ours_theirs» = ot }) sizes ≡ pairedValues terms us vs ws sizes
     all-paired e1 h1 e2 h2 e3 h3 =
         let third : Partners → Partners → Partners = λ x y. partnersBetween terms vs (x .seconds) n ws (y .seconds) l in
         let p = between us vs new new (nobodies m) (nobodies n) m n (take (m * n) k1) bo (λ i k. new-free m i hm k) (λ j k. new-free n j hn k) e1 h1 in

@@ -18,7 +18,7 @@ use Rattle.pairing.proofs.Stable.{paired-stable}
 use Rattle.merge.specs.Candidates.{among}
 use Rattle.merge.specs.Rows.{Partners, partnerOf}
 use Rattle.merge.specs.Merge.{partnersIn}
-use Rattle.merge.specs.Demand3.{TrackOrNone}
+use Rattle.merge.specs.Buffer.{TrackOrNone}
 
 -- m first and n second tracks with the partners of p are paired as in s
 pub record Tabled (m n : ℕ) (p : Partners) (s : Pairs) : Type 0 where

@@ -12,8 +12,8 @@ use lib.Seq.{getD-append-add}
 use Rattle.kernel.specs.Lists.{tabulate, over}
 use Rattle.kernel.proofs.Lists.{length-tabulate, getD-tabulate}
 use Rattle.merge.specs.Rows.{Row, rowBytes, Pairings, selected, withoutBase, remaining, baseRow, oursRow, theirsRow, rowsOf}
-use Rattle.merge.specs.Demand3.{baseIn, oursIn, theirsIn, verdictIn, howMany}
-use Rattle.merge.proofs.Counting.{rank-below, rank-found, length-selected, getD-selected}
+use Rattle.merge.specs.Buffer.{baseIn, oursIn, theirsIn, verdictIn, howMany}
+use Rattle.merge.proofs.HowMany.{rank-below, rank-found, length-selected, getD-selected}
 use Rattle.merge.proofs.Bytes.{rows-length, row-byte, front-byte}
 
 -- row r of the buffer is w

@@ -1,5 +1,5 @@
--- What `read_with_offsets` leaves in room for the largest list (`list-told`), what three such answers tell (`three-told`), and what follows lists that are read (`read-on`).
-use Prim.Native.Nat.{ℕ, _+_, _*_, _≤_}
+-- What `read_with_offsets` leaves in room for the largest list (`list-told`), what three such answers tell (`three-told`), and that lists which are read are accepted (`all-accepted`).
+use Prim.Native.Nat.{ℕ, _+_, _*_, _<_, _≤_}
 use native.Mathlib.Omega.{arith}
 use native.Mathlib.Nat.{mul-le-mul-right}
 use mathlib.Core.Path.{_≡_, refl, sym, ap, _∙_}
@@ -24,13 +24,13 @@ use Rattle.tracks.proofs.Reading.Accepted.{contents-met, dimension-small}
 use Rattle.tracks.proofs.Reading.Known.{read-accepted, read-refused}
 use Rattle.tracks.proofs.Reading.Offsets.{placed-fits, placed-refused}
 use Rattle.tracks.proofs.RoundTrip.BothWays.{accepted-fit, joined-fit}
-use Rattle.merge.specs.Tracks.{trackCount}
-use Rattle.merge.specs.Rows.{Row}
-use Rattle.merge.specs.Merge.{afterMerge, oneDimension}
-use Rattle.merge.specs.Steps.{heldIn, held, Located, Read, AllRead, threeOf, afterThree}
-use Rattle.merge.specs.declared.lists.Three.{Three}
-use Rattle.merge.specs.declared.lists.Three.the-variants.{Accepted, Refused}
-use Rattle.merge.specs.declared.Merged.{Merged}
+use Rattle.merge.specs.Tracks.{ThreeLists, trackCount, trackAt}
+use Rattle.merge.specs.Merge.{oneDimension, acceptedLists}
+use Rattle.merge.specs.Private.{heldIn, held, heldThree, Located, threeOf}
+use Rattle.merge.specs.declared.questions.Accepted.{Accepted}
+use Rattle.merge.specs.declared.questions.Accepted.the-variants as accepted
+use Rattle.merge.specs.declared.questions.Sizes.{Sizes}
+use Rattle.merge.specs.declared.verdict.Offsets.{Offsets}
 use Rattle.merge.proofs.Tracks.{values-read}
 
 -- ---- the largest list has room
@@ -49,6 +49,13 @@ room-enough : (l : List ℕ) {c : TrackList} → contents l ≡ answered c → r
 room-enough l {c} e = placed-fits l 1728 33 e (values-few l e) (omega (arith, leb-true (trackCount c) 32 (contents-met l e .few)))
 
 -- ---- what is left there
+
+-- a list is read: where its n tracks stand, and the values hold their fields in front
+pub record Read (l offsets : List ℕ) (values : List Float) (n : ℕ) : Type 0 where
+  pub located : Located l offsets
+  pub number : n ≡ trackCount (held l)
+  pub long : length values ≡ 1728
+  pub fields-of : (i : ℕ) → i < n → rowOf values (fields (held l .dimension)) i ≡ doubles (trackAt (held l) i .values)
 
 -- what the answer to a list tells
 pub data Told (l offsets : List ℕ) (values : List Float) : ReadList → Type 0 where
@@ -117,47 +124,55 @@ module _ (l : List ℕ) (values : List Float) (offsets : List ℕ) (hv : length 
 same-test : {x y : ℕ} (c d : TrackList) {b : Bool} → x ≡ c .dimension → y ≡ d .dimension → eqb x y ≡ b → eqb (c .dimension) (d .dimension) ≡ b
 same-test c d e f h = (λ z. eqb (sym e z) (sym f z)) ∙ h
 
-module _ (base ours theirs bo oo to : List ℕ) (bv ov tv : List Float) where
-  -- what an answer to all three tells
-  abbrev pub Tells : Three → Type 0
-  Tells (Accepted m n l d) = AllRead base bo bv ours oo ov theirs to tv m n l d
-  Tells (Refused q) = (rest : TrackList → TrackList → TrackList → Outcome (List Row)) → afterThree base ours theirs rest ≡ refused q
+-- three lists of these sizes are read
+pub record AllRead (base ours theirs : List ℕ) (offsets : Offsets) (base-values ours-values theirs-values : List Float) (sizes : Sizes) : Type 0 where
+  pub of-base : Read base (offsets .base) base-values (sizes .base)
+  pub of-ours : Read ours (offsets .ours) ours-values (sizes .ours)
+  pub of-theirs : Read theirs (offsets .theirs) theirs-values (sizes .theirs)
+  pub base-dimension : sizes .dimension ≡ held base .dimension
+  pub ours-dimension : sizes .dimension ≡ held ours .dimension
+  pub theirs-dimension : sizes .dimension ≡ held theirs .dimension
 
-  pub three-told : {b o t : ReadList} → Told base bo bv b → Told ours oo ov o → Told theirs to tv t → Tells (threeOf b o t)
-  three-told (was-refused e) y z = λ rest. rw e refl
-  three-told (was-read r e) (was-refused f) z = λ rest. rw (r .located .accepted, f) refl
-  three-told (was-read r e) (was-read s f) (was-refused g) = λ rest. rw (r .located .accepted, s .located .accepted, g) refl
-  three-told (was-read {n = m} {d = d} r e) (was-read {n = n} {d = ours-d} s f) (was-read {n = l} {d = theirs-d} t g) = go (eqb d ours-d) (eqb d theirs-d) refl refl
-    where
-      refused-17 : oneDimension (held base) (held ours) (held theirs) ≡ false → (rest : TrackList → TrackList → TrackList → Outcome (List Row)) → afterThree base ours theirs rest ≡ refused 17
-      refused-17 h rest = rw (r .located .accepted, s .located .accepted, t .located .accepted, h) refl
+module _ (base ours theirs : List ℕ) where
+  -- lists of one dimension are accepted
+  pub all-accepted : {offsets : Offsets} {bv ov tv : List Float} {sizes : Sizes} → AllRead base ours theirs offsets bv ov tv sizes
+      → acceptedLists base ours theirs ≡ answered (heldThree base ours theirs)
+  unfolding acceptedLists
+  all-accepted a =
+      rw (
+        a .of-base .located .accepted,
+        a .of-ours .located .accepted,
+        a .of-theirs .located .accepted,
+        eq-eqb (held base .dimension) (held ours .dimension) (sym (a .base-dimension) ∙ a .ours-dimension),
+        eq-eqb (held base .dimension) (held theirs .dimension) (sym (a .base-dimension) ∙ a .theirs-dimension),
+      ) refl
 
-      go : (x y : Bool) → eqb d ours-d ≡ x → eqb d theirs-d ≡ y → Tells (cond (x && y) (Accepted m n l d) (Refused 17))
-      go true true p q = record {
-        of-base = r;
-        of-ours = s;
-        of-theirs = t;
-        base-dimension = e;
-        ours-dimension = eqb-true d ours-d p ∙ f;
-        theirs-dimension = eqb-true d theirs-d q ∙ g;
-      }
-      go false y p q = refused-17 (ap (λ (b : Bool). b && eqb (held base .dimension) (held theirs .dimension)) (same-test (held base) (held ours) e f p))
-      go true false p q =
-          refused-17 (ap (λ (b : Bool). b && eqb (held base .dimension) (held theirs .dimension)) (same-test (held base) (held ours) e f p) ∙ same-test (held base) (held theirs) e g q)
+  module _ (bo oo to : List ℕ) (bv ov tv : List Float) where
+    -- what an answer to all three tells
+    abbrev pub Tells : Accepted → Type 0
+    Tells (accepted.Lists sizes) = AllRead base ours theirs (record { base = bo; ours = oo; theirs = to }) bv ov tv sizes
+    Tells (accepted.Refused q) = acceptedLists base ours theirs ≡ refused q
 
--- ---- what follows them
+    pub three-told : {b o t : ReadList} → Told base bo bv b → Told ours oo ov o → Told theirs to tv t → Tells (threeOf b o t)
+    unfolding acceptedLists
+    three-told (was-refused e) y z = rw e refl
+    three-told (was-read r e) (was-refused f) z = rw (r .located .accepted, f) refl
+    three-told (was-read r e) (was-read s f) (was-refused g) = rw (r .located .accepted, s .located .accepted, g) refl
+    three-told (was-read {n = m} {d = d} r e) (was-read {n = n} {d = ours-d} s f) (was-read {n = l} {d = theirs-d} t g) = go (eqb d ours-d) (eqb d theirs-d) refl refl
+      where
+        refused-17 : oneDimension (heldThree base ours theirs) ≡ false → acceptedLists base ours theirs ≡ refused 17
+        refused-17 h = rw (r .located .accepted, s .located .accepted, t .located .accepted, h) refl
 
-module _ (base ours theirs old : List ℕ) (k : TrackList → TrackList → TrackList → Outcome (List Row)) where
-  pub read-on : {bo oo to : List ℕ} {bv ov tv : List Float} {m n l d : ℕ} {x : Merged × List ℕ} → AllRead base bo bv ours oo ov theirs to tv m n l d
-      → x ≡ afterMerge (k (held base) (held ours) (held theirs)) old → x ≡ afterMerge (afterThree base ours theirs k) old
-  read-on a p = p ∙ ap (λ (o : Outcome (List Row)). afterMerge o old) (sym met)
-    where
-      met : afterThree base ours theirs k ≡ k (held base) (held ours) (held theirs)
-      met =
-          rw (
-            a .of-base .located .accepted,
-            a .of-ours .located .accepted,
-            a .of-theirs .located .accepted,
-            eq-eqb (held base .dimension) (held ours .dimension) (sym (a .base-dimension) ∙ a .ours-dimension),
-            eq-eqb (held base .dimension) (held theirs .dimension) (sym (a .base-dimension) ∙ a .theirs-dimension),
-          ) refl
+        go : (x y : Bool) → eqb d ours-d ≡ x → eqb d theirs-d ≡ y
+            → Tells (cond (x && y) (accepted.Lists (record { base = m; ours = n; theirs = l; dimension = d })) (accepted.Refused 17))
+        go true true p q = record {
+          of-base = r;
+          of-ours = s;
+          of-theirs = t;
+          base-dimension = e;
+          ours-dimension = eqb-true d ours-d p ∙ f;
+          theirs-dimension = eqb-true d theirs-d q ∙ g;
+        }
+        go false y p q = refused-17 (ap (λ (b : Bool). b && eqb (held base .dimension) (held theirs .dimension)) (same-test (held base) (held ours) e f p))
+        go true false p q =
+            refused-17 (ap (λ (b : Bool). b && eqb (held base .dimension) (held theirs .dimension)) (same-test (held base) (held ours) e f p) ∙ same-test (held base) (held theirs) e g q)

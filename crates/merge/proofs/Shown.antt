@@ -9,8 +9,8 @@ use Rattle.pairing.specs.Pairing.{Pairs}
 use Rattle.pairing.specs.Keys.{nobody}
 use Rattle.pairing.proofs.Tests.{alike}
 use Rattle.merge.specs.Rows.{Partners, Pairings, partnerOf, withoutBase, baseRow}
-use Rattle.merge.specs.Demand3.{baseIn, oursIn, theirsIn, TrackOrNone, howMany, baseWithOurs, baseWithTheirs, oursWithTheirs}
-use Rattle.merge.proofs.Counting.{rank-below}
+use Rattle.merge.specs.Buffer.{baseIn, oursIn, theirsIn, TrackOrNone, howMany, baseWithOurs, baseWithTheirs, oursWithTheirs}
+use Rattle.merge.proofs.HowMany.{rank-below}
 use Rattle.merge.proofs.Columns.{RowWith, found-base-ours, found-base-theirs, found-ours-theirs, base-ours-shown, base-theirs-shown, ours-theirs-shown}
 use Rattle.merge.proofs.Partners.{Tabled, first-is, first-pair, first-index}
 use Rattle.merge.proofs.Places.{Shows, rowCount, Place, of-base, of-ours, of-theirs}

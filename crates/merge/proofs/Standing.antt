@@ -12,8 +12,9 @@ use Rattle.pairing.specs.Keys.{nobody}
 use Rattle.pairing.specs.Search.{isFree}
 use Rattle.pairing.proofs.Tests.{both, left, right, or-left, or-right}
 use Rattle.merge.specs.Rows.{isTrack, Pairings, partnerOf, withoutBase, remaining, rowAt}
-use Rattle.merge.specs.Demand3.{baseIn, oursIn, theirsIn, verdictIn, ExactlyOne, TrackOrNone, howMany}
-use Rattle.merge.proofs.Counting.{rank-below}
+use Rattle.merge.specs.Buffer.{baseIn, oursIn, theirsIn, verdictIn, TrackOrNone, howMany}
+use Rattle.merge.specs.Demand3.{ExactlyOne}
+use Rattle.merge.proofs.HowMany.{rank-below}
 use Rattle.merge.proofs.Columns.{is-track}
 use Rattle.merge.proofs.Partners.{Tabled, first-is, first-pair, first-index}
 use Rattle.merge.proofs.Places.{Shows, oursRows, rowCount, Place, of-base, of-ours, of-theirs, Laid}

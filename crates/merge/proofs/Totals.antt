@@ -12,8 +12,9 @@ use borrow.Author.Tests.{ne-eqb, lt-ltb, le-ltb}
 use Rattle.kernel.specs.Lists.{over}
 use Rattle.pairing.specs.Keys.{nobody}
 use Rattle.merge.specs.Rows.{Row, rowBytes, isTrack, tracksAmong, rowsWith, Pairings, withoutBase, remaining}
-use Rattle.merge.specs.Demand3.{baseIn, oursIn, theirsIn, tracksIn, howMany, ExactlyOne, TrackOrNone}
-use Rattle.merge.proofs.Counting.{howMany-ext, howMany-most, howMany-indices}
+use Rattle.merge.specs.Buffer.{baseIn, oursIn, theirsIn, tracksIn, howMany, TrackOrNone}
+use Rattle.merge.specs.Demand3.{ExactlyOne}
+use Rattle.merge.proofs.HowMany.{howMany-ext, howMany-most, howMany-indices}
 use Rattle.merge.proofs.Places.{noRow, shown, rowCount}
 use Rattle.merge.proofs.Standing.{Given, each-base, each-ours, each-theirs, base-index, ours-index, theirs-index, some-track}
 

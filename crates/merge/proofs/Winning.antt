@@ -23,7 +23,7 @@ use Rattle.tracks.proofs.Reading.Offsets.{placing-fits, placing-refused}
 use Rattle.tracks.proofs.Records.Walk.{record-part, reader-next, offset-within, offsets-stored}
 use Rattle.merge.specs.Tracks.{trackCount}
 use Rattle.merge.specs.Rows.{takeOurs, takeTheirs}
-use Rattle.merge.specs.Steps.{heldIn, held, Located}
+use Rattle.merge.specs.Private.{heldIn, held, Located}
 use Rattle.merge.specs.Winner.{placeBeside, placeIn, inOurs, inTheirs, winning}
 use Rattle.merge.specs.declared.winner.Place.{Place}
 use Rattle.merge.specs.declared.winner.Place.the-variants.{At, Nowhere}

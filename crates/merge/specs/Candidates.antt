@@ -1,13 +1,12 @@
--- The candidates of document 01, "Pairing and rows": which pairs of tracks are near, and which of two such pairs comes earlier. Both follow from the two lists,
--- the floor and the gate alone. What a candidate is and how candidates are ordered stands in this file only.
+-- The candidates of a pairing: which pairs of tracks may be paired, and which of two such pairs comes earlier. Both follow from what two tracks are to each other, which
+-- stands in this file only (`candidacy`), and so from the two lists, the floor and the gate alone.
 use Prim.Native.Nat.{ℕ, _<_}
 use mathlib.Core.Path.{_≡_}
 use mathlib.Core.Logic.{_⊎_}
-use mathlib.Core.Bool.{Bool, true, false, _&&_, _||_, cond}
+use mathlib.Core.Bool.{Bool, true, false, _&&_, _||_}
 use mathlib.Core.List.{List}
 use lib.Dec.{T, ltb}
 use lib.Ieee.{Float, nan, lt, eq}
-use Rattle.dense.specs.Matrix.{matrix}
 use Rattle.tracks.specs.Read.{TrackList}
 use Rattle.tracks.specs.Calls.{doubles}
 use Rattle.compare.specs.Distance.{compared}
@@ -18,6 +17,8 @@ use Rattle.pairing.specs.Pairing.{Pair, Candidates}
 use Rattle.pairing.specs.Keys.{byIndex}
 use Rattle.merge.specs.Tracks.{trackCount, trackAt}
 
+-- ---- two tracks
+
 -- The comparison of track i (mu) of the list a with track j (x) of the list b.
 unfoldable pub comparison : TrackList → TrackList → Float → Float → ℕ → ℕ → Comparison
 comparison a b floor gate i j =
@@ -26,23 +27,38 @@ comparison a b floor gate i j =
     let v = doubles (trackAt b j .values) in
     compared (trackState d u) (trackState d v) (trackCovariance d u) (trackCovariance d v) d floor gate
 
--- Near pairs are candidates.
-abbrev pub isNear : Comparison → Bool
-isNear (Near d2) = true
-isNear (Far d2) = false
-isNear NoDistance = false
+-- What two tracks are to each other in a pairing: no candidate, or a candidate with d².
+pub data Candidacy : Type 0 where
+  noCandidate : Candidacy
+  candidateBy : Float → Candidacy
 
--- d² of a near pair; a NaN marks any other.
-abbrev pub nearSquare : Comparison → Float
-nearSquare (Near d2) = d2
-nearSquare (Far d2) = nan
-nearSquare NoDistance = nan
+-- Near tracks are candidates.
+abbrev pub candidacyOf : Comparison → Candidacy
+candidacyOf (Near d2) = candidateBy d2
+candidacyOf (Far d2) = noCandidate
+candidacyOf NoDistance = noCandidate
 
--- By d², then by first index, then by second. +0 and -0 are equal.
-unfoldable pub byDistance : (ℕ → ℕ → Comparison) → Pair → Pair → Bool
-byDistance of p q =
-    let x = nearSquare (of (p .first) (p .second)) in
-    let y = nearSquare (of (q .first) (q .second)) in
+-- What track i of the list a and track j of the list b are to each other.
+unfoldable pub candidacy : TrackList → TrackList → Float → Float → ℕ → ℕ → Candidacy
+unfolding comparison
+candidacy a b floor gate i j = candidacyOf (comparison a b floor gate i j)
+
+abbrev pub isCandidate : Candidacy → Bool
+isCandidate noCandidate = false
+isCandidate (candidateBy d2) = true
+
+-- What candidates are ordered by: d². A NaN marks any other pair.
+abbrev pub rank : Candidacy → Float
+rank noCandidate = nan
+rank (candidateBy d2) = d2
+
+-- ---- the tracks of two lists
+
+-- By rank, then by first index, then by second. The ranks +0 and -0 are equal.
+unfoldable pub byRank : (ℕ → ℕ → Candidacy) → Pair → Pair → Bool
+byRank of p q =
+    let x = rank (of (p .first) (p .second)) in
+    let y = rank (of (q .first) (q .second)) in
     lt x y || (eq x y && byIndex p q)
 
 -- The candidates between the tracks of two lists, the list named first giving the first index.
@@ -50,19 +66,9 @@ abbrev pub candidatesOf : TrackList → TrackList → Float → Float → Candid
 candidatesOf a b floor gate = record {
   firsts = trackCount a;
   seconds = trackCount b;
-  candidate = λ i j. ltb i (trackCount a) && ltb j (trackCount b) && isNear (comparison a b floor gate i j);
-  earlier = byDistance (comparison a b floor gate);
+  candidate = λ i j. ltb i (trackCount a) && ltb j (trackCount b) && isCandidate (candidacy a b floor gate i j);
+  earlier = byRank (candidacy a b floor gate);
 }
-
--- The same in words: candidates are the near pairs, ..
-abbrev pub CandidatePair : TrackList → TrackList → Float → Float → Pair → Type 0
-CandidatePair a b floor gate p = (p .first < trackCount a) × (p .second < trackCount b) × ((d2 : Float) × (comparison a b floor gate (p .first) (p .second) ≡ Near d2))
-
--- .. ordered by d², then first index, then second; +0 and -0 are equal.
-abbrev pub EarlierPair : TrackList → TrackList → Float → Float → Pair → Pair → Type 0
-EarlierPair a b floor gate p q =
-    (x : Float) × (y : Float) × (comparison a b floor gate (p .first) (p .second) ≡ Near x) × (comparison a b floor gate (q .first) (q .second) ≡ Near y)
-    × (T (lt x y) ⊎ (T (eq x y) × ((p .first < q .first) ⊎ ((p .first ≡ q .first) × (p .second < q .second)))))
 
 -- Those of some candidates whose two tracks are kept, in the same order.
 abbrev pub among : Candidates → (ℕ → Bool) → (ℕ → Bool) → Candidates
@@ -73,11 +79,14 @@ among g first second = record {
   earlier = g .earlier;
 }
 
--- No track is left out.
-abbrev pub everyone : ℕ → Bool
-everyone i = true
+-- ---- the same in words
 
--- The keys of the candidates whose two tracks are kept, as `pair_tracks` takes them: a double for each pair, in rows, and a NaN for what is no candidate.
-unfoldable pub keysAmong : TrackList → TrackList → Float → Float → (ℕ → Bool) → (ℕ → Bool) → List Float
-keysAmong a b floor gate first second =
-    matrix (trackCount a) (trackCount b) (λ i j. let key = nearSquare (comparison a b floor gate i j) in cond (first i && second j) key nan)
+-- The pair is a candidate: its two tracks are there, and they are near.
+abbrev pub CandidatePair : TrackList → TrackList → Float → Float → Pair → Type 0
+CandidatePair a b floor gate p = (p .first < trackCount a) × (p .second < trackCount b) × ((d2 : Float) × (comparison a b floor gate (p .first) (p .second) ≡ Near d2))
+
+-- The candidate p comes earlier than the candidate q: its d² is less, or they are equal (a zero's sign plays no part) and its indices come first.
+abbrev pub EarlierPair : TrackList → TrackList → Float → Float → Pair → Pair → Type 0
+EarlierPair a b floor gate p q =
+    (x : Float) × (y : Float) × (comparison a b floor gate (p .first) (p .second) ≡ Near x) × (comparison a b floor gate (q .first) (q .second) ≡ Near y)
+    × (T (lt x y) ⊎ (T (eq x y) × ((p .first < q .first) ⊎ ((p .first ≡ q .first) × (p .second < q .second)))))

@@ -15,9 +15,9 @@ use Rattle.compare.specs.Distance.{compared, floorAndGate}
 use Rattle.compare.specs.Fields.{trackCovariance}
 use Rattle.pairing.specs.Keys.{byIndex, firstPartners, secondPartners}
 use Rattle.merge.specs.Tracks.{equalTracks}
-use Rattle.merge.specs.Candidates.{comparison, byDistance}
+use Rattle.merge.specs.Candidates.{comparison, candidacy, byRank}
 use Rattle.merge.specs.Rows.{Row, rowsWith, verdict, verdictOn, tracksAmong, selected, rowsOf}
-use Rattle.merge.specs.Merge.{partnersIn, pairingsOf, mergedRows, merging, afterMerge}
+use Rattle.merge.specs.Merge.{partnersIn, pairingsOf, mergedRows, acceptedLists, mergedLists, MergedLists, merging, afterMerge}
 use Rattle.merge.specs.Winner.{placeIn, winning, winnerBytes}
 use Rattle.merge.specs.declared.Merged.the-variants.{Counts}
 use Rattle.merge.specs.declared.winner.WinningPart.the-variants.{Nobody, Theirs}
@@ -46,18 +46,18 @@ gate-k = ofBits binary64 0x4030000000000000
 abbrev pub buffer-k : List ℕ
 buffer-k = replicate 33 7
 
-unfoldable pub outcome-k : Outcome (List Row)
-unfolding merging contents floorAndGate mergedRows pairingsOf partnersIn firstPartners secondPartners comparison compared trackCovariance byDistance byIndex rowsOf selected tabulate
+unfoldable pub outcome-k : Outcome MergedLists
+unfolding merging acceptedLists mergedLists contents floorAndGate mergedRows pairingsOf partnersIn firstPartners secondPartners comparison candidacy compared trackCovariance byRank byIndex rowsOf selected tabulate
 outcome-k = merging base-k ours-k theirs-k one gate-k 33
 
 -- The three rows, then the bytes that stay, and two rows with three tracks, one with two.
-pub merge-k : afterMerge outcome-k buffer-k ≡ (Counts 2 1 0, 0 ∷ 0 ∷ 0 ∷ 0 ∷ 1 ∷ 255 ∷ 1 ∷ 3 ∷ 2 ∷ 1 ∷ 2 ∷ 2 ∷ replicate 21 7)
+pub merge-k : afterMerge outcome-k buffer-k ≡ (Counts (record { full = 2; half = 1; single = 0 }), 0 ∷ 0 ∷ 0 ∷ 0 ∷ 1 ∷ 255 ∷ 1 ∷ 3 ∷ 2 ∷ 1 ∷ 2 ∷ 2 ∷ replicate 21 7)
 unfolding outcome-k verdictOn verdict equalTracks sameBytes rowsWith tracksAmong flatMap over word ofBits Ieee.div Ieee.mul Ieee.sub Ieee.add Ieee.lt Ieee.le Ieee.eq Ieee.neg Ieee.isNan
 merge-k = refl
 
 -- A buffer of one byte less than they ask for is refused.
 pub merge-k-short : merging base-k ours-k theirs-k one gate-k 31 ≡ refused 19
-unfolding merging contents floorAndGate word ofBits Ieee.lt Ieee.le
+unfolding merging acceptedLists mergedLists contents floorAndGate word ofBits Ieee.lt Ieee.le
 merge-k-short = refl
 
 -- The last row takes the third record of theirs, the 17 bytes from offset 36 on; the one before it takes none.

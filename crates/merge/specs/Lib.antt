@@ -3,8 +3,8 @@ pub mod Candidates
 pub mod Rows
 pub mod Winner
 pub mod Merge
+pub mod Buffer
 pub mod Demand3
 pub mod Examples
-pub mod Steps
-pub mod PairSteps
 pub mod Ticked
+pub mod Private

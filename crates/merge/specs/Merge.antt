@@ -1,4 +1,4 @@
--- The merge of document 01: its questions in their order, its rows, and what it leaves in the caller's buffer.
+-- The merge: its questions in their order, in two steps, its rows, and what it leaves in the caller's buffer.
 use Prim.Native.Nat.{ℕ, _+_, _*_}
 use mathlib.Core.Bool.{Bool, _&&_}
 use mathlib.Core.List.{List, flatMap}
@@ -6,53 +6,84 @@ use lib.Dec.{eqb, leb}
 use lib.Ieee.{Float}
 use Rattle.kernel.specs.Answer.{Outcome, refused, answered, ask, andThen}
 use Rattle.kernel.specs.Lists.{over}
-use Rattle.tracks.specs.Read.{TrackList, contents}
+use Rattle.tracks.specs.Read.{contents}
 use Rattle.compare.specs.Distance.{floorAndGate}
 use Rattle.pairing.specs.Pairing.{Candidates}
 use Rattle.pairing.specs.Keys.{firstPartners, secondPartners}
 use Rattle.pairing.specs.Search.{isFree}
-use Rattle.merge.specs.Tracks.{trackCount}
+use Rattle.merge.specs.Tracks.{ThreeLists, trackCount}
 use Rattle.merge.specs.Candidates.{candidatesOf, among}
 use Rattle.merge.specs.Rows.{Row, rowBytes, rowsWith, verdictOn, Partners, Pairings, rowsOf}
+use Rattle.merge.specs.declared.Counts.{Counts}
 use Rattle.merge.specs.declared.Merged.{Merged}
-use Rattle.merge.specs.declared.Merged.the-variants.{Counts, Refused}
+use Rattle.merge.specs.declared.Merged.the-variants as merged
+
+-- ---- the pairings and the rows of accepted lists
 
 -- The partners in the pairing of some candidates.
 unfoldable pub partnersIn : Candidates → Partners
 partnersIn g = record { firsts = firstPartners g; seconds = secondPartners g }
 
--- Base with ours, base with theirs, then ours with theirs among those free of base: ours in no base–ours pair and theirs in no base–theirs pair.
-unfoldable pub pairingsOf : TrackList → TrackList → TrackList → Float → Float → Pairings
-pairingsOf b o t floor gate =
-    let bo = partnersIn (candidatesOf b o floor gate) in
-    let bt = partnersIn (candidatesOf b t floor gate) in
-    let ot = partnersIn (among (candidatesOf o t floor gate) (isFree (bo .seconds)) (isFree (bt .seconds))) in
+-- Base is paired with ours and with theirs. What neither pairing gave a base track is left for the third, of ours with theirs.
+unfoldable pub pairingsOf : ThreeLists → Float → Float → Pairings
+pairingsOf lists floor gate =
+    let bo = partnersIn (candidatesOf (lists .base) (lists .ours) floor gate) in
+    let bt = partnersIn (candidatesOf (lists .base) (lists .theirs) floor gate) in
+    let ot = partnersIn (among (candidatesOf (lists .ours) (lists .theirs) floor gate) (isFree (bo .seconds)) (isFree (bt .seconds))) in
     record { baseOurs = bo; baseTheirs = bt; oursTheirs = ot }
 
--- The rows of three accepted lists.
-unfoldable pub mergedRows : TrackList → TrackList → TrackList → Float → Float → List Row
-mergedRows b o t floor gate = rowsOf (verdictOn b o t) (pairingsOf b o t floor gate) (trackCount b) (trackCount o) (trackCount t)
+unfoldable pub mergedRows : ThreeLists → Float → Float → List Row
+mergedRows lists floor gate =
+    rowsOf (verdictOn lists) (pairingsOf lists floor gate) (trackCount (lists .base)) (trackCount (lists .ours)) (trackCount (lists .theirs))
+
+-- ---- the questions
 
 -- Question 17: one dimension in all three.
-abbrev pub oneDimension : TrackList → TrackList → TrackList → Bool
-oneDimension b o t = eqb (b .dimension) (o .dimension) && eqb (b .dimension) (t .dimension)
+abbrev pub oneDimension : ThreeLists → Bool
+oneDimension lists = eqb (lists .base .dimension) (lists .ours .dimension) && eqb (lists .base .dimension) (lists .theirs .dimension)
 
 -- Question 19: the buffer has at least four bytes for each track.
-abbrev pub roomFor : TrackList → TrackList → TrackList → ℕ → Bool
-roomFor b o t room = leb (4 * (trackCount b + trackCount o + trackCount t)) room
+abbrev pub roomFor : ThreeLists → ℕ → Bool
+roomFor lists room = leb (4 * (trackCount (lists .base) + trackCount (lists .ours) + trackCount (lists .theirs))) room
 
--- The merge of three lists into a buffer of some length: questions 9 to 16 of base, of ours and of theirs, then 17 to 19.
-unfoldable pub merging : List ℕ → List ℕ → List ℕ → Float → Float → ℕ → Outcome (List Row)
-merging base ours theirs floor gate room =
+-- The first step, three lists to one dimension: questions 9 to 16 of base, of ours and of theirs, then 17.
+unfoldable pub acceptedLists : List ℕ → List ℕ → List ℕ → Outcome ThreeLists
+acceptedLists base ours theirs =
     andThen (contents base) (λ b.
     andThen (contents ours) (λ o.
     andThen (contents theirs) (λ t.
-    ask 17 (oneDimension b o t)
-    (ask 18 (floorAndGate floor gate)
-    (ask 19 (roomFor b o t room)
-    (answered (mergedRows b o t floor gate)))))))
+    let lists : ThreeLists = record { base = b; ours = o; theirs = t } in
+    ask 17 (oneDimension lists)
+    (answered lists))))
 
--- The answer, how many rows have three, two and one track, and the buffer afterwards: the rows in front, and the rest as it was. A refusal leaves it as it was.
-abbrev pub afterMerge : Outcome (List Row) → List ℕ → Merged × List ℕ
-afterMerge (refused q) old = (Refused q, old)
-afterMerge (answered rows) old = (Counts (rowsWith 3 rows) (rowsWith 2 rows) (rowsWith 1 rows), over old 0 (flatMap rowBytes rows))
+-- What a merge finds: the three lists as they were read, and the rows.
+pub record MergedLists : Type 0 where
+  pub lists : ThreeLists
+  pub rows : List Row
+
+-- The second step, the merge of accepted lists into a buffer of some length: questions 18 and 19.
+unfoldable pub mergedLists : Float → Float → ℕ → ThreeLists → Outcome MergedLists
+mergedLists floor gate room lists =
+    ask 18 (floorAndGate floor gate)
+    (ask 19 (roomFor lists room)
+    (answered (record { lists = lists; rows = mergedRows lists floor gate })))
+
+-- The merge of three lists into a buffer of some length.
+unfoldable pub merging : List ℕ → List ℕ → List ℕ → Float → Float → ℕ → Outcome MergedLists
+unfolding acceptedLists mergedLists
+merging base ours theirs floor gate room = andThen (acceptedLists base ours theirs) (mergedLists floor gate room)
+
+-- ---- what the call answers
+
+-- How many rows have three, two and one track.
+abbrev pub countsOf : List Row → Counts
+countsOf rows = record { full = rowsWith 3 rows; half = rowsWith 2 rows; single = rowsWith 1 rows }
+
+-- The buffer afterwards: the rows in front, and the rest as it was.
+abbrev pub rowsLeft : List Row → List ℕ → List ℕ
+rowsLeft rows old = over old 0 (flatMap rowBytes rows)
+
+-- The answer, and the buffer afterwards. A refusal leaves it as it was.
+abbrev pub afterMerge : Outcome MergedLists → List ℕ → Merged × List ℕ
+afterMerge (refused q) old = (merged.Refused q, old)
+afterMerge (answered m) old = (merged.Counts (countsOf (m .rows)), rowsLeft (m .rows) old)

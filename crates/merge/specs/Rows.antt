@@ -5,10 +5,9 @@ use mathlib.Core.List.{List, [], _∷_, _++_}
 use lib.Dec.{eqb}
 use lib.ListN.{getD}
 use Rattle.kernel.specs.Lists.{tabulate}
-use Rattle.tracks.specs.Read.{TrackList}
 use Rattle.pairing.specs.Keys.{nobody}
 use Rattle.pairing.specs.Search.{isFree}
-use Rattle.merge.specs.Tracks.{equalTracks}
+use Rattle.merge.specs.Tracks.{ThreeLists, equalTracks}
 
 -- ---- verdicts
 
@@ -56,8 +55,11 @@ abbrev pub isTrack : ℕ → Bool
 isTrack i = not (eqb i nobody)
 
 -- The verdict on base track i, track j of ours and track k of theirs.
-unfoldable pub verdictOn : TrackList → TrackList → TrackList → ℕ → ℕ → ℕ → ℕ
-verdictOn b o t i j k =
+unfoldable pub verdictOn : ThreeLists → ℕ → ℕ → ℕ → ℕ
+verdictOn lists i j k =
+    let b = lists .base in
+    let o = lists .ours in
+    let t = lists .theirs in
     verdict (isTrack i) (isTrack j) (isTrack k)
     (record { oursBase = equalTracks o j b i; theirsBase = equalTracks t k b i; oursTheirs = equalTracks o j t k })
 

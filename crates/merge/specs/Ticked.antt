@@ -111,7 +111,7 @@ J =
 abbrev pub K : Type 0
 K =
     afterMerge (merging base-k ours-k theirs-k one gate-k 33) (replicate 33 7)
-    ≡ (Counts 2 1 0, 0 ∷ 0 ∷ 0 ∷ 0 ∷ 1 ∷ 255 ∷ 1 ∷ 3 ∷ 2 ∷ 1 ∷ 2 ∷ 2 ∷ replicate 21 7)
+    ≡ (Counts (record { full = 2; half = 1; single = 0 }), 0 ∷ 0 ∷ 0 ∷ 0 ∷ 1 ∷ 255 ∷ 1 ∷ 3 ∷ 2 ∷ 1 ∷ 2 ∷ 2 ∷ replicate 21 7)
 
 pub record Ticked : Type 0 where
   pub a : A

@@ -6,6 +6,12 @@ use lib.ListN.{length, getD}
 use Rattle.tracks.specs.Read.{Track, TrackList, trackOf}
 use Rattle.tracks.specs.Record.{sameBytes}
 
+-- Base, ours and theirs, as they are read.
+pub record ThreeLists : Type 0 where
+  pub base : TrackList
+  pub ours : TrackList
+  pub theirs : TrackList
+
 -- How many tracks there are: byte 0 of the list.
 abbrev pub trackCount : TrackList → ℕ
 trackCount c = length (c .tracks)

@@ -1,19 +1,19 @@
-// The keys of the pairs of two lists: d² of a pair that is near, a NaN for any other.
+// The keys of the pairs of two lists: what candidates are ordered by, and a NaN for any other pair.
 ghost use mathlib.Core.Path.{_≡_};
 ghost use Prim.Native.Nat.{_*_};
 ghost use lib.Dec.{eqb};
 ghost use lib.Ieee.{nan};
+ghost use lib.ListN.{length};
 ghost use Rattle.kernel.specs.Lists.{tabulate};
 ghost use Rattle.dense.specs.Matrix.{rowOf};
 ghost use Rattle.pairing.specs.Keys.{nobody};
 ghost use Rattle.pairing.specs.Search.{isFree};
-ghost use Rattle.merge.specs.Candidates.{nearSquare};
-ghost use Rattle.merge.specs.PairSteps.{OneKey, SomeKeys, KeyRow, TwoValues, KeysInFront, keyFrom, keyAmong, keysFrom, keysBetween};
-use crate::parts::both_free;
-use compare::Compared;
+ghost use Rattle.merge.specs.Candidates.{candidacyOf, rank};
+ghost use Rattle.merge.specs.Private.{OneKey, SomeKeys, KeyRow, TwoValues, KeysInFront, keyFrom, keyAmong, keysFrom, keysBetween};
+use crate::pairings::both_free;
 use compare::Comparison;
-use compare::compare;
 use compare::fields::whole_covariance;
+use compare::inside::compare_tracks;
 use dense::shape::row;
 
 // What tracks are compared by: their dimension and number of fields, the floor and the gate.
@@ -31,9 +31,9 @@ fn no_key() -> f64
     0.0 / 0.0
 }
 
-// d² of a near pair.
-fn near_square(c: Comparison) -> f64
-    ensures { λ r. ⌜ r ≡ nearSquare c ⌝ }
+// The rank of two tracks that are compared.
+fn rank(c: Comparison) -> f64
+    ensures { λ r. ⌜ r ≡ rank (candidacyOf c) ⌝ }
 {
     match c {
         Comparison::Near(d2) => d2,
@@ -49,29 +49,27 @@ fn key(mu: &[f64], p: &[f64], v: &[f64], terms: Terms, q: &mut [f64]) -> f64
 {
     let d = terms.d;
     whole_covariance(v, d, q);
-    let c = compare(mu, &v[..d], p, q, d, terms.floor, terms.gate);
-    match c {
-        Compared::Answered(c) => near_square(c),
-        Compared::Refused(_) => no_key(),
-    }
+    let c = compare_tracks(mu, &v[..d], p, q, d, terms.floor, terms.gate);
+    let comparison = c.comparison;
+    rank(comparison)
 }
 
-// Writes the keys of one track, with the partner `first` in an earlier pairing, and those of n tracks of the second list.
+// Writes the keys of one track, with the partner `first` in an earlier pairing, and tracks of the second list, as many as there is room for keys.
 fn put_keys(
     mu: &[f64],
     p: &[f64],
     first: u8,
     vs: &[f64],
     partners: [u8; 32],
-    n: usize,
     terms: Terms,
     q: &mut [f64],
     keys: &mut [f64],
 )
-    requires { ⌜ SomeKeys terms (now mu) (now p) (now vs) n (now q) (now keys) ⌝ }
-    ensures { λ _. ⌜ now (keys .exit) ≡ keysFrom terms (eqb first nobody) (now (mu .entry)) (now (p .entry)) (now (vs .entry)) partners n ⌝ }
+    requires { ⌜ SomeKeys terms (now mu) (now p) (now vs) (now q) (now keys) ⌝ }
+    ensures { λ _. ⌜ now (keys .exit) ≡ keysFrom terms (eqb first nobody) (now (mu .entry)) (now (p .entry)) (now (vs .entry)) partners (length (now (keys .entry))) ⌝ }
 {
     let f = terms.f;
+    let n = keys.len();
     for j in 0..n {
         if both_free(first, partners[j]) {
             let v = row(vs, f, j);
@@ -106,7 +104,6 @@ fn key_row(
         first,
         vs,
         partners,
-        n,
         terms,
         &mut q[..size],
         keys,

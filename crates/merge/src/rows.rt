@@ -4,13 +4,13 @@ ghost use mathlib.Core.Path.{_≡_};
 ghost use Prim.Native.Nat.{_+_, _*_, _≤_};
 ghost use lib.ListN.{length};
 ghost use Rattle.kernel.specs.Lists.{over};
-ghost use Rattle.merge.specs.Rows.{rowsOf};
-ghost use Rattle.merge.specs.Steps.{undecided, undecidedRow, rowsBytes, baseGroup, oursGroup, theirsGroup, onlyIf, Appended, RowsRoom, AllRowsRoom, tablesIn};
-use crate::pairs::Pairings;
-use crate::pairs::Partners;
-use crate::parts::both_free;
+ghost use Rattle.merge.specs.Private.{undecided, undecidedRow, rowsBy, rowsBytes, baseGroup, oursGroup, theirsGroup, onlyIf, Appended, RowsRoom, AllRowsRoom};
+use crate::NO_TRACK;
+use crate::pairings::Pairings;
+use crate::pairings::Partners;
+use crate::pairings::both_free;
+use crate::questions::Sizes;
 use crate::verdict::KEEP;
-use pairing::NOBODY;
 
 // Writes row r of three indices, its verdict not yet decided, where it is wanted, and gives the row after it.
 fn put_row(wanted: bool, i: u8, j: u8, k: u8, r: usize, rows: &mut [u8]) -> usize
@@ -54,7 +54,14 @@ fn ours_rows(
     let theirs_of = ours_theirs.firsts;
     let mut r = at;
     for j in 0..n {
-        r = put_row(base_of[j] == NOBODY, NOBODY, j as u8, theirs_of[j], r, rows);
+        r = put_row(
+            base_of[j] == NO_TRACK,
+            NO_TRACK,
+            j as u8,
+            theirs_of[j],
+            r,
+            rows,
+        );
     }
     r
 }
@@ -76,8 +83,8 @@ fn theirs_rows(
     for k in 0..l {
         r = put_row(
             both_free(base_of[k], ours_of[k]),
-            NOBODY,
-            NOBODY,
+            NO_TRACK,
+            NO_TRACK,
             k as u8,
             r,
             rows,
@@ -86,15 +93,15 @@ fn theirs_rows(
     r
 }
 
-// Writes the rows of m, n and l tracks, by the partners of the three pairings, and gives how many there are.
-pub(crate) fn write_rows(p: Pairings, m: usize, n: usize, l: usize, rows: &mut [u8]) -> usize
-    requires { ⌜ AllRowsRoom m n l (now rows) ⌝ }
-    ensures { λ r. ⌜ Appended (rowsOf undecided (tablesIn p) m n l) 0 (now (rows .entry)) r (now (rows .exit)) ⌝ }
+// Writes the rows of lists of these sizes, by the partners of the three pairings, and gives how many there are.
+pub(crate) fn write_rows(p: Pairings, sizes: Sizes, rows: &mut [u8]) -> usize
+    requires { ⌜ AllRowsRoom sizes (now rows) ⌝ }
+    ensures { λ r. ⌜ Appended (rowsBy undecided p sizes) 0 (now (rows .entry)) r (now (rows .exit)) ⌝ }
 {
     let base_ours = p.base_ours;
     let base_theirs = p.base_theirs;
     let ours_theirs = p.ours_theirs;
-    base_rows(base_ours, base_theirs, m, rows);
-    let r = ours_rows(base_ours, ours_theirs, n, m, rows);
-    theirs_rows(base_theirs, ours_theirs, l, r, rows)
+    base_rows(base_ours, base_theirs, sizes.base, rows);
+    let r = ours_rows(base_ours, ours_theirs, sizes.ours, sizes.base, rows);
+    theirs_rows(base_theirs, ours_theirs, sizes.theirs, r, rows)
 }

@@ -1,11 +1,11 @@
 // The winner's bytes: the record that a row's verdict takes, as a part of its list.
 ghost use mathlib.Core.Path.{_≡_};
 ghost use Rattle.merge.specs.Winner.{placeIn, inOurs, inTheirs, winning, winnerBytes, WinnersOwn};
-use crate::parts::track_part;
 use crate::verdict::TAKE_OURS;
 use crate::verdict::TAKE_THEIRS;
 use tracks::read::ReadList;
 use tracks::record::track_offsets;
+use tracks::record::track_record;
 
 // Where a record stands in its list.
 pub(crate) enum Place {
@@ -40,7 +40,7 @@ fn place_in(list: &[u8], other: &[u8], i: usize) -> Place
                 if count <= i {
                     return Place::Nowhere;
                 }
-                let part = track_part(list, &offsets, i);
+                let part = track_record(list, &offsets, i);
                 Place::At {
                     start: offsets[i],
                     length: part.len(),

@@ -1,19 +1,29 @@
--- `merge` meets its contract: the three lists are read, and then merged.
-use mathlib.Core.Path.{refl, sym, ap, subst}
+-- `merge` meets its contract: the three lists are read, and then merged. Demand 3 follows from the first promise.
+use mathlib.Core.Path.{_≡_, refl, sym, ap, subst, _∙_}
+use Prim.Native.Nat.{ℕ, _+_, _*_, _≤_}
 use native.Mathlib.Omega.{arith}
+use mathlib.Core.Bool.{true}
+use mathlib.Core.List.{List}
 use borrow.Author.Needs.{needs}
+use borrow.Author.Tests.{not-true, not-false}
 use denote.Ref.{now}
 use lib.ListN.{length}
-use Rattle.kernel.specs.Answer.{Outcome}
+use Rattle.kernel.specs.Answer.{answered}
 use Rattle.kernel.specs.Bytes.{Bytes}
-use Rattle.tracks.specs.Read.{TrackList}
-use mathlib.Core.List.{List}
-use Rattle.merge.specs.Rows.{Row}
-use Rattle.merge.specs.Merge.{merging, afterMerge}
-use Rattle.merge.specs.Steps.{mergeThree}
-use Rattle.merge.specs.declared.lists.Three.{Three}
-use Rattle.merge.specs.declared.lists.Three.the-variants.{Accepted}
-use Rattle.merge.proofs.Readings.{Tells, list-told, three-told, read-on}
+use Rattle.compare.specs.Distance.{floorAndGate}
+use Rattle.merge.specs.Tracks.{ThreeLists, trackCount}
+use Rattle.merge.specs.Rows.{Row, verdictOn}
+use Rattle.merge.specs.Merge.{acceptedLists, merging, mergedRows, countsOf, rowsLeft, afterMerge}
+use Rattle.merge.specs.Demand3.{Demanded}
+use Rattle.merge.specs.Private.{heldThree, Paired, rowsBy}
+use Rattle.merge.specs.declared.Merged.{Merged}
+use Rattle.merge.specs.declared.questions.Sizes.{Sizes}
+use Rattle.merge.specs.declared.questions.Accepted.{Accepted}
+use Rattle.merge.specs.declared.questions.Accepted.the-variants.{Lists}
+use Rattle.merge.proofs.Asking.{after, asked-18, asked-19, asked-rows, lists-refused, lists-merged}
+use Rattle.merge.proofs.Demand3.{demanded}
+use Rattle.merge.proofs.Merging.{located-of, sizes-of, few-of, comparable, pairs-of, rows-placed}
+use Rattle.merge.proofs.Readings.{Tells, list-told, three-told, all-accepted}
 use Rattle.merge.proofs.merge.Statement.{statement}
 use Rattle.merge.proofs.merge.Tie as tie
 
@@ -33,8 +43,43 @@ third c = c .before .before .before
 abbrev start-of : tie.After-three-of → tie.Start
 start-of c = begun (first (second (third c)))
 
+abbrev answered-at : tie.After-known-told → tie.After-three-of
+answered-at c = c .before .before .before
+
+abbrev entered : tie.After-known-told → tie.Start
+entered c = start-of (answered-at c)
+
+abbrev roomy : tie.After-theirs-values3 → tie.Else2
+roomy c = c .before .before .before
+
+abbrev asked : tie.Else2 → tie.Else1
+asked c = c .before .before .before
+
+abbrev accepted-at : tie.Else1 → tie.After-known-told
+accepted-at c = c .before .before
+
+-- the sizes that were told
+abbrev sizes : tie.After-known-told → Sizes
+sizes c = c .before .c .given .0 .0
+
+-- the three lists, the buffer as it was, and what the definition answers
+abbrev lists : tie.Start → ThreeLists
+lists c = heldThree (now (c .args .base)) (now (c .args .ours)) (now (c .args .theirs))
+
+abbrev old : tie.Start → List ℕ
+old c = now (c .args .rows)
+
+abbrev defined : tie.Start → Merged × List ℕ
+defined c = let x = c .args in afterMerge (merging (now (x .base)) (now (x .ours)) (now (x .theirs)) (x .floor) (x .gate) (length (old c))) (old c)
+
+-- both promises, from the first
+promised : (c : tie.Start) {r : Merged} {new : List ℕ} → _≡_ {A = Merged × List ℕ} (r, new) (defined c)
+    → (_≡_ {A = Merged × List ℕ} (r, new) (defined c))
+    × Demanded (now (c .args .base)) (now (c .args .ours)) (now (c .args .theirs)) (c .args .floor) (c .args .gate) (old c) r new
+promised c e = let x = c .args in (e, demanded (now (x .base)) (now (x .ours)) (now (x .theirs)) (x .floor) (x .gate) (old c) e)
+
 -- what is known of an answer to the three lists
-abbrev Tells-of : tie.After-three-of → Three → Type 0
+abbrev Tells-of : tie.After-three-of → Accepted → Type 0
 Tells-of c =
     let t = third c .read-with-offsets3 .last in
     let o = second (third c) .read-with-offsets2 .last in
@@ -58,38 +103,92 @@ told c =
     (list-told (now (x .ours)) _ _ refl refl ours (o .read-with-offsets2 .result) (o .read-with-offsets2 .ensures))
     (list-told (now (x .theirs)) _ _ refl refl theirs (t .read-with-offsets3 .result) (t .read-with-offsets3 .ensures)))
 
-abbrev answered-at : tie.After-known-told → tie.After-three-of
-answered-at c = c .before .before .before
+-- the lists are read and accepted
+read : (c : tie.After-known-told) → Tells-of (answered-at c) (Lists (sizes c))
+read c = subst (Tells-of (answered-at c)) (c .before .c .given .1) (told (answered-at c))
 
-abbrev lent : tie.After-merge-three-arg → tie.After-known-told
-lent c = c .before .before .before .before .before .before .before
+accepted : (c : tie.After-known-told) → let x = entered c .args in acceptedLists (now (x .base)) (now (x .ours)) (now (x .theirs)) ≡ answered (lists (entered c))
+accepted c = let x = entered c .args in all-accepted (now (x .base)) (now (x .ours)) (now (x .theirs)) (read c)
 
-accepted : (c : tie.After-known-told) → let g = c .before .c .given .0 in Tells-of (answered-at c) (Accepted (g .0) (g .1 .0) (g .1 .1 .0) (g .1 .1 .1 .0))
-accepted c = subst (Tells-of (answered-at c)) (c .before .c .given .1) (told (answered-at c))
+-- what accepted lists answer is what the merge answers
+on-lists : (c : tie.After-known-told) {y : Merged × List ℕ} → y ≡ after (lists (entered c)) (entered c .args .floor) (entered c .args .gate) (old (entered c)) → y ≡ defined (entered c)
+on-lists c h =
+    let s = entered c in
+    lists-merged (now (s .args .base)) (now (s .args .ours)) (now (s .args .theirs)) (s .args .floor) (s .args .gate) (old s) (accepted c) h
 
--- what follows the lists
-abbrev then-merge : tie.Start → TrackList → TrackList → TrackList → Outcome (List Row)
-then-merge s b o t = mergeThree b o t (s .args .floor) (s .args .gate) (length (now (s .args .rows)))
-
+-- questions 18 and 19
 returns : tie.Need-returns
-unfolding merging
 returns c =
-    let m = c .before .before in
-    let k = lent (m .before) in
-    let s = start-of (answered-at k) in
-    let x = s .args in
-    read-on (now (x .base)) (now (x .ours)) (now (x .theirs)) (now (x .rows)) (then-merge s) (accepted k) (m .merge-three .ensures)
+    let k = c .before .before in
+    let s = entered k in
+    promised s (on-lists k (asked-18 (lists s) (s .args .floor) (s .args .gate) (old s) (sym (c .before .is-floor-and-gate .ensures) ∙ not-true _ (c .if1 .taken))))
+
+met-18 : (c : tie.Else1) → let s = entered (accepted-at c) in floorAndGate (s .args .floor) (s .args .gate) ≡ true
+met-18 c = sym (c .before .is-floor-and-gate .ensures) ∙ not-false _ (c .if1 .left)
+
+-- the number of all tracks
+number : (c : tie.After-known-told)
+    → let s = lists (entered c) in
+    let x = sizes c in
+    x .base + x .ours + x .theirs ≡ trackCount (s .base) + trackCount (s .ours) + trackCount (s .theirs)
+number c = let z = sizes-of (read c) in omega (arith, z .of-base, z .of-ours, z .of-theirs)
 
 returns-2 : tie.Need-returns-2
-unfolding merging
 returns-2 c =
+    let e = c .before .before .before in
+    let k = accepted-at e in
+    let s = entered k in
+    promised s (on-lists k (asked-19 (lists s) (s .args .floor) (s .args .gate) (old s) (met-18 e) (omega (arith, number k, c .if2 .taken))))
+
+pair-all-requires : tie.Need-pair-all-requires
+pair-all-requires c κs =
+    let e = asked (roomy c) in
+    let s = entered (accepted-at e) in
+    comparable (read (accepted-at e)) (s .args .floor) (s .args .gate)
+
+-- the pairings are those of the lists
+abbrev paired : (c : tie.After-pair-all)
+    → let k = accepted-at (asked (roomy (c .before))) in
+    Paired (lists (entered k)) (c .pair-all .result) (sizes k)
+paired c =
+    let e = asked (roomy (c .before)) in
+    let k = accepted-at e in
+    let s = entered k in
+    record { floor = s .args .floor; gate = s .args .gate; tables = c .pair-all .ensures ∙ pairs-of (read k) (s .args .floor) (s .args .gate) }
+
+write-merge-requires : tie.Need-write-merge-requires
+write-merge-requires c κs =
+    let p = c .before in
+    let r = roomy (p .before) in
+    let k = accepted-at (asked r) in
+    record { lists = located-of (read k); sized = sizes-of (read k); paired = paired p; room = omega (arith, r .if2 .left) }
+
+returns-3 : tie.Need-returns-3
+unfolding mergedRows
+returns-3 c =
+    let w = c .before .before in
+    let p = w .before .before in
+    let r = roomy (p .before) in
+    let e = asked r in
+    let k = accepted-at e in
+    let s = entered k in
+    let rows : rowsBy (verdictOn (lists s)) (p .pair-all .result) (sizes k) ≡ mergedRows (lists s) (s .args .floor) (s .args .gate) =
+    rows-placed (verdictOn (lists s)) (paired p) (sizes-of (read k)) in
+    promised s (on-lists k (asked-rows (lists s) (s .args .floor) (s .args .gate) (old s) (met-18 e) (omega (arith, number k, r .if2 .left))
+    (w .write-merge .ensures .0 ∙ ap countsOf rows) (w .write-merge .ensures .1 ∙ ap (λ (z : List Row). rowsLeft z (old s)) rows)))
+
+returns-4 : tie.Need-returns-4
+returns-4 c =
     let k = c .before .before .before in
     let s = start-of k in
-    ap (λ (o : Outcome (List Row)). afterMerge o (now (s .args .rows))) (sym (subst (Tells-of k) (c .before .c2 .given .1) (told k) (then-merge s)))
+    let x = s .args in
+    promised s (lists-refused (now (x .base)) (now (x .ours)) (now (x .theirs)) (x .floor) (x .gate) (old s) (subst (Tells-of k) (c .before .c2 .given .1) (told k)))
 
 pub merge-spec : {M : Type 1} → statement M
 merge-spec =
     tie.close
     (tie.spec (λ c. search needs) (λ c. search needs) (λ c κs. search needs) (λ c. search needs) (λ c. search needs) (λ c κs. search needs)
-    (λ c. search needs) (λ c. search needs) (λ c κs. search needs) (λ c κs. search needs) (λ c. search needs) (λ c. search needs) (λ c. search needs)
-    (λ c. search needs) (λ c. search needs) (λ c. search needs) (λ c. search needs) (λ c κs. accepted (lent c)) (λ c. search needs) (λ c. search needs) returns returns-2)
+    (λ c. search needs) (λ c. search needs) (λ c κs. search needs) (λ c κs. search needs) (λ c. search needs) (λ c κs. search needs) returns
+    (λ c. omega (arith, few-of (read (accepted-at (c .before))))) (λ c. omega (arith, few-of (read (accepted-at (c .before .before)))))
+    (λ c. omega (arith, few-of (read (accepted-at (c .before .before))))) returns-2 (λ c. search needs) (λ c. search needs) (λ c. search needs)
+    pair-all-requires write-merge-requires (λ c. search needs) (λ c. search needs) returns-3 returns-4)

@@ -1,5 +1,5 @@
 -- `key_row` meets its contract: the track's covariance stands in the first d * d entries of a local array.
-use Prim.Native.Nat.{_*_, _≤_}
+use Prim.Native.Nat.{ℕ, _*_, _≤_}
 use native.Mathlib.Omega.{arith}
 use mathlib.Core.List.{List, _++_}
 use mathlib.Core.Path.{_≡_, sym, ap, _∙_}
@@ -11,7 +11,7 @@ use lib.Seq.{length-take-le, length-front}
 use Rattle.dense.proofs.Laws.{front}
 use Rattle.compare.specs.Fields.{trackState, trackCovariance}
 use Rattle.pairing.specs.Keys.{nobody}
-use Rattle.merge.specs.PairSteps.{keysFrom}
+use Rattle.merge.specs.Private.{keysFrom}
 use Rattle.merge.proofs.Comparing.{covariance-entries, length-covariance, length-state, covariance-left}
 use Rattle.merge.proofs.keys.key_row.Statement.{statement}
 use Rattle.merge.proofs.keys.key_row.Tie as tie
@@ -65,8 +65,7 @@ put-keys-requires c κs =
     let h = start .pre in
     record {
       track = record { compares = h .compares; state = state start; covariance = length-in-front w _; room = length-take-le _ _ (size start) };
-      others = h .others;
-      room = h .room;
+      others = record { few = omega (arith, h .others .few, h .room); long = omega (arith, h .others .long, ap (λ (n : ℕ). n * start .args .terms .f) (h .room)) };
     }
 
 returns : tie.Need-returns
@@ -75,7 +74,8 @@ returns c =
     let w = written (made .before .before .before .before) in
     let x = start-of w .args in
     made .put-keys .ensures
-    ∙ ap (λ (p : List Float). keysFrom (x .terms) (eqb (x .first) nobody) (trackState (x .terms .d) (x .u .now)) p (x .vs .now) (x .partners) (x .n)) (in-front w _)
+    ∙ ap (λ (p : List Float). keysFrom (x .terms) (eqb (x .first) nobody) (trackState (x .terms .d) (x .u .now)) p (x .vs .now) (x .partners) (length (x .keys .now))) (in-front w _)
+    ∙ ap (λ (n : ℕ). keysFrom (x .terms) (eqb (x .first) nobody) (trackState (x .terms .d) (x .u .now)) (covariance (start-of w)) (x .vs .now) (x .partners) n) (start-of w .pre .room)
 
 pub key-row-spec : {M : Type 1} → statement M
 key-row-spec =

@@ -13,7 +13,7 @@ use Rattle.dense.specs.Matrix.{rowOf, matrix}
 use Rattle.kernel.proofs.Lists.{row-within}
 use Rattle.dense.proofs.Laws.{length-part, rows-none, rows-more}
 use Rattle.pairing.specs.Search.{isFree}
-use Rattle.merge.specs.PairSteps.{keyAmong}
+use Rattle.merge.specs.Private.{keyAmong}
 use Rattle.merge.proofs.keys.keys_between.Statement.{statement}
 use Rattle.merge.proofs.keys.keys_between.Tie as tie
 
@@ -52,7 +52,7 @@ loop-holds c = record { turns = omega arith; long = length-replicate 1024 nought
 row-requires : tie.Need-row-requires Inv-loop μ-loop
 row-requires c κs =
     let s = entered c in
-    omega (arith, row-within (s .args .m) (s .args .terms .f) {i = c .before .loop .i} (omega arith), s .pre .firsts .values-long)
+    omega (arith, row-within (s .args .m) (s .args .terms .f) {i = c .before .loop .i} (omega arith), s .pre .firsts .long)
 
 key-row-requires : tie.Need-key-row-requires Inv-loop μ-loop
 key-row-requires c κs =

@@ -4,7 +4,7 @@ use native.Mathlib.Omega.{arith}
 use mathlib.Core.Bool.{Bool, true, false, _&&_, cond}
 use mathlib.Core.List.{List}
 use mathlib.Core.Logic.{⊎-elim}
-use mathlib.Core.Path.{_≡_, sym, ap, subst, _∙_}
+use mathlib.Core.Path.{_≡_, refl, sym, ap, subst, _∙_}
 use borrow.Author.Needs.{needs}
 use lib.Dec.{eqb}
 use lib.Ieee.{Float, nan}
@@ -14,7 +14,7 @@ use Rattle.kernel.proofs.Lists.{row-within}
 use Rattle.dense.proofs.Entries.{EntryByEntry, no-entry, entry-written, every-entry}
 use Rattle.pairing.specs.Keys.{nobody}
 use Rattle.pairing.specs.Search.{isFree}
-use Rattle.merge.specs.PairSteps.{keyFrom}
+use Rattle.merge.specs.Private.{keyFrom}
 use Rattle.merge.proofs.keys.put_keys.Statement.{statement}
 use Rattle.merge.proofs.keys.put_keys.Tie as tie
 
@@ -24,23 +24,23 @@ record Before (f : ℕ → Float) (n d : ℕ) (old : List Float) (j : ℕ) (q ne
   keys : EntryByEntry f n old j new
 
 abbrev Inv-loop : tie.InvT-loop
-Inv-loop mu p first vs n terms q₀ keys₀ partners f j₀ q keys j =
+Inv-loop mu p first vs terms q₀ keys₀ partners f n j₀ q keys j =
     Before (λ k. cond (eqb first nobody && isFree partners k) (keyFrom terms mu p (rowOf vs (terms .f) k)) nan) n (terms .d) keys₀ j q keys
 
 abbrev μ-loop : tie.MeasureT-loop
-μ-loop mu p first vs n terms q₀ keys₀ partners f j₀ q keys j = n - j
+μ-loop mu p first vs terms q₀ keys₀ partners f n j₀ q keys j = n - j
 
 abbrev entered : tie.At-loop Inv-loop μ-loop → tie.Start Inv-loop μ-loop
 entered c = c .before .before .before .before .before .before
 
 loop-holds : tie.Need-loop-holds Inv-loop μ-loop
-loop-holds c = let p = c .before .before .before .before .before .pre in record { room = p .track .room; keys = no-entry (p .room) }
+loop-holds c = let p = c .before .before .before .before .before .pre in record { room = p .track .room; keys = no-entry refl }
 
 row-requires : tie.Need-row-requires Inv-loop μ-loop
 row-requires c κs =
     let turn = c .before .before .before in
     let s = entered turn in
-    omega (arith, row-within (s .args .n) (s .args .terms .f) {i = turn .loop .j} (omega arith), s .pre .others .values-long)
+    omega (arith, row-within (length (s .args .keys .now)) (s .args .terms .f) {i = turn .loop .j} (omega arith), s .pre .others .long)
 
 key-requires : tie.Need-key-requires Inv-loop μ-loop
 key-requires c κs =

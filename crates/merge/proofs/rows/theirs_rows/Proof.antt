@@ -7,7 +7,7 @@ use borrow.Author.Needs.{needs}
 use Rattle.pairing.specs.Keys.{nobody}
 use Rattle.pairing.specs.Search.{isFree}
 use Rattle.merge.specs.Rows.{Row, selected}
-use Rattle.merge.specs.Steps.{undecidedRow, theirsGroup}
+use Rattle.merge.specs.Private.{undecidedRow, theirsGroup}
 use Rattle.merge.proofs.Groups.{Growing, no-turn, appended-if, selected-room, selected-turn, every-turn}
 use Rattle.merge.proofs.rows.theirs_rows.Statement.{statement}
 use Rattle.merge.proofs.rows.theirs_rows.Tie as tie

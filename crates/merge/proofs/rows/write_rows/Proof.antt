@@ -8,9 +8,9 @@ use denote.Ref.{now}
 use lib.ListN.{length}
 use Rattle.kernel.proofs.Lists.{length-tabulate}
 use Rattle.merge.specs.Rows.{Row, withoutBase, baseRow, oursRow, rowsOf}
-use Rattle.merge.specs.Steps.{undecided, tablesIn}
+use Rattle.merge.specs.Private.{undecided, tablesIn}
 use Rattle.merge.proofs.Groups.{appended-more, tabulated, tabulated-length, selected-length}
-use Rattle.merge.proofs.Writing.{selected-few}
+use Rattle.merge.proofs.RowNumbers.{selected-few}
 use Rattle.merge.proofs.rows.write_rows.Statement.{statement}
 use Rattle.merge.proofs.rows.write_rows.Tie as tie
 
@@ -39,7 +39,7 @@ without-base c = withoutBase (tablesIn (c .args .p))
 
 -- the buffer keeps its length
 base-length : (c : tie.After-base-rows) → length (c .base-rows .last .1 .1 .1 .0) ≡ length (now (begun c .args .rows))
-base-length c = let s = begun c in tabulated-length (base-row s) (s .args .m) (tabulated (base-row s) (s .args .m) (c .base-rows .ensures)) (omega (arith, s .pre .room))
+base-length c = let s = begun c in tabulated-length (base-row s) (s .args .sizes .base) (tabulated (base-row s) (s .args .sizes .base) (c .base-rows .ensures)) (omega (arith, s .pre .room))
 
 ours-requires : tie.Need-ours-rows-requires
 ours-requires c κs = let p = begun (based c) .pre in record { few = p .few-ours; start = omega (arith, p .few-base); room = omega (arith, p .room, base-length (based c)) }
@@ -50,9 +50,9 @@ theirs-requires c κs =
     let b = based (o .before) in
     let s = begun b in
     let p = s .pre in
-    let few = selected-few (s .args .n) (without-base s) (ours-row s) in
+    let few = selected-few (s .args .sizes .ours) (without-base s) (ours-row s) in
     let next = o .ours-rows .ensures .next in
-    let long = selected-length (without-base s) (ours-row s) (s .args .n) (o .ours-rows .ensures) (omega (arith, p .room, base-length b)) in
+    let long = selected-length (without-base s) (ours-row s) (s .args .sizes .ours) (o .ours-rows .ensures) (omega (arith, p .room, base-length b)) in
     record { few = p .few-theirs; start = omega (arith, few, next, p .few-base, p .few-ours); room = omega (arith, few, next, long, p .room, base-length b) }
 
 returns : tie.Need-returns
@@ -62,9 +62,9 @@ returns c =
     let b = based (o .before) in
     let s = begun b in
     let room = s .pre .room in
-    let few = selected-few (s .args .n) (without-base s) (ours-row s) in
+    let few = selected-few (s .args .sizes .ours) (without-base s) (ours-row s) in
     let rest = appended-more _ _ (o .ours-rows .ensures) (omega (arith, few, room, base-length b)) (c .before .before .theirs-rows .ensures) in
-    appended-more _ _ (tabulated (base-row s) (s .args .m) (b .base-rows .ensures)) (omega (arith, room, length-tabulate (s .args .m) (base-row s))) rest
+    appended-more _ _ (tabulated (base-row s) (s .args .sizes .base) (b .base-rows .ensures)) (omega (arith, room, length-tabulate (s .args .sizes .base) (base-row s))) rest
 
 pub write-rows-spec : {M : Type 1} → statement M
 write-rows-spec =

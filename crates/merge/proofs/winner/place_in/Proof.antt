@@ -10,9 +10,9 @@ use Rattle.kernel.specs.Answer.{answered}
 use Rattle.tracks.specs.Read.{contents}
 use Rattle.tracks.specs.Record.{offset}
 use Rattle.merge.specs.Tracks.{trackCount}
-use Rattle.merge.specs.Steps.{held, Located, LocatedTrack}
+use Rattle.merge.specs.Private.{held, Located, LocatedTrack}
 use Rattle.merge.specs.declared.winner.Place.the-variants.{At}
-use Rattle.merge.proofs.Located.{few-located, starts}
+use Rattle.merge.proofs.Located.{few-located, starts, located-record}
 use Rattle.merge.proofs.Winning.{list-located, list-refused, place-refused, place-other-refused, place-missing, place-there}
 use Rattle.merge.proofs.winner.place_in.Statement.{statement}
 use Rattle.merge.proofs.winner.place_in.Tie as tie
@@ -56,9 +56,6 @@ returns c =
     let k = read (c .before) in
     place-missing (list-of k) (other-of k) _ (located k .0 .accepted) (accepted (c .before)) (omega (arith, located k .1, c .if1 .taken))
 
-track-part-requires : tie.Need-track-part-requires
-track-part-requires c κs = there (c .before)
-
 mul-start : tie.Need-mul-t19
 mul-start c = let t = there (c .before .before) in omega (arith, few-located (t .located))
 
@@ -71,9 +68,9 @@ returns-2 c =
     let k = read (e .before) in
     let l = list-of k in
     let i = start-of (both k) .args .i in
-    let size = length (c .track-part .result .now) in
+    let size = length (c .track-record .result .now) in
     ap (λ (s : ℕ). At s size) (starts (there e))
-    ∙ ap (λ (p : List ℕ). At (offset l i) (length p)) (c .track-part .ensures .0)
+    ∙ ap (λ (p : List ℕ). At (offset l i) (length p)) (c .track-record .ensures .0 ∙ located-record (there e))
     ∙ place-there l (other-of k) i (located k .0 .accepted) (accepted (e .before)) (there e .index)
 
 returns-3 : tie.Need-returns-3
@@ -99,7 +96,7 @@ place-in-spec =
     (λ c. search needs)
     returns
     (λ c. search needs)
-    track-part-requires
+    (λ c κs. search needs)
     mul-start
     read-start
     (λ c. search needs)
