@@ -22,5 +22,5 @@ toldWinner ours theirs row = cond (eqb (length row) 4) (inNumbers (winning ours 
 
 -- The code of a merge, and the three numbers of rows afterwards: a refusal writes to none.
 abbrev pub toldMerge : Merged → ℕ → ℕ → ℕ → ℕ × (ℕ × (ℕ × ℕ))
-toldMerge (Counts full half single) oldFull oldHalf oldSingle = (0, (full, (half, single)))
+toldMerge (Counts c) oldFull oldHalf oldSingle = (0, (c .full, (c .half, c .single)))
 toldMerge (Refused k) oldFull oldHalf oldSingle = (k, (oldFull, (oldHalf, oldSingle)))

@@ -12,14 +12,10 @@ fn enter_counts(answer: Merged, full: &mut usize, half: &mut usize, single: &mut
     ensures { λ r. ⌜ (r, (now (full .exit), (now (half .exit), now (single .exit)))) ≡ toldMerge answer (now (full .entry)) (now (half .entry)) (now (single .entry)) ⌝ }
 {
     match answer {
-        Merged::Counts {
-            full: three,
-            half: two,
-            single: one,
-        } => {
-            *full = three;
-            *half = two;
-            *single = one;
+        Merged::Counts(counts) => {
+            *full = counts.full;
+            *half = counts.half;
+            *single = counts.single;
             0
         }
         Merged::Refused(question) => question as u32,

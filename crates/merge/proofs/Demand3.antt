@@ -1,6 +1,7 @@
 -- Demand 3 of every answered merge: `demanded`, of the answer and the buffer that the definition gives, and `demand-3`, of an answer with its counts.
 use Prim.Native.Nat.{ℕ}
 use mathlib.Core.Path.{_≡_, refl, sym, subst, _∙_}
+use native.Mathlib.Omega.{arith}
 use mathlib.Core.Bool.{true}
 use mathlib.Core.List.{List}
 use lib.Ieee.{Float}
@@ -43,20 +44,22 @@ module _ (base ours theirs : List ℕ) (floor gate : Float) (old : List ℕ) whe
 
   met : (x : Outcome MergedLists) → outcome ≡ x → Demanded base ours theirs floor gate old (afterMerge x old .0) (afterMerge x old .1)
   unfolding merging mergedLists
-  met (refused q) e = tt
-  met (answered found) e =
+  met (refused q) e = λ counts f. absurd (let z : _≡_ {A = ℕ} 0 1 = cc in omega arith)
+  met (answered found) e = λ counts f.
+      let told : countsOf (found .rows) ≡ counts = cc in
       let x = and-then-met (acceptedLists base ours theirs) _ e in
       let lists = x .0 in
       let a = lists-accepted base ours theirs (x .1) in
       let question-18 = ask-met 18 (floorAndGate floor gate) _ (x .2) in
       let question-19 = ask-met 19 (roomFor lists (length old)) _ (question-18 .1) in
-      subst (λ (w : List Row). Demand3 base ours theirs floor gate old (rowsLeft w old) (countsOf w))
+      subst (Demand3 base ours theirs floor gate old (rowsLeft (found .rows) old)) told
+      (subst (λ (w : List Row). Demand3 base ours theirs floor gate old (rowsLeft w old) (countsOf w))
       (sym (rows-are lists floor gate) ∙ (λ i. answered-inj (question-19 .1) i .rows))
       (demand lists floor gate (few-tracks base (lists .base) (a .base-read)) (few-tracks ours (lists .ours) (a .ours-read)) (few-tracks theirs (lists .theirs) (a .theirs-read)) old
-      base ours theirs (a .base-read) (a .ours-read) (a .theirs-read) (question-19 .0))
+      base ours theirs (a .base-read) (a .ours-read) (a .theirs-read) (question-19 .0)))
 
   pub demanded : {r : Merged} {new : List ℕ} → (r, new) ≡ afterMerge outcome old → Demanded base ours theirs floor gate old r new
   demanded e = subst (λ (x : Merged × List ℕ). Demanded base ours theirs floor gate old (x .0) (x .1)) (sym e) (met outcome refl)
 
   pub demand-3 : {new : List ℕ} {counts : Counts} → afterMerge outcome old ≡ (merged.Counts counts, new) → Demand3 base ours theirs floor gate old new counts
-  demand-3 e = demanded (sym e)
+  demand-3 {counts = counts} e = demanded (sym e) counts refl

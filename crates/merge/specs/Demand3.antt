@@ -98,7 +98,6 @@ pub record Demand3 (base ours theirs : List ℕ) (floor gate : Float) (old new :
   pub of-counts : RowCounts base ours theirs rows new counts
   pub of-buffer : RowBuffer rows old new
 
--- Every answered merge gives it. What a refusal is stands in `afterMerge`.
+-- That an answer of counts gives it. What a refusal is stands in `afterMerge`.
 abbrev pub Demanded : List ℕ → List ℕ → List ℕ → Float → Float → List ℕ → Merged → List ℕ → Type 0
-Demanded base ours theirs floor gate old (merged.Counts counts) new = Demand3 base ours theirs floor gate old new counts
-Demanded base ours theirs floor gate old (merged.Refused q) new = Unit {0}
+Demanded base ours theirs floor gate old r new = (counts : Counts) → r ≡ merged.Counts counts → Demand3 base ours theirs floor gate old new counts

@@ -3,7 +3,7 @@
 // refused, it prints `no` and the question's number.
 ghost use Rattle.io.specs.Counts.{Counts};
 use merge::Merged;
-use pairing::NOBODY;
+use merge::NO_TRACK;
 
 // Reads a file from its start into the buffer, and gives how many bytes there are. A file that can't be opened counts as
 // empty. A list has at most 14,050 bytes, so what a buffer of 65,536 does not hold of a longer file changes no answer.
@@ -25,7 +25,7 @@ fn print_number(n: u8) {
 
 // An index, or `-` for no track.
 fn print_index(i: u8) {
-    if i == NOBODY {
+    if i == NO_TRACK {
         io::write_all(1, b"-");
         return;
     }
@@ -47,17 +47,14 @@ fn print_row(row: &[u8]) {
     io::write_all(1, b"\n");
 }
 
-// Prints n rows from row r on, and gives the row after them.
-fn print_rows(rows: &[u8], r: usize, n: usize) -> usize {
-    let mut at = r;
-    for _ in 0..n {
-        if rows.len() / 4 <= at {
-            return at;
+// Prints the first n rows.
+fn print_rows(rows: &[u8], n: usize) {
+    for r in 0..n {
+        if rows.len() / 4 <= r {
+            return;
         }
-        print_row(&rows[4 * at..]);
-        at += 1;
+        print_row(&rows[4 * r..]);
     }
-    at
 }
 
 fn main() {
@@ -70,15 +67,13 @@ fn main() {
     let mut rows = [0u8; 384];
     let m = merge::merge(&base[..b], &ours[..o], &theirs[..t], 1.0, 16.0, &mut rows);
     match m {
-        Merged::Counts { full, half, single } => {
-            let r = print_rows(&rows, 0, full);
-            let r = print_rows(&rows, r, half);
-            print_rows(&rows, r, single);
-            io::print_decimal(1, full as u64);
+        Merged::Counts(counts) => {
+            print_rows(&rows, counts.full + counts.half + counts.single);
+            io::print_decimal(1, counts.full as u64);
             io::write_all(1, b" ");
-            io::print_decimal(1, half as u64);
+            io::print_decimal(1, counts.half as u64);
             io::write_all(1, b" ");
-            io::print_decimal(1, single as u64);
+            io::print_decimal(1, counts.single as u64);
             io::write_all(1, b"\n");
         }
         Merged::Refused(q) => {

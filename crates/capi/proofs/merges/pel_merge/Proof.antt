@@ -13,7 +13,7 @@ returns : tie.Need-returns
 returns c =
     let merged = c .before .before .before .before .before .before in
     let x = merged .before .before .before .before .before .before .args in
-    let e = merged .merge .ensures in (
+    let e = merged .merge .ensures .0 in (
       c .enter-counts .ensures ∙ ap (λ (p : Merged × List ℕ). toldMerge (p .0) (now (x .full)) (now (x .half)) (now (x .single))) e,
       ap (λ (p : Merged × List ℕ). p .1) e,
     )
