@@ -39,7 +39,7 @@ compare-requires c κs =
 returns : tie.Need-returns
 unfolding comparedWithReport
 returns c =
-    let made = c .before .before in
+    let made = c .before in
     let whole = filled made .whole-covariance in
     let s = entered (filled made) in
     let x = s .args in
@@ -51,4 +51,6 @@ returns c =
     (covariance-left t (h .compares) (x .v .now) (x .q .now) (s .pre .other) (h .room) (whole .ensures))
 
 pub key-spec : {M : Type 1} → statement M
-key-spec = tie.close (tie.spec ?)
+key-spec =
+    tie.close
+    (tie.spec (λ c κs. search needs) (λ c. sym (state (entered (c .before .before .before)))) compare-requires (λ c κs. search needs) (λ c. search needs) returns)
