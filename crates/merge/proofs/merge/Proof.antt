@@ -20,10 +20,10 @@ use Rattle.merge.specs.declared.Merged.{Merged}
 use Rattle.merge.specs.declared.questions.Sizes.{Sizes}
 use Rattle.merge.specs.declared.questions.Accepted.{Accepted}
 use Rattle.merge.specs.declared.questions.Accepted.the-variants.{Lists}
-use Rattle.merge.proofs.Asking.{after, asked-18, asked-19, asked-rows, lists-refused, lists-merged}
-use Rattle.merge.proofs.Demand3.{demanded}
-use Rattle.merge.proofs.Merging.{located-of, sizes-of, few-of, comparable, pairs-of, rows-placed}
-use Rattle.merge.proofs.Readings.{Tells, list-told, three-told, all-accepted}
+use Rattle.merge.proofs.Readings.Asked.{after, asked-18, asked-19, asked-rows, lists-refused, lists-merged}
+use Rattle.merge.proofs.Demand.EveryAnswer.{demanded}
+use Rattle.merge.proofs.Readings.AllRead.{located-of, sizes-of, few-of, comparable, pairs-of, rows-placed}
+use Rattle.merge.proofs.Readings.ThreeAnswers.{Tells, list-told, three-told, all-accepted}
 use Rattle.merge.proofs.merge.Statement.{statement}
 use Rattle.merge.proofs.merge.Tie as tie
 

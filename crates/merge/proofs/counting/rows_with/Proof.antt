@@ -9,7 +9,7 @@ use denote.Ref.{now}
 use lib.Dec.{eqb}
 use Rattle.kernel.proofs.Loops.{Turned, turned-none, turned-more, turned-all}
 use Rattle.merge.specs.Buffer.{tracksIn, howMany}
-use Rattle.merge.proofs.HowMany.{howMany-most}
+use Rattle.merge.proofs.Buffers.HowMany.{howMany-most}
 use Rattle.merge.proofs.counting.rows_with.Statement.{statement}
 use Rattle.merge.proofs.counting.rows_with.Tie as tie
 

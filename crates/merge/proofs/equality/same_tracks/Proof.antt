@@ -10,8 +10,8 @@ use mathlib.Core.List.{List}
 use Rattle.tracks.specs.Record.{offset, recordAt, sameBytes}
 use Rattle.merge.specs.Tracks.{trackCount}
 use Rattle.merge.specs.Private.{held, Index}
-use Rattle.merge.proofs.Located.{located-record}
-use Rattle.merge.proofs.Tracks.{records-compared}
+use Rattle.merge.proofs.Readings.Located.{located-record}
+use Rattle.merge.proofs.Readings.Tracks.{records-compared}
 use Rattle.merge.proofs.equality.same_tracks.Statement.{statement}
 use Rattle.merge.proofs.equality.same_tracks.Tie as tie
 

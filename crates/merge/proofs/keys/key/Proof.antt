@@ -8,7 +8,7 @@ use Rattle.compare.specs.Distance.{compared, comparedWithReport}
 use Rattle.compare.specs.Fields.{trackState}
 use Rattle.compare.specs.declared.ComparisonReport.{ComparisonReport}
 use Rattle.merge.specs.Candidates.{candidacyOf, rank}
-use Rattle.merge.proofs.Comparing.{side-met, length-state, covariance-left}
+use Rattle.merge.proofs.Matching.Covariances.{side-met, length-state, covariance-left}
 use Rattle.merge.proofs.keys.key.Statement.{statement}
 use Rattle.merge.proofs.keys.key.Tie as tie
 

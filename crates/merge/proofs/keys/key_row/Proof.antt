@@ -12,7 +12,7 @@ use Rattle.dense.proofs.Laws.{front}
 use Rattle.compare.specs.Fields.{trackState, trackCovariance}
 use Rattle.pairing.specs.Keys.{nobody}
 use Rattle.merge.specs.Private.{keysFrom}
-use Rattle.merge.proofs.Comparing.{covariance-entries, length-covariance, length-state, covariance-left}
+use Rattle.merge.proofs.Matching.Covariances.{covariance-entries, length-covariance, length-state, covariance-left}
 use Rattle.merge.proofs.keys.key_row.Statement.{statement}
 use Rattle.merge.proofs.keys.key_row.Tie as tie
 

@@ -10,7 +10,7 @@ use lib.Ieee.{Float}
 use Rattle.tracks.specs.Layout.{fields}
 use Rattle.merge.specs.Private.{Values, TwoValues, KeysInFront, KeysFor, pairedValues}
 use Rattle.merge.specs.declared.keys.Terms.{Terms}
-use Rattle.merge.proofs.Paired.{all-paired}
+use Rattle.merge.proofs.Matching.Tables.{all-paired}
 use Rattle.merge.proofs.pairings.pair_all.Statement.{statement}
 use Rattle.merge.proofs.pairings.pair_all.Tie as tie
 

@@ -6,7 +6,7 @@ use mathlib.Core.Path.{_≡_, sym}
 use lib.ListN.{length, take}
 use lib.Seq.{length-take-le}
 use Rattle.pairing.specs.Keys.{fromKeys}
-use Rattle.merge.proofs.Paired.{new-long, tables-front}
+use Rattle.merge.proofs.Matching.Tables.{new-long, tables-front}
 use Rattle.merge.proofs.pairings.partners_by.Statement.{statement}
 use Rattle.merge.proofs.pairings.partners_by.Tie as tie
 

@@ -6,7 +6,7 @@ use lib.ListN.{getD}
 use Rattle.kernel.specs.Lists.{tabulate}
 use Rattle.merge.specs.Rows.{Row}
 use Rattle.merge.specs.Private.{undecidedRow, baseGroup}
-use Rattle.merge.proofs.Groups.{Growing, no-turn, tabulated-turn, every-turn}
+use Rattle.merge.proofs.Buffers.Appending.{Growing, no-turn, tabulated-turn, every-turn}
 use Rattle.merge.proofs.rows.base_rows.Statement.{statement}
 use Rattle.merge.proofs.rows.base_rows.Tie as tie
 

@@ -8,7 +8,7 @@ use Rattle.pairing.specs.Keys.{nobody}
 use Rattle.pairing.specs.Search.{isFree}
 use Rattle.merge.specs.Rows.{Row, selected}
 use Rattle.merge.specs.Private.{undecidedRow, oursGroup}
-use Rattle.merge.proofs.Groups.{Growing, no-turn, selected-room, selected-turn, every-turn}
+use Rattle.merge.proofs.Buffers.Appending.{Growing, no-turn, selected-room, selected-turn, every-turn}
 use Rattle.merge.proofs.rows.ours_rows.Statement.{statement}
 use Rattle.merge.proofs.rows.ours_rows.Tie as tie
 

@@ -10,7 +10,7 @@ use lib.ListN.{set, length-set}
 use Rattle.kernel.proofs.Lists.{over-set, over-more}
 use Rattle.merge.specs.Rows.{keep}
 use Rattle.merge.specs.Private.{undecidedRow}
-use Rattle.merge.proofs.Groups.{appended-not, appended-one}
+use Rattle.merge.proofs.Buffers.Appending.{appended-not, appended-one}
 use Rattle.merge.proofs.rows.put_row.Statement.{statement}
 use Rattle.merge.proofs.rows.put_row.Tie as tie
 

@@ -9,8 +9,8 @@ use lib.ListN.{length}
 use Rattle.kernel.proofs.Lists.{length-tabulate}
 use Rattle.merge.specs.Rows.{Row, withoutBase, baseRow, oursRow, rowsOf}
 use Rattle.merge.specs.Private.{undecided, tablesIn}
-use Rattle.merge.proofs.Groups.{appended-more, tabulated, tabulated-length, selected-length}
-use Rattle.merge.proofs.RowNumbers.{selected-few}
+use Rattle.merge.proofs.Buffers.Appending.{appended-more, tabulated, tabulated-length, selected-length}
+use Rattle.merge.proofs.Buffers.RowNumbers.{selected-few}
 use Rattle.merge.proofs.rows.write_rows.Statement.{statement}
 use Rattle.merge.proofs.rows.write_rows.Tie as tie
 

@@ -6,7 +6,7 @@ use denote.Ref.{now}
 use Rattle.merge.specs.Tracks.{equalTracks}
 use Rattle.merge.specs.Rows.{isTrack, verdict, verdictOn}
 use Rattle.merge.specs.Private.{held}
-use Rattle.merge.proofs.Groups.{verdict-there}
+use Rattle.merge.proofs.Buffers.Appending.{verdict-there}
 use Rattle.merge.proofs.verdict.verdict_on.Statement.{statement}
 use Rattle.merge.proofs.verdict.verdict_on.Tie as tie
 

@@ -8,7 +8,7 @@ use lib.ListN.{getD}
 use Rattle.kernel.specs.Lists.{tabulate}
 use Rattle.merge.specs.Rows.{Row}
 use Rattle.merge.specs.Private.{AllLocated, Index, verdictHeld, decidedRow}
-use Rattle.merge.proofs.Groups.{Growing, no-turn, appended-one, tabulated-turn, tabulated-rest, every-turn, verdict-put}
+use Rattle.merge.proofs.Buffers.Appending.{Growing, no-turn, appended-one, tabulated-turn, tabulated-rest, every-turn, verdict-put}
 use Rattle.merge.proofs.verdict.write_verdicts.Statement.{statement}
 use Rattle.merge.proofs.verdict.write_verdicts.Tie as tie
 

@@ -12,7 +12,7 @@ use Rattle.tracks.specs.Record.{offset}
 use Rattle.merge.specs.Tracks.{trackCount}
 use Rattle.merge.specs.Private.{held, Located, LocatedTrack}
 use Rattle.merge.specs.declared.winner.Place.the-variants.{At}
-use Rattle.merge.proofs.Located.{few-located, starts, located-record}
+use Rattle.merge.proofs.Readings.Located.{few-located, starts, located-record}
 use Rattle.merge.proofs.Winning.{list-located, list-refused, place-refused, place-other-refused, place-missing, place-there}
 use Rattle.merge.proofs.winner.place_in.Statement.{statement}
 use Rattle.merge.proofs.winner.place_in.Tie as tie

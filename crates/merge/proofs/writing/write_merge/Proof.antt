@@ -10,12 +10,12 @@ use Rattle.merge.specs.Tracks.{ThreeLists, trackCount}
 use Rattle.merge.specs.Rows.{Row, Pairings, rowsOf, verdictOn}
 use Rattle.merge.specs.Merge.{pairingsOf}
 use Rattle.merge.specs.Private.{heldThree, undecided, rowsBy, Appended}
-use Rattle.merge.proofs.AcceptedLists.{indices-in}
-use Rattle.merge.proofs.Asking.{counts-written, rows-fit}
-use Rattle.merge.proofs.Deciding.{rows-decided}
-use Rattle.merge.proofs.Groups.{appended-same}
-use Rattle.merge.proofs.Located.{few-located}
-use Rattle.merge.proofs.Merging.{rows-placed}
+use Rattle.merge.proofs.Demand.AcceptedLists.{indices-in}
+use Rattle.merge.proofs.Readings.Asked.{counts-written, rows-fit}
+use Rattle.merge.proofs.Buffers.LateVerdicts.{rows-decided}
+use Rattle.merge.proofs.Buffers.Appending.{appended-same}
+use Rattle.merge.proofs.Readings.Located.{few-located}
+use Rattle.merge.proofs.Readings.AllRead.{rows-placed}
 use Rattle.merge.proofs.writing.write_merge.Statement.{statement}
 use Rattle.merge.proofs.writing.write_merge.Tie as tie
 

@@ -15,9 +15,9 @@ use Rattle.merge.specs.Buffer.{baseIn, oursIn, theirsIn}
 use Rattle.merge.specs.Private.{rowsBy, rowsBytes, Appended, tablesIn, pairingsIn}
 use Rattle.merge.specs.declared.pairings.Pairings as TablesOf
 use Rattle.merge.specs.declared.questions.Sizes.{Sizes}
-use Rattle.merge.proofs.Bytes.{rows-length}
-use Rattle.merge.proofs.Paired.{front-free}
-use Rattle.merge.proofs.Places.{noRow, Shows, rowCount, rows-count, base-row, ours-row, theirs-row, Place, of-base, of-ours, of-theirs, laid}
+use Rattle.merge.proofs.Buffers.Bytes.{rows-length}
+use Rattle.merge.proofs.Matching.Tables.{front-free}
+use Rattle.merge.proofs.Buffers.Places.{noRow, Shows, rowCount, rows-count, base-row, ours-row, theirs-row, Place, of-base, of-ours, of-theirs, laid}
 
 -- ---- the front of tables
 

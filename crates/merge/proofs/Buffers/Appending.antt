@@ -14,8 +14,8 @@ use Rattle.kernel.specs.Lists.{over, tabulate}
 use Rattle.kernel.proofs.Lists.{length-over, over-none, over-over, over-more}
 use Rattle.tracks.proofs.Slices.Lists.{flatMap-append}
 use Rattle.kernel.proofs.Lists.{length-tabulate, tabulate-more}
-use Rattle.merge.proofs.Bytes.{rows-length, rest-byte}
-use Rattle.merge.proofs.RowNumbers.{selected-few}
+use Rattle.merge.proofs.Buffers.Bytes.{rows-length, rest-byte}
+use Rattle.merge.proofs.Buffers.RowNumbers.{selected-few}
 use Rattle.merge.specs.Rows.{Row, rowBytes, verdict, Equal, selected}
 use Rattle.merge.specs.Private.{rowsBytes, onlyIf, Appended, RowsRoom}
 

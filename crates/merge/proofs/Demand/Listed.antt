@@ -11,9 +11,9 @@ use Rattle.merge.specs.Tracks.{ThreeLists, trackCount}
 use Rattle.merge.specs.Rows.{isTrack, tracksAmong}
 use Rattle.merge.specs.Buffer.{TrackOrNone, baseIn, oursIn, theirsIn, baseWithOurs, baseWithTheirs, oursWithTheirs, group, leading, Before}
 use Rattle.merge.specs.Demand3.{MergeRows}
-use Rattle.merge.proofs.Columns.{found-base-ours, found-base-theirs, found-ours-theirs, base-ours-shown, base-theirs-shown, ours-theirs-shown}
-use Rattle.merge.proofs.Listings.{Listing, SameRow}
-use Rattle.merge.proofs.Sequences.{Rising}
+use Rattle.merge.proofs.Buffers.Columns.{found-base-ours, found-base-theirs, found-ours-theirs, base-ours-shown, base-theirs-shown, ours-theirs-shown}
+use Rattle.merge.proofs.Demand.Listings.{Listing, SameRow}
+use Rattle.merge.proofs.Demand.Sequences.{Rising}
 
 -- the group of a row and its index there, as one number
 abbrev pub code : List ℕ → ℕ → ℕ

@@ -23,12 +23,12 @@ use Rattle.merge.specs.Demand3.{OnlyUnblocked, MergeRows, Demand3}
 use Rattle.merge.specs.declared.Counts.{Counts}
 use Rattle.merge.specs.declared.Merged.{Merged}
 use Rattle.merge.specs.declared.Merged.the-variants as merged
-use Rattle.merge.proofs.Tracks.{few-tracks}
-use Rattle.merge.proofs.Candidates.{candidates-ordered, among-ordered}
-use Rattle.merge.proofs.Sequences.{StandsIn, same-place, no-longer}
-use Rattle.merge.proofs.Listings.{Listing, SameRow, matched}
-use Rattle.merge.proofs.Listed.{code, same-code, FewTracks, listing, codes-rise}
-use Rattle.merge.proofs.Demand3.{demand-3}
+use Rattle.merge.proofs.Readings.Tracks.{few-tracks}
+use Rattle.merge.proofs.Matching.Candidates.{candidates-ordered, among-ordered}
+use Rattle.merge.proofs.Demand.Sequences.{StandsIn, same-place, no-longer}
+use Rattle.merge.proofs.Demand.Listings.{Listing, SameRow, matched}
+use Rattle.merge.proofs.Demand.Listed.{code, same-code, FewTracks, listing, codes-rise}
+use Rattle.merge.proofs.Demand.EveryAnswer.{demand-3}
 
 -- there is one such set of pairs
 one-unblocked : (g : Candidates) → Ordered g → (s : Pairs) → OnlyUnblocked g s → s ≡ paired g

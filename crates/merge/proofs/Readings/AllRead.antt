@@ -19,10 +19,10 @@ use Rattle.merge.specs.declared.keys.Terms.{Terms}
 use Rattle.merge.specs.declared.questions.Sizes.{Sizes}
 use Rattle.merge.specs.declared.verdict.Offsets.{Offsets}
 use Rattle.merge.specs.declared.pairings.Pairings as TablesOf
-use Rattle.merge.proofs.Deciding.{rows-front}
-use Rattle.merge.proofs.Located.{few-located}
-use Rattle.merge.proofs.Paired.{Holds, paired-values}
-use Rattle.merge.proofs.Readings.{values-few, Read, AllRead}
+use Rattle.merge.proofs.Buffers.LateVerdicts.{rows-front}
+use Rattle.merge.proofs.Readings.Located.{few-located}
+use Rattle.merge.proofs.Matching.Tables.{Holds, paired-values}
+use Rattle.merge.proofs.Readings.ThreeAnswers.{values-few, Read, AllRead}
 
 -- ---- one list
 

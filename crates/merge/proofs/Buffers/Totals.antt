@@ -14,9 +14,9 @@ use Rattle.pairing.specs.Keys.{nobody}
 use Rattle.merge.specs.Rows.{Row, rowBytes, isTrack, tracksAmong, rowsWith, Pairings, withoutBase, remaining}
 use Rattle.merge.specs.Buffer.{baseIn, oursIn, theirsIn, tracksIn, howMany, TrackOrNone}
 use Rattle.merge.specs.Demand3.{ExactlyOne}
-use Rattle.merge.proofs.HowMany.{howMany-ext, howMany-most, howMany-indices}
-use Rattle.merge.proofs.Places.{noRow, shown, rowCount}
-use Rattle.merge.proofs.Standing.{Given, each-base, each-ours, each-theirs, base-index, ours-index, theirs-index, some-track}
+use Rattle.merge.proofs.Buffers.HowMany.{howMany-ext, howMany-most, howMany-indices}
+use Rattle.merge.proofs.Buffers.Places.{noRow, shown, rowCount}
+use Rattle.merge.proofs.Demand.Standing.{Given, each-base, each-ours, each-theirs, base-index, ours-index, theirs-index, some-track}
 
 -- ---- rows of a list, and rows of the buffer
 

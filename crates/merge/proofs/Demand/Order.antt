@@ -8,9 +8,9 @@ use borrow.Author.Tests.{ne-eqb}
 use Rattle.pairing.specs.Keys.{nobody}
 use Rattle.merge.specs.Rows.{Pairings, withoutBase, remaining}
 use Rattle.merge.specs.Buffer.{baseIn, oursIn, theirsIn, group, leading, Before}
-use Rattle.merge.proofs.HowMany.{rank-below, rank-rises}
-use Rattle.merge.proofs.Places.{rowCount, Place, of-base, of-ours, of-theirs}
-use Rattle.merge.proofs.Standing.{Given}
+use Rattle.merge.proofs.Buffers.HowMany.{rank-below, rank-rises}
+use Rattle.merge.proofs.Buffers.Places.{rowCount, Place, of-base, of-ours, of-theirs}
+use Rattle.merge.proofs.Demand.Standing.{Given}
 
 -- the group and the index of a row
 record Grouped (buffer : List ℕ) (r x y : ℕ) : Type 0 where

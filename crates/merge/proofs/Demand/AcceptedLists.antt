@@ -25,15 +25,15 @@ use Rattle.merge.specs.Merge.{partnersIn, pairingsOf, mergedRows, roomFo
 use Rattle.merge.specs.Buffer.{TrackOrNone, baseIn, oursIn, theirsIn, tracksIn, howMany, baseWithOurs, baseWithTheirs, oursWithTheirs}
 use Rattle.merge.specs.Demand3.{OnlyUnblocked, MergeRows, RowBuffer, Demand3}
 use Rattle.merge.specs.Private.{Appended}
-use Rattle.merge.proofs.Candidates.{candidates-ordered, among-ordered}
-use Rattle.merge.proofs.Partners.{tabled, free-alike, among-alike}
-use Rattle.merge.proofs.Bytes.{rows-length, rest-byte}
-use Rattle.merge.proofs.Places.{rows-count, rowCount, laid}
-use Rattle.merge.proofs.Standing.{Given, each-base, each-ours, each-theirs, base-index, ours-index, theirs-index, verdict-is, some-track}
-use Rattle.merge.proofs.Order.{in-order}
-use Rattle.merge.proofs.Shown.{shows-base-ours, shows-base-theirs, shows-ours-theirs}
-use Rattle.merge.proofs.Totals.{rows-with, counted, all-rows, all-tracks, rows-few}
-use Rattle.merge.proofs.Meaning.{near-pairs, nearest-first, equal-fields, only-unblocked}
+use Rattle.merge.proofs.Matching.Candidates.{candidates-ordered, among-ordered}
+use Rattle.merge.proofs.Matching.Partners.{tabled, free-alike, among-alike}
+use Rattle.merge.proofs.Buffers.Bytes.{rows-length, rest-byte}
+use Rattle.merge.proofs.Buffers.Places.{rows-count, rowCount, laid}
+use Rattle.merge.proofs.Demand.Standing.{Given, each-base, each-ours, each-theirs, base-index, ours-index, theirs-index, verdict-is, some-track}
+use Rattle.merge.proofs.Demand.Order.{in-order}
+use Rattle.merge.proofs.Demand.Shown.{shows-base-ours, shows-base-theirs, shows-ours-theirs}
+use Rattle.merge.proofs.Buffers.Totals.{rows-with, counted, all-rows, all-tracks, rows-few}
+use Rattle.merge.proofs.Matching.Meaning.{near-pairs, nearest-first, equal-fields, only-unblocked}
 
 module _ (lists : ThreeLists) (floor gate : Float) where
   abbrev b : TrackList

@@ -14,10 +14,10 @@ use Rattle.pairing.proofs.Tests.{both, left, right, or-left, or-right}
 use Rattle.merge.specs.Rows.{isTrack, Pairings, partnerOf, withoutBase, remaining, rowAt}
 use Rattle.merge.specs.Buffer.{baseIn, oursIn, theirsIn, verdictIn, TrackOrNone, howMany}
 use Rattle.merge.specs.Demand3.{ExactlyOne}
-use Rattle.merge.proofs.HowMany.{rank-below}
-use Rattle.merge.proofs.Columns.{is-track}
-use Rattle.merge.proofs.Partners.{Tabled, first-is, first-pair, first-index}
-use Rattle.merge.proofs.Places.{Shows, oursRows, rowCount, Place, of-base, of-ours, of-theirs, Laid}
+use Rattle.merge.proofs.Buffers.HowMany.{rank-below}
+use Rattle.merge.proofs.Buffers.Columns.{is-track}
+use Rattle.merge.proofs.Matching.Partners.{Tabled, first-is, first-pair, first-index}
+use Rattle.merge.proofs.Buffers.Places.{Shows, oursRows, rowCount, Place, of-base, of-ours, of-theirs, Laid}
 
 -- The rows of three lists of m, n and l tracks, by the pairs of base with ours, of base with theirs, and of ours with theirs, stand in a buffer.
 pub record Given (verdictOf : ℕ → ℕ → ℕ → ℕ) (p : Pairings) (m n l : ℕ) (buffer : List ℕ) : Type 0 where

@@ -5,9 +5,9 @@ use mathlib.Core.Bool.{Bool}
 use mathlib.Core.List.{flatMap}
 use lib.ListN.{length}
 use Rattle.merge.specs.Rows.{rowBytes, Pairings, withoutBase, remaining, selected, rowsOf}
-use Rattle.merge.proofs.Bytes.{rows-length}
-use Rattle.merge.proofs.HowMany.{length-selected, howMany-most}
-use Rattle.merge.proofs.Places.{rows-count}
+use Rattle.merge.proofs.Buffers.Bytes.{rows-length}
+use Rattle.merge.proofs.Buffers.HowMany.{length-selected, howMany-most}
+use Rattle.merge.proofs.Buffers.Places.{rows-count}
 
 module _ {A : Type 0} (n : ℕ) (test : ℕ → Bool) (f : ℕ → A) where
   pub selected-few : length (selected n test f) ≤ n

@@ -19,10 +19,10 @@ use Rattle.merge.specs.Private.{Appended, countsIn}
 use Rattle.merge.specs.declared.Counts.{Counts}
 use Rattle.merge.specs.declared.Merged.{Merged}
 use Rattle.merge.specs.declared.Merged.the-variants as Merged
-use Rattle.merge.proofs.Bytes.{rows-length}
-use Rattle.merge.proofs.Groups.{appended-length}
-use Rattle.merge.proofs.Totals.{rows-with}
-use Rattle.merge.proofs.RowNumbers.{rows-room}
+use Rattle.merge.proofs.Buffers.Bytes.{rows-length}
+use Rattle.merge.proofs.Buffers.Appending.{appended-length}
+use Rattle.merge.proofs.Buffers.Totals.{rows-with}
+use Rattle.merge.proofs.Buffers.RowNumbers.{rows-room}
 
 -- ---- the answers
 

@@ -17,8 +17,8 @@ use Rattle.merge.specs.Demand3.{Demand3, Demanded}
 use Rattle.merge.specs.declared.Counts.{Counts}
 use Rattle.merge.specs.declared.Merged.{Merged}
 use Rattle.merge.specs.declared.Merged.the-variants as merged
-use Rattle.merge.proofs.Tracks.{few-tracks}
-use Rattle.merge.proofs.AcceptedLists.{rows-are, demand}
+use Rattle.merge.proofs.Readings.Tracks.{few-tracks}
+use Rattle.merge.proofs.Demand.AcceptedLists.{rows-are, demand}
 
 -- what accepted lists are
 pub record Accepted (base ours theirs : List ℕ) (lists : ThreeLists) : Type 0 where

@@ -10,11 +10,11 @@ use Rattle.pairing.specs.Keys.{nobody}
 use Rattle.pairing.proofs.Tests.{alike}
 use Rattle.merge.specs.Rows.{Partners, Pairings, partnerOf, withoutBase, baseRow}
 use Rattle.merge.specs.Buffer.{baseIn, oursIn, theirsIn, TrackOrNone, howMany, baseWithOurs, baseWithTheirs, oursWithTheirs}
-use Rattle.merge.proofs.HowMany.{rank-below}
-use Rattle.merge.proofs.Columns.{RowWith, found-base-ours, found-base-theirs, found-ours-theirs, base-ours-shown, base-theirs-shown, ours-theirs-shown}
-use Rattle.merge.proofs.Partners.{Tabled, first-is, first-pair, first-index}
-use Rattle.merge.proofs.Places.{Shows, rowCount, Place, of-base, of-ours, of-theirs}
-use Rattle.merge.proofs.Standing.{Given}
+use Rattle.merge.proofs.Buffers.HowMany.{rank-below}
+use Rattle.merge.proofs.Buffers.Columns.{RowWith, found-base-ours, found-base-theirs, found-ours-theirs, base-ours-shown, base-theirs-shown, ours-theirs-shown}
+use Rattle.merge.proofs.Matching.Partners.{Tabled, first-is, first-pair, first-index}
+use Rattle.merge.proofs.Buffers.Places.{Shows, rowCount, Place, of-base, of-ours, of-theirs}
+use Rattle.merge.proofs.Demand.Standing.{Given}
 
 module _ (verdictOf : ℕ → ℕ → ℕ → ℕ) (p : Pairings) (m n l : ℕ) (buffer : List ℕ) (g : Given verdictOf p m n l buffer) where
   abbrev rows : ℕ

@@ -24,7 +24,7 @@ use Rattle.tracks.proofs.RoundTrip.BothWays.{accepted-fit, joined-fit}
 use Rattle.tracks.proofs.Records.Parts.{equal-records}
 use Rattle.pairing.proofs.Tests.{alike, is-true}
 use Rattle.merge.specs.Tracks.{trackCount, trackAt, equalTracks}
-use Rattle.merge.proofs.Meaning.{equal-fields}
+use Rattle.merge.proofs.Matching.Meaning.{equal-fields}
 
 pub few-tracks : (l : List ℕ) (c : TrackList) → contents l ≡ answered c → trackCount c ≤ 32
 few-tracks l c e = leb-true (trackCount c) 32 (contents-met l e .few)

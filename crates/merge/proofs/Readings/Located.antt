@@ -9,7 +9,7 @@ use Rattle.tracks.specs.Record.{offset, recordAt, trackRecord}
 use Rattle.tracks.proofs.Records.Walk.{track-record}
 use Rattle.merge.specs.Tracks.{trackCount}
 use Rattle.merge.specs.Private.{held, Located, LocatedTrack}
-use Rattle.merge.proofs.Tracks.{few-tracks}
+use Rattle.merge.proofs.Readings.Tracks.{few-tracks}
 
 module _ {l offsets : List ℕ} (p : Located l offsets) where
   pub few-located : trackCount (held l) ≤ 32

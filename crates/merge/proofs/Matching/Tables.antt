@@ -26,7 +26,7 @@ use Rattle.merge.specs.Private.{SizesOf, keysBetween, partnersOf, partne
 use Rattle.merge.specs.declared.keys.Terms.{Terms}
 use Rattle.merge.specs.declared.questions.Sizes.{Sizes}
 use Rattle.merge.specs.declared.pairings.Partners as TableOf
-use Rattle.merge.proofs.Candidates.{keysAmong, keyed-partners, all-keyed-partners}
+use Rattle.merge.proofs.Matching.Candidates.{keysAmong, keyed-partners, all-keyed-partners}
 
 -- the values of n tracks of f fields are those of a list
 abbrev pub Holds : TrackList → List Float → ℕ → Type 0
