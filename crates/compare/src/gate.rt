@@ -1,8 +1,11 @@
 // A squared distance by the gate.
 ghost use mathlib.Core.Path.{_≡_};
+ghost use mathlib.Core.Bool.{cond};
 ghost use mathlib.Core.List.{[], _∷_};
 ghost use Prim.Native.Nat.{_≤_};
+ghost use lib.Ieee.{le};
 ghost use Rattle.pivoting.specs.Solve.{distance, Under};
+ghost use Rattle.compare.specs.declared.Comparison.the-variants.{Near, Far};
 ghost use Rattle.compare.specs.Distance.{byGate, comparisonOf};
 ghost use Rattle.compare.specs.Private.{afterWritten};
 use crate::Comparison;
@@ -12,20 +15,27 @@ use dense::vector::is_finite;
 use pivoting::inside::distance;
 use pivoting::inside::single_distance;
 
-// What d2 is by the gate.
+// What d2, a squared distance, is by the gate.
+fn near_or_far(d2: f64, gate: f64) -> Comparison
+    ensures { λ r. ⌜ r ≡ cond (le d2 gate) (Near d2) (Far d2) ⌝ }
+{
+    if !(d2 <= gate) {
+        return Comparison::Far(d2);
+    }
+    Comparison::Near(d2)
+}
+
+// The same of any d2: one that is not finite, or below 0, is no distance.
 fn by_gate(d2: f64, gate: f64) -> Comparison
     ensures { λ r. ⌜ r ≡ byGate d2 gate ⌝ }
 {
-    if !is_finite(d2) {
+    if is_finite(d2) {
+        if !(d2 < 0.0) {
+            return near_or_far(d2, gate);
+        }
         return Comparison::NoDistance;
     }
-    if d2 < 0.0 {
-        return Comparison::NoDistance;
-    }
-    if d2 <= gate {
-        return Comparison::Near(d2);
-    }
-    Comparison::Far(d2)
+    Comparison::NoDistance
 }
 
 // What the squared distance of x and mu under cov, n by n, is by the gate.
