@@ -29,11 +29,11 @@ pub fn is_floor_and_gate(floor: f64, gate: f64) -> bool
     if !is_finite(floor) {
         return false;
     }
-    if !(0.0 < floor) {
-        return false;
-    }
     if !is_finite(gate) {
         return false;
     }
-    0.0 <= gate
+    if !(0.0 <= gate) {
+        return false;
+    }
+    0.0 < floor
 }

@@ -1,4 +1,4 @@
--- Orders 1 and 2. `single-refused` and `single-repaired`: the repair of one entry, and `single-left`, what it leaves; `plane-repaired`: a repair from the numbers of a plane.
+-- Orders 1 and 2. `single-asked`, `single-refused` and `single-repaired`: the repair of one entry, and `single-left`, what it leaves; `plane-repaired`: a repair from the numbers of a plane.
 use Prim.Native.Nat.{ℕ, _+_}
 use native.Mathlib.Omega.{arith}
 use mathlib.Core.Bool.{Bool, true, false, cond, _&&_}
@@ -10,15 +10,19 @@ use Rattle.kernel.specs.Answer.{refused, answered, ask, through}
 use Rattle.kernel.specs.Constants.{nought, one}
 use Rattle.kernel.specs.Lists.{tabulate}
 use Rattle.kernel.specs.Number.{add, mul, finite}
-use Rattle.dense.specs.Matrix.{nth, matrix, sumFrom, finiteEntries}
+use Rattle.dense.specs.Matrix.{nth, matrix, sumFrom, isSide, hasLength, finiteEntries}
 use Rattle.eigen.specs.declared.Plane.{Plane}
 use Rattle.eigen.specs.Eigen.{Eigenpairs, eigenpairs}
 use Rattle.eigen.specs.Pair.{shownBy, planePairs}
 use Rattle.eigen.proofs.Single.{single-eigenpairs, single-list}
-use Rattle.repair.specs.Repair.{Repair, clips, clipCount, greaterClip, largestClip, raised, rebuiltEntry, reportOf, repairOf, repair, repairAnswer, afterRepair}
+use Rattle.repair.specs.Repair.{Repair, clips, clipCount, greaterClip, largestClip, raised, rebuiltEntry, reportOf, repairOf, repair, nearestPsd, repairAnswer, afterRepair}
 use Rattle.repair.specs.Private.{singleRebuilt}
 
 -- ---- one entry
+
+pub single-asked : (x : List Float) (floor : Float) (out : List Float) → nearestPsd x floor 1 out ≡ ask 2 (hasLength x 1 && hasLength out 1) (repair x floor 1)
+unfolding nearestPsd isSide
+single-asked x floor out = refl
 
 pub single-refused : (x : List Float) (floor : Float) → finite (nth x 0) ≡ false → repair x floor 1 ≡ refused 3
 unfolding repair finiteEntries

@@ -7,7 +7,7 @@ ghost use Rattle.dense.specs.Matrix.{matrix};
 ghost use Rattle.eigen.specs.Eigen.{eigenpairs};
 ghost use Rattle.eigen.specs.Pair.{shownBy};
 ghost use Rattle.repair.specs.Private.{Mending};
-ghost use Rattle.repair.specs.Repair.{rebuiltEntry, reportOf, repairOf, repair, afterRepair};
+ghost use Rattle.repair.specs.Repair.{rebuiltEntry, reportOf, repairOf, nearestPsd, afterRepair};
 use crate::RegularizationReport;
 use crate::Repaired;
 use crate::answer::done;
@@ -17,11 +17,13 @@ use crate::clip::greater_clip;
 use crate::clip::raised;
 use crate::inside::single_rebuilt;
 use crate::rebuild::share;
+use dense::shape::are_matrices;
 use dense::vector::is_finite;
 use eigen::Plane;
 use eigen::pair::eigenplane;
 use kernel::question::FINITE_EIGENVALUES;
 use kernel::question::FINITE_ENTRIES;
+use kernel::question::LENGTH;
 
 // What is told of one eigenvalue.
 pub(crate) fn single_report(x: f64, floor: f64) -> RegularizationReport
@@ -36,11 +38,13 @@ pub(crate) fn single_report(x: f64, floor: f64) -> RegularizationReport
     }
 }
 
-// The repair of one entry, which is its own eigenvalue.
+// Question 2, and then the repair of one entry, which is its own eigenvalue.
 pub(crate) fn single_repair(cov: &[f64], floor: f64, out: &mut [f64]) -> Repaired
-    requires { ⌜ Mending 1 (now cov) (now out) ⌝ }
-    ensures { λ r. ⌜ (r, now (out .exit)) ≡ afterRepair (repair (now (cov .entry)) floor 1) (now (out .entry)) ⌝ }
+    ensures { λ r. ⌜ (r, now (out .exit)) ≡ afterRepair (nearestPsd (now (cov .entry)) floor 1 (now (out .entry))) (now (out .entry)) ⌝ }
 {
+    if !are_matrices(cov, 1, 1, out, 1, 1) {
+        return refused(LENGTH);
+    }
     let x = cov[0];
     if !is_finite(x) {
         return refused(FINITE_ENTRIES);

@@ -14,7 +14,6 @@ use crate::clip::raise;
 use crate::clip::raised;
 use crate::clip::report;
 use crate::direct::plane_repair;
-use crate::direct::single_repair;
 use crate::direct::single_report;
 use crate::rebuild::rebuild;
 use crate::rebuild::share;
@@ -74,9 +73,6 @@ pub fn repair(cov: &[f64], floor: f64, n: usize, out: &mut [f64]) -> Repaired
     requires { ⌜ Mending n (now cov) (now out) ⌝ }
     ensures { λ r. ⌜ (r, now (out .exit)) ≡ afterRepair (repair (now (cov .entry)) floor n) (now (out .entry)) ⌝ }
 {
-    if n == 1 {
-        return single_repair(cov, floor, out);
-    }
     let size = n * n;
     if !are_finite(cov, size) {
         return refused(FINITE_ENTRIES);
