@@ -104,7 +104,8 @@ module _ (mu x p q : List Float) (n : ℕ) (floor gate : Float) where
   unfolding comparing
   comparing-turned =
       ap (λ (b : Bool). ask 1 (isSide n) (ask 2 b (ask 18 (floorAndGate floor gate) (answered (compared mu x p q n floor gate)))))
-      (and-swap (hasLength mu n) (hasLength x n) (hasLength p (n * n) && hasLength q (n * n)) ∙ ap (λ (b : Bool). hasLength x n && (hasLength mu n && b)) (and-comm (hasLength p (n * n)) (hasLength q (n * n))))
+      (and-swap (hasLength mu n) (hasLength x n) (hasLength p (n * n) && hasLength q (n * n))
+      ∙ ap (λ (b : Bool). hasLength x n && (hasLength mu n && b)) (and-comm (hasLength p (n * n)) (hasLength q (n * n))))
       ∙ ap
       (λ (c : Comparison). ask 1 (isSide n) (ask 2 (hasLength x n && (hasLength mu n && (hasLength q (n * n) && hasLength p (n * n)))) (ask 18 (floorAndGate floor gate) (answered c))))
       compared-turned
