@@ -20,8 +20,8 @@ use Rattle.repair.specs.Repair.{Repair}
 use Rattle.compare.specs.declared.Comparison.{Comparison}
 use Rattle.compare.specs.Distance.{jointRepair, squaredDistance, comparisonOf, compared, floorAndGate, comparing}
 use Rattle.compare.proofs.Joint.{repair-symmetric}
-use Rattle.compare.proofs.Opposite.{Opposite, EqualOrZero, sub-opposite, turned-product}
-use Rattle.compare.proofs.Signed.{minusZero, add-either, add-signed}
+use Rattle.kernel.proofs.Opposite.{Opposite, EqualOrZero, sub-opposite, opposite-product}
+use Rattle.kernel.proofs.Signed.{minusZero, add-either, add-signed}
 
 -- ---- sums
 
@@ -59,7 +59,7 @@ nought-plain = (tt, refl)
 pub quadratic-turned : (d e a : List Float) (n : ℕ) → ((i : ℕ) → i < n → Opposite (nth d i) (nth e i)) → quadraticForm d a n ≡ quadraticForm e a n
 unfolding quadraticForm
 quadratic-turned d e a n h =
-    rows-equal nought n n _ _ nought-plain (λ i j. mul-fits binary64 (mul (nth d i) (at a n i j)) (nth d j)) (λ i j k l. turned-product (at a n i j) (h i k) (h j l)) .0
+    rows-equal nought n n _ _ nought-plain (λ i j. mul-fits binary64 (mul (nth d i) (at a n i j)) (nth d j)) (λ i j k l. opposite-product (at a n i j) (h i k) (h j l)) .0
 
 -- ---- distances
 

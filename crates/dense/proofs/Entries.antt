@@ -8,7 +8,7 @@ use lib.ListN.{length, set}
 use lib.Ieee.{Float}
 use Rattle.kernel.specs.Lists.{tabulate}
 use Rattle.dense.specs.Matrix.{nth}
-use Rattle.dense.specs.Fill.{Filled}
+use Rattle.dense.proofs.Fill.{Filled}
 use Rattle.dense.proofs.Laws.{filled-none, filled-more, filled-next, filled-all}
 
 -- the entries before i are those of f, and the others are still those of old

@@ -18,7 +18,7 @@ use Rattle.kernel.specs.Constants.{nought}
 use Rattle.dense.specs.Matrix.{sumFrom, nth, at, rowOf, matrix}
 use Rattle.kernel.specs.Lists.{tabulate}
 use Rattle.kernel.proofs.Lists.{length-tabulate, getD-tabulate, by-elements, tabulate-ext}
-use Rattle.dense.specs.Fill.{Filled, FilledRows}
+use Rattle.dense.proofs.Fill.{Filled, FilledRows}
 
 -- ---- places
 

@@ -1,5 +1,6 @@
 pub mod Tests
 pub mod Answers
+pub mod Fill
 pub mod Laws
 pub mod Signs
 pub mod Matrices

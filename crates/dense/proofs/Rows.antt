@@ -13,7 +13,7 @@ use lib.Ieee.{Float, nan}
 use Rattle.kernel.specs.Lists.{tabulate}
 use Rattle.kernel.proofs.Lists.{length-tabulate, row-within}
 use Rattle.dense.specs.Matrix.{nth, at, matrix}
-use Rattle.dense.specs.Fill.{FilledRows}
+use Rattle.dense.proofs.Fill.{FilledRows}
 use Rattle.dense.proofs.Laws.{cell, length-part, matrix-by-entries, rows-none, rows-more, rows-all}
 
 -- the rows before row i are those of f, and the others are still those of old

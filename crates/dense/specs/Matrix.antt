@@ -7,7 +7,8 @@ use lib.ListN.{length, getD, take, drop}
 use lib.Ieee.{Float, nan, lt}
 use Rattle.kernel.specs.Constants.{nought, one}
 use Rattle.kernel.specs.Lists.{tabulate}
-use Rattle.kernel.specs.Number.{add, abs, finite}
+use Rattle.kernel.specs.Number.{add, mul, abs, finite}
+use Rattle.kernel.specs.Sqrt.{sqrt}
 
 -- x + f 0 + f 1 + .. + f (n - 1), summed from the left
 unfoldable pub sumFrom : Float → ℕ → (ℕ → Float) → Float
@@ -38,9 +39,21 @@ nth x i = getD x i nan
 abbrev pub at : List Float → ℕ → ℕ → ℕ → Float
 at a n i j = nth a (i * n + j)
 
+-- the inner product of x and y, of n entries
+abbrev pub dotProduct : List Float → List Float → ℕ → Float
+dotProduct x y n = total n (λ i. mul (nth x i) (nth y i))
+
+-- the root of the sum of the squares of the first n entries
+abbrev pub norm : List Float → ℕ → Float
+norm x n = sqrt (dotProduct x x n)
+
 -- row i of a matrix of n columns
 unfoldable pub rowOf : List Float → ℕ → ℕ → List Float
 rowOf a n i = take n (drop (i * n) a)
+
+-- column j of a matrix of m rows and n columns
+abbrev pub columnOf : List Float → ℕ → ℕ → ℕ → List Float
+columnOf a m n j = tabulate m (λ i. at a n i j)
 
 -- the m by n matrix whose entry (i, j) is f i j
 unfoldable pub matrix : ℕ → ℕ → (ℕ → ℕ → Float) → List Float
@@ -55,6 +68,10 @@ unitEntry i j = cond (eqb i j) one nought
 -- the n by n identity
 abbrev pub identity : ℕ → List Float
 identity n = matrix n n unitEntry
+
+-- unit vector j of n entries: 1.0 at j, 0.0 elsewhere
+abbrev pub unitVector : ℕ → ℕ → List Float
+unitVector n j = tabulate n (λ i. unitEntry i j)
 
 -- the greatest |entry| among the first n, 0.0 at first: a NaN never raises it
 unfoldable pub maxAbs : List Float → ℕ → Float

@@ -4,8 +4,9 @@ ghost use mathlib.Core.Bool.{cond};
 ghost use lib.ListN.{length};
 ghost use lib.Ieee.{lt};
 ghost use Rattle.kernel.specs.Lists.{tabulate};
-ghost use Rattle.kernel.specs.Number.{add, mul, abs, finite};
-ghost use Rattle.dense.specs.Matrix.{nth, total, maxAbs, finiteEntries};
+ghost use Rattle.kernel.specs.Number.{add, sub, mul, abs, finite};
+ghost use Rattle.dense.specs.Matrix.{nth, dotProduct, norm, maxAbs, finiteEntries};
+use kernel::number::sqrt;
 
 // Adds s times x to y, entry by entry.
 pub fn add_scaled(s: f64, x: &[f64], n: usize, y: &mut [f64])
@@ -14,6 +15,16 @@ pub fn add_scaled(s: f64, x: &[f64], n: usize, y: &mut [f64])
 {
     for j in 0..n {
         y[j] = y[j] + s * x[j];
+    }
+}
+
+// Takes s times x from y, entry by entry.
+pub fn subtract_scaled(s: f64, x: &[f64], n: usize, y: &mut [f64])
+    requires { ⌜ (length (now x) ≡ n) × (length (now y) ≡ n) ⌝ }
+    ensures { λ _. ⌜ now (y .exit) ≡ tabulate n (λ j. sub (nth (now (y .entry)) j) (mul s (nth (now (x .entry)) j))) ⌝ }
+{
+    for j in 0..n {
+        y[j] = y[j] - s * x[j];
     }
 }
 
@@ -27,16 +38,24 @@ pub fn copy(x: &[f64], n: usize, y: &mut [f64])
     }
 }
 
-// The sum of the products of the entries of x and y.
+// The inner product of x and y.
 pub fn dot(x: &[f64], y: &[f64], n: usize) -> f64
     requires { ⌜ (length (now x) ≡ n) × (length (now y) ≡ n) ⌝ }
-    ensures { λ r. ⌜ r ≡ total n (λ j. mul (nth (now (x .entry)) j) (nth (now (y .entry)) j)) ⌝ }
+    ensures { λ r. ⌜ r ≡ dotProduct (now (x .entry)) (now (y .entry)) n ⌝ }
 {
     let mut s = 0.0;
     for j in 0..n {
         s = s + x[j] * y[j];
     }
     s
+}
+
+// The root of the sum of the squares of x.
+pub fn norm(x: &[f64], n: usize) -> f64
+    requires { ⌜ length (now x) ≡ n ⌝ }
+    ensures { λ r. ⌜ r ≡ norm (now (x .entry)) n ⌝ }
+{
+    sqrt(dot(x, x, n))
 }
 
 // x, which has no sign, or |y| where that is greater: both tests seldom hold, where the sign of y is any.

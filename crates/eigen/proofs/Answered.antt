@@ -1,4 +1,4 @@
--- What an answered call says. `eigen-arranged`: its values and vectors are the diagonal and the columns of the settled state, in their order. `eigen-descends`: no later
+-- What an answered call says. `eigen-arranged`: its values and vectors are the diagonal and the columns of the swept state, in their order. `eigen-descends`: no later
 -- eigenvalue is greater. `eigen-stable`: the order is a permutation, in which equal eigenvalues keep their places. `eigen-finite`: each is finite. All are of
 -- `eigenpairs`, which is what an answered `mat_symmetric_eigen` gives (`call-answered`).
 use Prim.Native.Nat.{ℕ, _*_, _<_}
@@ -17,15 +17,15 @@ use Rattle.dense.specs.Matrix.{nth, isSide, hasLength, finiteEntries}
 use Rattle.dense.proofs.Finite.{finite-entry}
 use Rattle.dense.proofs.Laws.{nth-tabulate}
 use Rattle.eigen.specs.Rotation.{State}
-use Rattle.eigen.specs.Rows.{Below}
-use Rattle.eigen.specs.Eigen.{place, order, diagonal, arranged, Eigenpairs, pairsOf, begun, tolerance, settled, eigenpairs, matSymmetricEigen}
+use Rattle.eigen.specs.Private.{Below}
+use Rattle.eigen.specs.Eigen.{indexAt, order, diagonal, arranged, Eigenpairs, pairsOf, begun, tolerance, swept, eigenpairs, matSymmetricEigen}
 use Rattle.eigen.proofs.Orders.{order-below}
 use Rattle.eigen.proofs.Sorting.{Descends, order-descends, Once, order-once}
 use Rattle.eigen.proofs.Stability.{Numbers, Stable, order-stable}
 
 -- the state in which the sweeps end
 abbrev pub final : List Float → ℕ → State
-final a n = settled n (tolerance (begun a n .entries) n) (begun a n)
+final a n = swept n (tolerance (begun a n .entries) n) (begun a n)
 
 -- and its diagonal
 abbrev pub eigenvalues : List Float → ℕ → List Float
@@ -51,12 +51,12 @@ module _ (a : List Float) (n : ℕ) (r : Eigenpairs) (met : eigenpairs a n ≡ a
   pub eigen-arranged : r ≡ arranged (eigenvalues a n) (final a n .vectors) n (order (eigenvalues a n) n)
   eigen-arranged = sym (answered-inj (asked .1))
 
-  values-arranged : r .values ≡ tabulate n (λ k. nth (eigenvalues a n) (place (order (eigenvalues a n) n) k))
+  values-arranged : r .values ≡ tabulate n (λ k. nth (eigenvalues a n) (indexAt (order (eigenvalues a n) n) k))
   unfolding arranged
   values-arranged = ap (λ (e : Eigenpairs). e .values) eigen-arranged
 
-  nth-values : (i : ℕ) → i < n → nth (r .values) i ≡ nth (eigenvalues a n) (place (order (eigenvalues a n) n) i)
-  nth-values i h = ap (λ (l : List Float). nth l i) values-arranged ∙ nth-tabulate n (λ x. nth (eigenvalues a n) (place (order (eigenvalues a n) n) x)) i h
+  nth-values : (i : ℕ) → i < n → nth (r .values) i ≡ nth (eigenvalues a n) (indexAt (order (eigenvalues a n) n) i)
+  nth-values i h = ap (λ (l : List Float). nth l i) values-arranged ∙ nth-tabulate n (λ x. nth (eigenvalues a n) (indexAt (order (eigenvalues a n) n) x)) i h
 
   pub eigen-descends : (i j : ℕ) → i < j → j < n → lt (nth (r .values) i) (nth (r .values) j) ≡ false
   unfolding Descends
@@ -72,7 +72,7 @@ module _ (a : List Float) (n : ℕ) (r : Eigenpairs) (met : eigenpairs a n ≡ a
   -- every eigenvalue is finite
   pub eigen-finite : (i : ℕ) → i < n → T (finite (nth (r .values) i))
   unfolding Below
-  eigen-finite i h = rw (nth-values i h) (finites (place (order (eigenvalues a n) n) i) (order-below (eigenvalues a n) n i h))
+  eigen-finite i h = rw (nth-values i h) (finites (indexAt (order (eigenvalues a n) n) i) (order-below (eigenvalues a n) n i h))
 
   pub eigen-stable : Once n (order (eigenvalues a n) n) × Stable (eigenvalues a n) n (order (eigenvalues a n) n)
   eigen-stable = (order-once (eigenvalues a n) n, order-stable (eigenvalues a n) n numbers)

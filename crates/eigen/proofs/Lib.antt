@@ -5,7 +5,7 @@ pub mod Sweeps
 pub mod Means
 pub mod Orders
 pub mod Pairs
-pub mod Planes
+pub mod PlaneSteps
 pub mod Single
 pub mod Sorting
 pub mod Stability

@@ -1,4 +1,4 @@
--- The symmetric matrix: `mean-of` makes its entries in either order, and `begun-symmetric` says that it is symmetric bit by bit.
+-- The matrix that the sweeps begin with: `mean-of` makes its entries in either order, and `symmetrized-symmetric` says that it is symmetric bit by bit.
 use Prim.Native.Nat.{ℕ, _<_, min, max}
 use native.Mathlib.Omega.{arith}
 use native.Mathlib.Nat.{min-comm, max-comm}
@@ -11,9 +11,9 @@ use Rattle.kernel.specs.Number.{add, mul}
 use Rattle.kernel.specs.Constants.{half}
 use Rattle.dense.specs.Matrix.{at}
 use Rattle.dense.proofs.Laws.{at-matrix}
-use Rattle.linalg.proofs.Symmetry.{add-float-comm}
+use Rattle.kernel.proofs.Commute.{add-float-comm}
 use Rattle.eigen.specs.Eigen.{symmetrizedEntry, symmetrized}
-use Rattle.eigen.specs.Rows.{Symmetric}
+use Rattle.eigen.specs.Rotation.{Symmetric}
 
 pub mean-of : (a : List Float) (n i j : ℕ) {x y : Float} → (i ≡ j → ⊥) → x ≡ at a n i j → y ≡ at a n j i → mul half (add x y) ≡ symmetrizedEntry a n i j
 unfolding symmetrizedEntry

@@ -1,4 +1,4 @@
--- What a settled state answers: `pairs-refused` and `pairs-made`, from what the code's functions give; and `answered-by`, from the start.
+-- What a swept state answers: `pairs-refused` and `pairs-made`, from what the code's functions give; and `answered-by`, from the start.
 use Prim.Native.Nat.{ℕ, _*_, _≤_}
 use native.Mathlib.Omega.{arith}
 use native.Mathlib.Nat.{mul-le-mul-right}
@@ -15,9 +15,9 @@ use Rattle.dense.specs.declared.Written.{Written}
 use Rattle.dense.specs.declared.Written.the-variants.{Done, Refused}
 use Rattle.dense.proofs.Laws.{at-matrix, matrix-ext}
 use Rattle.dense.proofs.Tests.{met, unmet}
-use Rattle.eigen.specs.Eigen.{place, order, diagonal, arranged, pairsOf, afterPairs, Eigenpairs, symmetrized, begun, tolerance, settled, eigenpairs}
+use Rattle.eigen.specs.Eigen.{indexAt, order, diagonal, arranged, pairsOf, afterPairs, Eigenpairs, symmetrized, begun, tolerance, swept, eigenpairs}
 use Rattle.eigen.specs.Rotation.{State, state}
-use Rattle.eigen.specs.Rows.{Below, stateOf}
+use Rattle.eigen.specs.Private.{Below, stateOf}
 use Rattle.eigen.proofs.Orders.{order-below}
 
 pub sorted-below : (e : List Float) (n : ℕ) {l : List ℕ} → l ≡ order e n → Below n n l
@@ -30,12 +30,12 @@ module _ (n : ℕ) (m v values vectors : List Float) where
   pairs-refused p q t = rw (← p, unmet q t)
 
   -- the vectors stand as rows
-  columns : (l : List ℕ) → Below n n l → matrix n n (λ i k. at v n (place l k) i) ≡ matrix n n (λ i k. at (matrix n n (λ a b. at v n b a)) n i (place l k))
+  columns : (l : List ℕ) → Below n n l → matrix n n (λ i k. at v n (indexAt l k) i) ≡ matrix n n (λ i k. at (matrix n n (λ a b. at v n b a)) n i (indexAt l k))
   unfolding Below
-  columns l h = matrix-ext n n _ _ (λ i k a b. sym (at-matrix n n (λ x y. at v n y x) i (place l k) a (h k b)))
+  columns l h = matrix-ext n n _ _ (λ i k a b. sym (at-matrix n n (λ x y. at v n y x) i (indexAt l k) a (h k b)))
 
   pub pairs-made : {e x y : List Float} {l : List ℕ} {b : Bool} → e ≡ diagonal m n → b ≡ finiteEntries e n → not b ≡ false → l ≡ order e n
-      → x ≡ tabulate n (λ k. nth e (place l k)) → y ≡ matrix n n (λ i k. at v n (place l k) i)
+      → x ≡ tabulate n (λ k. nth e (indexAt l k)) → y ≡ matrix n n (λ i k. at v n (indexAt l k) i)
       → _≡_ {A = Written × List Float × List Float} (Done, x, y) (afterPairs (pairsOf n (stateOf n m v)) values vectors)
   unfolding pairsOf arranged
   pairs-made {e} {x} {y} {l} p q t o f g = rw (← p, met q t, ← o, f, g ∙ columns l (sorted-below e n o))
@@ -54,20 +54,20 @@ unit-rows n = matrix-ext n n _ _ (λ i j h k. at-matrix n n unitEntry j i k h �
     go i j (yes e) = rw e
     go i j (no e) = rw (ne-eqb i j e, ne-eqb j i (λ w. e (sym w)))
 
-eigenpairs-from : (a : List Float) (n : ℕ) → pairsOf n (settled n (tolerance (symmetrized a n) n) (state (symmetrized a n) (identity n))) ≡ eigenpairs a n
+eigenpairs-from : (a : List Float) (n : ℕ) → pairsOf n (swept n (tolerance (symmetrized a n) n) (state (symmetrized a n) (identity n))) ≡ eigenpairs a n
 unfolding eigenpairs begun
 eigenpairs-from a n = refl
 
 module _ (a : List Float) (n : ℕ) where
   -- the slices at the start
-  settled-from : {m v : List Float} {tol : Float} → m ≡ symmetrized a n → v ≡ identity n → tol ≡ tolerance m n
-      → settled n tol (stateOf n m v) ≡ settled n (tolerance (symmetrized a n) n) (state (symmetrized a n) (identity n))
-  settled-from em ev et = rw (et, em, ev, unit-rows n)
+  swept-from : {m v : List Float} {tol : Float} → m ≡ symmetrized a n → v ≡ identity n → tol ≡ tolerance m n
+      → swept n tol (stateOf n m v) ≡ swept n (tolerance (symmetrized a n) n) (state (symmetrized a n) (identity n))
+  swept-from em ev et = rw (et, em, ev, unit-rows n)
 
   pub answered-by : {m v : List Float} (w z : List Float) {tol : Float} (values vectors : List Float) {r : Written × List Float × List Float} → m ≡ symmetrized a n
-      → v ≡ identity n → tol ≡ tolerance m n → stateOf n w z ≡ settled n tol (stateOf n m v) → r ≡ afterPairs (pairsOf n (stateOf n w z)) values vectors
+      → v ≡ identity n → tol ≡ tolerance m n → stateOf n w z ≡ swept n tol (stateOf n m v) → r ≡ afterPairs (pairsOf n (stateOf n w z)) values vectors
       → r ≡ afterPairs (eigenpairs a n) values vectors
   answered-by w z values vectors em ev et es er =
       er
-      ∙ ap (λ (s : State). afterPairs (pairsOf n s) values vectors) (es ∙ settled-from em ev et)
+      ∙ ap (λ (s : State). afterPairs (pairsOf n s) values vectors) (es ∙ swept-from em ev et)
       ∙ ap (λ (o : Outcome Eigenpairs). afterPairs o values vectors) (eigenpairs-from a n)

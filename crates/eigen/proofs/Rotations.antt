@@ -14,8 +14,8 @@ use Rattle.kernel.specs.Constants.{nought}
 use Rattle.dense.specs.Matrix.{at, matrix}
 use Rattle.dense.proofs.Laws.{at-matrix, matrix-ext}
 use Rattle.eigen.specs.declared.Rotation.{Rotation}
-use Rattle.eigen.specs.Rotation.{either, turned, cornerEntry, turnedEntry, turnedVector, State, state, turnedBy, negligible, rotation, rotated}
-use Rattle.eigen.specs.Rows.{Symmetric, stateOf, rowEntry, turnedRows, withCorners, mirrored}
+use Rattle.eigen.specs.Rotation.{either, turned, cornerEntry, turnedEntry, turnedVector, State, state, turnedBy, negligible, rotation, rotated, Symmetric}
+use Rattle.eigen.specs.Private.{stateOf, rowEntry, turnedRows, withCorners, mirrored}
 
 -- ---- the rotation
 

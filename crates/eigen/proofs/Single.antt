@@ -12,8 +12,7 @@ use Rattle.kernel.specs.Lists.{tabulate}
 use Rattle.kernel.specs.Number.{finite}
 use Rattle.dense.specs.Matrix.{nth, matrix, finiteEntries}
 use Rattle.eigen.specs.Rotation.{State}
-use Rattle.eigen.specs.Eigen.{symmetrizedEntry, begun, tolerance, sweptRow, sweptRows, afterSweeps, sweeps, settled}
-use Rattle.eigen.specs.Eigen.{spot, insertedAt, order, arranged, pairsOf, eigenpairs}
+use Rattle.eigen.specs.Eigen.{symmetrizedEntry, begun, tolerance, sweptRow, sweptRows, afterSweeps, sweeps, swept, spot, insertedAt, order, arranged, pairsOf, eigenpairs}
 use Rattle.eigen.proofs.Answered.{eigenpairs-final}
 
 single-after : (s : State) (k : ℕ) → afterSweeps 1 s k ≡ s
@@ -21,16 +20,16 @@ unfolding afterSweeps sweptRows sweptRow
 single-after s zero = refl
 single-after s (suc k) = single-after s k
 
-single-settled : (tol : Float) (s : State) → settled 1 tol s ≡ s
-unfolding settled
-single-settled tol s = single-after s (sweeps 1 tol s)
+single-swept : (tol : Float) (s : State) → swept 1 tol s ≡ s
+unfolding swept
+single-swept tol s = single-after s (sweeps 1 tol s)
 
 single-pairs : (a : List Float) → pairsOf 1 (begun a 1) ≡ ask 4 (finite (nth a 0)) (answered (record { values = nth a 0 ∷ []; vectors = one ∷ [] }))
 unfolding pairsOf begun symmetrizedEntry matrix tabulate finiteEntries arranged order spot insertedAt firstBelow
 single-pairs a = refl
 
 pub single-eigenpairs : (a : List Float) → eigenpairs a 1 ≡ ask 4 (finite (nth a 0)) (answered (record { values = nth a 0 ∷ []; vectors = one ∷ [] }))
-single-eigenpairs a = eigenpairs-final a 1 ∙ ap (pairsOf 1) (single-settled (tolerance (begun a 1 .entries) 1) (begun a 1)) ∙ single-pairs a
+single-eigenpairs a = eigenpairs-final a 1 ∙ ap (pairsOf 1) (single-swept (tolerance (begun a 1 .entries) 1) (begun a 1)) ∙ single-pairs a
 
 -- a list of one element, once it is stored
 pub single-stored : (l : List Float) (x : Float) → length l ≡ 1 → set l 0 x ≡ x ∷ []

@@ -9,8 +9,8 @@ use lib.Dec.{T}
 use lib.Ieee.{Float, lt, eq, isNan}
 use Rattle.kernel.proofs.Order.{lt-transitive, lt-trichotomy, eq-lt}
 use Rattle.dense.specs.Matrix.{nth}
-use Rattle.eigen.specs.Eigen.{place, spot, order}
-use Rattle.eigen.specs.Rows.{Below}
+use Rattle.eigen.specs.Eigen.{indexAt, spot, order}
+use Rattle.eigen.specs.Private.{Below}
 use Rattle.eigen.proofs.Orders.{spot-within, order-below}
 use Rattle.eigen.proofs.Sorting.{From, kept, new, moved, from, holds, denied, spot-at, order-suc, Descends, rest-less, order-descends}
 
@@ -20,7 +20,7 @@ Numbers e n = (i : ℕ) → i < n → T (not (isNan (nth e i)))
 
 -- of two that stand in the first k places of l, of which the later one is not less, the first comes first
 unfoldable pub Stable : List Float → ℕ → List ℕ → Type 0
-Stable e k l = (a b : ℕ) → a < b → b < k → lt (nth e (place l b)) (nth e (place l a)) ≡ false → place l a < place l b
+Stable e k l = (a b : ℕ) → a < b → b < k → lt (nth e (indexAt l b)) (nth e (indexAt l a)) ≡ false → indexAt l a < indexAt l b
 
 -- what does not exceed x is below y where x is
 pub below-too : (x y z : Float) → T (not (isNan x)) → T (not (isNan z)) → lt x y ≡ true → lt x z ≡ false → T (lt z y)
@@ -40,8 +40,8 @@ module _ (e : List Float) (l : List ℕ) (k : ℕ) (u : Below k k l) (d : Descen
   stable-both s a b h i (new p f) (kept q g) t = absurd (omega arith)
   stable-both s a b h i (new p f) (new q g) t = absurd (omega arith)
   stable-both s a b h i (new p f) (moved q g) t =
-      let x = place l (spot e l k) in
-      let z = place l (b - 1) in
+      let x = indexAt l (spot e l k) in
+      let z = indexAt l (b - 1) in
       let nx = numbers x (u (spot e l k) (omega arith)) in
       let nz = numbers z (u (b - 1) (omega arith)) in
       let below = below-too (nth e x) (nth e k) (nth e z) nx nz (spot-at e l k (omega arith)) (rest-less e l k d b q i) in

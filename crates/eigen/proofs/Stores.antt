@@ -15,7 +15,7 @@ use Rattle.kernel.specs.Constants.{nought}
 use Rattle.dense.specs.Matrix.{at}
 use Rattle.eigen.specs.declared.Rotation.{Rotation}
 use Rattle.eigen.specs.Rotation.{either, turned}
-use Rattle.eigen.specs.Rows.{rowEntry, turnedRows, withCorners, mirrored}
+use Rattle.eigen.specs.Private.{rowEntry, turnedRows, withCorners, mirrored}
 use Rattle.eigen.proofs.Cells.{Cells, put, cells-own, cells-ext, cells-matrix, cells-put, before-other}
 
 -- ---- rows p and q, column by column

@@ -14,9 +14,9 @@ use Rattle.kernel.specs.Number.{add, mul}
 use Rattle.kernel.proofs.First.{Standing, stands-first, stands-next, stopped, unstopped}
 use Rattle.dense.specs.Matrix.{sumFrom, at}
 use Rattle.dense.proofs.Laws.{sum-more}
-use Rattle.eigen.specs.Rotation.{State, rotated}
-use Rattle.eigen.specs.Rows.{Symmetric, Slices, stateOf}
-use Rattle.eigen.specs.Eigen.{aboveRows, stops, sweptRow, sweptRows, sweep, afterSweeps, sweeps, settled}
+use Rattle.eigen.specs.Rotation.{State, rotated, Symmetric}
+use Rattle.eigen.specs.Private.{Slices, stateOf}
+use Rattle.eigen.specs.Eigen.{aboveRows, stops, sweptRow, sweptRows, sweep, afterSweeps, sweeps, swept}
 use Rattle.eigen.proofs.Rotations.{rotated-symmetric}
 
 -- ---- sums above the diagonal
@@ -35,10 +35,10 @@ above-end x m n i h k p = p ∙ ap (λ (l : ℕ). sumFrom x (l - suc i) (λ d. s
 
 pub above-term : (x : Float) (m : List Float) (n i j : ℕ) {s y : Float} → i < j → s ≡ sumFrom x (j - suc i) (λ d. square m n i (suc i + d)) → y ≡ at m n i j
     → add s (mul y y) ≡ sumFrom x (j + 1 - suc i) (λ d. square m n i (suc i + d))
-above-term x m n i j {s} {y} h p e = sum-more x (λ d. square m n i (suc i + d)) (j - suc i) p (rw e (ap (square m n i) place)) ∙ ap (λ (k : ℕ). sumFrom x k (λ d. square m n i (suc i + d))) count
+above-term x m n i j {s} {y} h p e = sum-more x (λ d. square m n i (suc i + d)) (j - suc i) p (rw e (ap (square m n i) column)) ∙ ap (λ (k : ℕ). sumFrom x k (λ d. square m n i (suc i + d))) count
   where
-    place : j ≡ suc i + (j - suc i)
-    place = omega arith
+    column : j ≡ suc i + (j - suc i)
+    column = omega arith
 
     count : j - suc i + 1 ≡ j + 1 - suc i
     count = omega arith
@@ -55,10 +55,10 @@ row-none n p s = ap (sweptRow n p s) (let e : 0 ≡ p + 1 - suc p = omega arith 
 
 pub row-more : (n p q : ℕ) (s : State) {t u : State} → p < q → t ≡ sweptRow n p s (q - suc p) → u ≡ rotated n p q t → u ≡ sweptRow n p s (q + 1 - suc p)
 unfolding sweptRow
-row-more n p q s {t} {u} h e f = f ∙ rw e (ap (λ (k : ℕ). rotated n p k (sweptRow n p s (q - suc p))) place) ∙ ap (sweptRow n p s) count
+row-more n p q s {t} {u} h e f = f ∙ rw e (ap (λ (k : ℕ). rotated n p k (sweptRow n p s (q - suc p))) column) ∙ ap (sweptRow n p s) count
   where
-    place : q ≡ suc p + (q - suc p)
-    place = omega arith
+    column : q ≡ suc p + (q - suc p)
+    column = omega arith
 
     count : suc (q - suc p) ≡ q + 1 - suc p
     count = omega arith
@@ -129,10 +129,10 @@ module _ {n : ℕ} {tol : Float} {s : State} where
     unfolding afterSweeps
     next-sweep h e f = record { at = stands-next (b .at) h e (f ∙ rw (add-one, b .at .reached)) }
 
-    pub stops-now : k < 64 → stops n tol t ≡ true → t ≡ settled n tol s
-    unfolding settled sweeps
+    pub stops-now : k < 64 → stops n tol t ≡ true → t ≡ swept n tol s
+    unfolding swept sweeps
     stops-now h e = b .at .reached ∙ ap (afterSweeps n s) (sym (stopped (b .at) h e))
 
-    pub stops-never : 64 ≤ k → t ≡ settled n tol s
-    unfolding settled sweeps
+    pub stops-never : 64 ≤ k → t ≡ swept n tol s
+    unfolding swept sweeps
     stops-never h = b .at .reached ∙ ap (afterSweeps n s) (sym (unstopped (b .at) h))

@@ -18,12 +18,12 @@ use Rattle.kernel.specs.Number.{add, mul, max, abs}
 use Rattle.dense.specs.Matrix.{sumFrom, nth, at, matrix, unitEntry, identity, finiteEntries}
 use Rattle.dense.proofs.Laws.{cell, nth-tabulate, at-matrix, matrix-ext, matrix-by-entries}
 use Rattle.kernel.proofs.Lists.{length-tabulate, tabulate-ext}
-use Rattle.eigen.specs.Eigen.{symmetrizedEntry, begun, aboveRows, tolerance, stops, sweptRow, sweptRows, afterSweeps, sweeps, settled}
-use Rattle.eigen.specs.Eigen.{place, spot, order, diagonal, arranged, pairsOf, eigenpairs}
-use Rattle.eigen.proofs.Orders.{place-inserted, insertedElement, order-below}
+use Rattle.eigen.specs.Eigen.{symmetrizedEntry, begun, aboveRows, tolerance, stops, sweptRow, sweptRows, afterSweeps, sweeps, swept}
+use Rattle.eigen.specs.Eigen.{indexAt, spot, order, diagonal, arranged, pairsOf, eigenpairs}
+use Rattle.eigen.proofs.Orders.{index-inserted, insertedElement, order-below}
 use Rattle.eigen.proofs.Answered.{eigenpairs-final}
 use Rattle.eigen.proofs.Sorting.{order-suc}
-use Rattle.eigen.specs.Rows.{Below}
+use Rattle.eigen.specs.Private.{Below}
 use Rattle.eigen.specs.Rotation.{State, state, negligible, rotated}
 
 -- ---- a test that never holds
@@ -120,9 +120,9 @@ module _ (n : ℕ) (v : List Float) where
   unfolding sweeps
   zero-sweeps = first-never 64 _ (λ k h. zero-test k)
 
-  zero-settled : settled n (tolerance (zeros n) n) (state (zeros n) v) ≡ state (zeros n) v
-  unfolding settled
-  zero-settled = zero-after (sweeps n (tolerance (zeros n) n) (state (zeros n) v))
+  zero-swept : swept n (tolerance (zeros n) n) (state (zeros n) v) ≡ state (zeros n) v
+  unfolding swept
+  zero-swept = zero-after (sweeps n (tolerance (zeros n) n) (state (zeros n) v))
 
 zero-begun : (n : ℕ) → begun (zeros n) n ≡ state (zeros n) (identity n)
 unfolding begun symmetrizedEntry
@@ -141,13 +141,13 @@ Level e n = (i j : ℕ) → i < n → j < n → lt (nth e i) (nth e j) ≡ false
 
 level-spot : (e : List Float) (n k : ℕ) → Level e n → k < n → spot e (order e k) k ≡ k
 unfolding Level spot Below
-level-spot e n k w h = first-never k _ (λ j b. w (place (order e k) j) k (omega (arith, order-below e k j b)) h)
+level-spot e n k w h = first-never k _ (λ j b. w (indexAt (order e k) j) k (omega (arith, order-below e k j b)) h)
 
-level-order : (e : List Float) (n : ℕ) → Level e n → (k : ℕ) → k ≤ n → (i : ℕ) → i < k → place (order e k) i ≡ i
+level-order : (e : List Float) (n : ℕ) → Level e n → (k : ℕ) → k ≤ n → (i : ℕ) → i < k → indexAt (order e k) i ≡ i
 level-order e n w zero h i l = absurd (omega arith)
-level-order e n w (suc k) h i l = rw (order-suc e k, level-spot e n k w h) (place-inserted k k (order e k) i l ∙ go (ℕ-discrete i k) (level-order e n w k (omega arith) i))
+level-order e n w (suc k) h i l = rw (order-suc e k, level-spot e n k w h) (index-inserted k k (order e k) i l ∙ go (ℕ-discrete i k) (level-order e n w k (omega arith) i))
   where
-    go : Dec (i ≡ k) → (i < k → place (order e k) i ≡ i) → insertedElement k k (order e k) i ≡ i
+    go : Dec (i ≡ k) → (i < k → indexAt (order e k) i ≡ i) → insertedElement k k (order e k) i ≡ i
     go (yes s) f = rw (le-ltb i k (omega arith), eq-eqb i k s) (sym s)
     go (no s) f = let b : i < k = omega (arith, s) in rw (lt-ltb i k b) (f b)
 
@@ -170,13 +170,13 @@ module _ (n : ℕ) where
   finite-to zero h = refl
   finite-to (suc k) h = rw (finite-to k (omega arith), nth-values k h)
 
-  ordered : (i : ℕ) → i < n → place (order zero-values n) i ≡ i
+  ordered : (i : ℕ) → i < n → indexAt (order zero-values n) i ≡ i
   ordered = level-order zero-values n level n (omega arith)
 
   zero-arranged : arranged zero-values (identity n) n (order zero-values n) ≡ record { values = tabulate n (λ k. nought); vectors = identity n }
   unfolding arranged
   zero-arranged =
-      ap (λ (l : List Float). record { values = l; vectors = matrix n n (λ i k. at (identity n) n i (place (order zero-values n) k)) })
+      ap (λ (l : List Float). record { values = l; vectors = matrix n n (λ i k. at (identity n) n i (indexAt (order zero-values n) k)) })
       (tabulate-ext n _ _ (λ k h. ap (nth zero-values) (ordered k h) ∙ nth-values k h))
       ∙ ap (λ (m : List Float). record { values = tabulate n (λ k. nought); vectors = m })
       (matrix-ext n n _ unitEntry (λ i k h b. ap (λ (j : ℕ). at (identity n) n i j) (ordered k b) ∙ at-matrix n n unitEntry i k h b))
@@ -186,4 +186,4 @@ module _ (n : ℕ) where
   zero-pairs = rw (finite-to n (omega arith)) (ap answered zero-arranged)
 
   pub zero-eigenpairs : eigenpairs (zeros n) n ≡ answered (record { values = tabulate n (λ k. nought); vectors = identity n })
-  zero-eigenpairs = eigenpairs-final (zeros n) n ∙ ap (λ (s : State). pairsOf n (settled n (tolerance (s .entries) n) s)) (zero-begun n) ∙ ap (pairsOf n) (zero-settled n (identity n)) ∙ zero-pairs
+  zero-eigenpairs = eigenpairs-final (zeros n) n ∙ ap (λ (s : State). pairsOf n (swept n (tolerance (s .entries) n) s)) (zero-begun n) ∙ ap (pairsOf n) (zero-swept n (identity n)) ∙ zero-pairs

@@ -78,25 +78,25 @@ unfolding firstBelow stops afterSweeps
 sweeps n tol s = firstBelow 64 (λ k. stops n tol (afterSweeps n s k))
 
 -- the state that is left
-unfoldable pub settled : ℕ → Float → State → State
+unfoldable pub swept : ℕ → Float → State → State
 unfolding sweeps afterSweeps
-settled n tol s = afterSweeps n s (sweeps n tol s)
+swept n tol s = afterSweeps n s (sweeps n tol s)
 
 -- ---- the order
 
--- element k of a list of numbers
-abbrev pub place : List ℕ → ℕ → ℕ
-place l k = getD l k 0
+-- element k of a list of indices
+abbrev pub indexAt : List ℕ → ℕ → ℕ
+indexAt l k = getD l k 0
 
 -- where k goes among the first k, which descend: before the first that is less
 unfoldable pub spot : List Float → List ℕ → ℕ → ℕ
 unfolding firstBelow
-spot e l k = firstBelow k (λ j. lt (nth e (place l j)) (nth e k))
+spot e l k = firstBelow k (λ j. lt (nth e (indexAt l j)) (nth e k))
 
 -- k put into place j of the first k: those from j on move up
 unfoldable pub insertedAt : ℕ → ℕ → List ℕ → List ℕ
 unfolding tabulate
-insertedAt k j l = tabulate (suc k) (λ i. cond (ltb i j) (place l i) (cond (eqb i j) k (place l (i - 1))))
+insertedAt k j l = tabulate (suc k) (λ i. cond (ltb i j) (indexAt l i) (cond (eqb i j) k (indexAt l (i - 1))))
 
 -- the stable insertion sort: the first k in descending order of e
 unfoldable pub order : List Float → ℕ → List ℕ
@@ -117,7 +117,7 @@ diagonal m n = tabulate n (λ i. at m n i i)
 -- the eigenvalues e and the columns of v, n by n, in the order l
 unfoldable pub arranged : List Float → List Float → ℕ → List ℕ → Eigenpairs
 unfolding tabulate matrix
-arranged e v n l = record { values = tabulate n (λ k. nth e (place l k)); vectors = matrix n n (λ i k. at v n i (place l k)) }
+arranged e v n l = record { values = tabulate n (λ k. nth e (indexAt l k)); vectors = matrix n n (λ i k. at v n i (indexAt l k)) }
 
 -- question 4, and then the eigenpairs of a state in descending order
 unfoldable pub pairsOf : ℕ → State → Outcome Eigenpairs
@@ -128,8 +128,8 @@ pairsOf n s =
 
 -- the eigenpairs of a, n by n
 unfoldable pub eigenpairs : List Float → ℕ → Outcome Eigenpairs
-unfolding begun settled tolerance pairsOf
-eigenpairs a n = let s = begun a n in pairsOf n (settled n (tolerance (s .entries) n) s)
+unfolding begun swept tolerance pairsOf
+eigenpairs a n = let s = begun a n in pairsOf n (swept n (tolerance (s .entries) n) s)
 
 -- `mat_symmetric_eigen`
 unfoldable pub matSymmetricEigen : List Float → ℕ → List Float → List Float → Outcome Eigenpairs

@@ -1,5 +1,3 @@
 pub mod Rotation
 pub mod Eigen
-pub mod Rows
-pub mod Pair
-pub mod Room
+pub mod Private

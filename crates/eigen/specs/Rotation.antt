@@ -1,7 +1,8 @@
 -- One rotation of the cyclic Jacobi method, of document 01, "Eigenpairs", and of `mat_symmetric_eigen`: its angle, and what each entry becomes.
-use Prim.Native.Nat.{ℕ}
+use Prim.Native.Nat.{ℕ, _<_}
 use mathlib.Core.Bool.{Bool, cond, _||_}
 use mathlib.Core.List.{List}
+use mathlib.Core.Path.{_≡_}
 use lib.Dec.{eqb}
 use lib.Ieee.{Float, lt, le}
 use Rattle.kernel.specs.Number.{add, sub, mul, div, abs, max}
@@ -85,3 +86,7 @@ rotated n p q s =
     let apq = at (s .entries) n p q in
     let aqq = at (s .entries) n q q in
     cond (negligible app apq aqq) s (turnedBy (rotation app apq aqq) n p q s)
+
+-- m, n by n, is symmetric bit by bit
+unfoldable pub Symmetric : ℕ → List Float → Type 0
+Symmetric n m = (i j : ℕ) → i < n → j < n → at m n i j ≡ at m n j i

@@ -2,15 +2,14 @@
 ghost use mathlib.Core.Path.{_≡_};
 ghost use Prim.Native.Nat.{_*_, _≤_};
 ghost use Rattle.eigen.specs.Eigen.{pairsOf, eigenpairs, matSymmetricEigen, afterPairs};
-ghost use Rattle.eigen.specs.Room.{Lent, Work, Enough};
-ghost use Rattle.eigen.specs.Rows.{stateOf};
+ghost use Rattle.eigen.specs.Private.{Lent, Work, Enough, stateOf};
 use crate::inside::eigenpairs;
 use crate::order::arrange_values;
 use crate::order::arrange_vectors;
 use crate::order::diagonal;
 use crate::order::sort;
 use crate::start::symmetrize;
-use crate::sweep::settle;
+use crate::sweep::sweep_until;
 use crate::sweep::tolerance;
 use dense::Written;
 use dense::shape::is_form;
@@ -64,7 +63,7 @@ fn eigenpairs_in(
     symmetrize(a, n, m);
     identity(n, v);
     let tol = tolerance(m, n, size);
-    settle(m, v, n, tol);
+    sweep_until(m, v, n, tol);
     pairs(m, v, n, e, l, values, vectors)
 }
 
@@ -146,7 +145,8 @@ pub(crate) fn large_eigenpairs(
 
 // The eigenvalues of a, n by n, in descending order, into values, and their vectors into the columns of vectors.
 pub fn mat_symmetric_eigen(a: &[f64], n: usize, values: &mut [f64], vectors: &mut [f64]) -> Written
-    ensures { λ r. ⌜ (r, now (values .exit), now (vectors .exit)) ≡ afterPairs (matSymmetricEigen (now (a .entry)) n (now (values .entry)) (now (vectors .entry))) (now (values .entry)) (now (vectors .entry)) ⌝ }
+    ensures { λ r. ⌜ (r, now (values .exit), now (vectors .exit))
+        ≡ afterPairs (matSymmetricEigen (now (a .entry)) n (now (values .entry)) (now (vectors .entry))) (now (values .entry)) (now (vectors .entry)) ⌝ }
 {
     if !is_side(n) {
         return Written::Refused(SIDE);

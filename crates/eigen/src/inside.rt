@@ -2,7 +2,7 @@
 ghost use mathlib.Core.Path.{_≡_};
 ghost use Prim.Native.Nat.{_≤_};
 ghost use Rattle.eigen.specs.Eigen.{eigenpairs, afterPairs};
-ghost use Rattle.eigen.specs.Room.{Lent};
+ghost use Rattle.eigen.specs.Private.{Lent};
 use crate::generic::large_eigenpairs;
 use crate::generic::single_eigenpair;
 use crate::generic::small_eigenpairs;

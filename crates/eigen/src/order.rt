@@ -4,9 +4,8 @@ ghost use Prim.Native.Nat.{suc, _*_, _<_, _≤_};
 ghost use lib.ListN.{length, take};
 ghost use Rattle.kernel.specs.Lists.{tabulate};
 ghost use Rattle.dense.specs.Matrix.{nth, at, matrix};
-ghost use Rattle.eigen.specs.Eigen.{diagonal, place, spot, insertedAt, order};
-ghost use Rattle.eigen.specs.Room.{Ordering};
-ghost use Rattle.eigen.specs.Rows.{Below};
+ghost use Rattle.eigen.specs.Eigen.{diagonal, indexAt, spot, insertedAt, order};
+ghost use Rattle.eigen.specs.Private.{Ordering, Below};
 use dense::shape::entry;
 
 // Writes the diagonal of m, n by n.
@@ -19,10 +18,10 @@ pub(crate) fn diagonal(m: &[f64], n: usize, e: &mut [f64])
     }
 }
 
-// Element e[i] of a list of numbers.
+// The entry of e whose index is element k of l.
 fn value_at(e: &[f64], l: &[usize], k: usize) -> f64
-    requires { ⌜ (k < length (now l)) × (place (now l) k < length (now e)) ⌝ }
-    ensures { λ r. ⌜ r ≡ nth (now (e .entry)) (place (now (l .entry)) k) ⌝ }
+    requires { ⌜ (k < length (now l)) × (indexAt (now l) k < length (now e)) ⌝ }
+    ensures { λ r. ⌜ r ≡ nth (now (e .entry)) (indexAt (now (l .entry)) k) ⌝ }
 {
     let i = l[k];
     e[i]
@@ -54,7 +53,7 @@ fn insert(l: &mut [usize], k: usize, j: usize)
     l[j] = k;
 }
 
-// Writes the places of e in descending order.
+// Writes the indices of e, its entries in descending order.
 pub(crate) fn sort(e: &[f64], n: usize, l: &mut [usize])
     requires { ⌜ (length (now e) ≡ n) × (length (now l) ≡ n) ⌝ }
     ensures { λ _. ⌜ now (l .exit) ≡ order (now (e .entry)) n ⌝ }
@@ -68,7 +67,7 @@ pub(crate) fn sort(e: &[f64], n: usize, l: &mut [usize])
 // Writes the entries of e in the order l.
 pub(crate) fn arrange_values(e: &[f64], l: &[usize], n: usize, y: &mut [f64])
     requires { ⌜ (length (now e) ≡ n) × Ordering n (now l) × (length (now y) ≡ n) ⌝ }
-    ensures { λ _. ⌜ now (y .exit) ≡ tabulate n (λ k. nth (now (e .entry)) (place (now (l .entry)) k)) ⌝ }
+    ensures { λ _. ⌜ now (y .exit) ≡ tabulate n (λ k. nth (now (e .entry)) (indexAt (now (l .entry)) k)) ⌝ }
 {
     for k in 0..n {
         y[k] = value_at(e, l, k);
@@ -78,7 +77,7 @@ pub(crate) fn arrange_values(e: &[f64], l: &[usize], n: usize, y: &mut [f64])
 // Writes column i of v, n by n, in the order l.
 fn arrange_row(v: &[f64], l: &[usize], n: usize, i: usize, y: &mut [f64])
     requires { ⌜ (i < n) × (length (now v) ≡ n * n) × Ordering n (now l) × (length (now y) ≡ n) ⌝ }
-    ensures { λ _. ⌜ now (y .exit) ≡ tabulate n (λ k. at (now (v .entry)) n (place (now (l .entry)) k) i) ⌝ }
+    ensures { λ _. ⌜ now (y .exit) ≡ tabulate n (λ k. at (now (v .entry)) n (indexAt (now (l .entry)) k) i) ⌝ }
 {
     for k in 0..n {
         y[k] = entry(v, n, l[k], i);
@@ -88,7 +87,7 @@ fn arrange_row(v: &[f64], l: &[usize], n: usize, i: usize, y: &mut [f64])
 // Writes the rows of v, n by n, as columns, in the order l.
 pub(crate) fn arrange_vectors(v: &[f64], l: &[usize], n: usize, out: &mut [f64])
     requires { ⌜ (length (now v) ≡ n * n) × Ordering n (now l) × (length (now out) ≡ n * n) ⌝ }
-    ensures { λ _. ⌜ now (out .exit) ≡ matrix n n (λ i k. at (now (v .entry)) n (place (now (l .entry)) k) i) ⌝ }
+    ensures { λ _. ⌜ now (out .exit) ≡ matrix n n (λ i k. at (now (v .entry)) n (indexAt (now (l .entry)) k) i) ⌝ }
 {
     for i in 0..n {
         let start = i * n;

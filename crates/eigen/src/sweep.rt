@@ -4,8 +4,8 @@ ghost use Prim.Native.Nat.{suc, _+_, _*_, _-_, _<_};
 ghost use lib.ListN.{length};
 ghost use Rattle.kernel.specs.Number.{mul};
 ghost use Rattle.dense.specs.Matrix.{at, sumFrom};
-ghost use Rattle.eigen.specs.Eigen.{aboveRows, tolerance, sweptRow, sweep, settled};
-ghost use Rattle.eigen.specs.Rows.{Slices, stateOf};
+ghost use Rattle.eigen.specs.Eigen.{aboveRows, tolerance, sweptRow, sweep, swept};
+ghost use Rattle.eigen.specs.Private.{Slices, stateOf};
 use crate::rotate::rotate;
 use dense::shape::entry;
 use dense::vector::dot;
@@ -70,9 +70,9 @@ fn sweep(m: &mut [f64], v: &mut [f64], n: usize)
 }
 
 // Sweeps until the squares above the diagonal fall below tol, and 64 times at most.
-pub(crate) fn settle(m: &mut [f64], v: &mut [f64], n: usize, tol: f64)
+pub(crate) fn sweep_until(m: &mut [f64], v: &mut [f64], n: usize, tol: f64)
     requires { ⌜ Slices n (now m) (now v) ⌝ }
-    ensures { λ _. ⌜ stateOf n (now (m .exit)) (now (v .exit)) ≡ settled n tol (stateOf n (now (m .entry)) (now (v .entry))) ⌝ }
+    ensures { λ _. ⌜ stateOf n (now (m .exit)) (now (v .exit)) ≡ swept n tol (stateOf n (now (m .entry)) (now (v .entry))) ⌝ }
 {
     for k in 0..SWEEPS {
         if above(m, n) < tol {

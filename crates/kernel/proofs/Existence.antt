@@ -8,7 +8,8 @@ use lib.Pow.{pow-pos, pow-add}
 use lib.Ieee.{size}
 use lib.Ieee.Digits.{size-lt, size-reaches, size-le}
 use Rattle.kernel.specs.Sqrt.{scaledBits, rootPattern}
-use Rattle.kernel.specs.Nearest.{Nearest, Rounds}
+use Rattle.kernel.specs.Private.{Nearest}
+use Rattle.kernel.proofs.Rounding.{Rounds}
 use Rattle.kernel.proofs.Root.{significand-range, rounds-of, root-of, subnormal-argument, normal-argument}
 
 -- ---- whole numbers

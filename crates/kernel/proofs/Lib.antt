@@ -3,6 +3,7 @@ pub mod Answers
 pub mod Words
 pub mod First
 pub mod Lists
+pub mod Rounding
 pub mod Whole
 pub mod Doubles
 pub mod Patterns
@@ -15,5 +16,7 @@ pub mod Same
 pub mod Differences
 pub mod SquareRoot
 pub mod Existence
-pub mod SquarePatterns
-pub mod RootOfSquare
+pub mod Squares
+pub mod Commute
+pub mod Opposite
+pub mod Signed

@@ -1,5 +1,5 @@
--- What a loop has done after k of its n turns. `at-end`: at the bound, what holds of as many turns as were made holds of all. `Turned`: the state
--- after k turns is element k of a sequence. `turned-none` begins it, `turned-more` makes one turn more, and `turned-all` says it of the end.
+-- What a loop has done after k of its n turns. `at-end`: at the bound, what holds of as many turns as were made holds of all. `AfterTurns`: the state
+-- after k turns is element k of a sequence. `turns-none` begins it, `turns-more` makes one turn more, and `turns-all` says it of the end.
 use Prim.Native.Nat.{ℕ, suc, _+_, _<_, _≤_}
 use native.Mathlib.Omega.{arith}
 use native.Mathlib.Nat.{le-antisymm}
@@ -10,16 +10,16 @@ pub at-end : {A : Type 0} (f : ℕ → A) {k n : ℕ} {s : A} → k ≤ n → n 
 at-end f h l e = e ∙ ap f (le-antisymm h l)
 
 -- k of n turns are made, and the state is s
-pub record Turned {A : Type 0} (f : ℕ → A) (n k : ℕ) (s : A) : Type 0 where
+pub record AfterTurns {A : Type 0} (f : ℕ → A) (n k : ℕ) (s : A) : Type 0 where
   pub turns : k ≤ n
   pub state : s ≡ f k
 
 module _ {A : Type 0} {f : ℕ → A} {n : ℕ} {s : A} where
-  pub turned-none : s ≡ f 0 → Turned f n 0 s
-  turned-none e = record { turns = omega arith; state = e }
+  pub turns-none : s ≡ f 0 → AfterTurns f n 0 s
+  turns-none e = record { turns = omega arith; state = e }
 
-  pub turned-more : {k : ℕ} {t : A} → Turned f n k s → k < n → (s ≡ f k → t ≡ f (suc k)) → Turned f n (k + 1) t
-  turned-more w h e = record { turns = omega arith; state = rw add-one (e (w .state)) }
+  pub turns-more : {k : ℕ} {t : A} → AfterTurns f n k s → k < n → (s ≡ f k → t ≡ f (suc k)) → AfterTurns f n (k + 1) t
+  turns-more w h e = record { turns = omega arith; state = rw add-one (e (w .state)) }
 
-  pub turned-all : {k : ℕ} → Turned f n k s → n ≤ k → s ≡ f n
-  turned-all w l = at-end f (w .turns) l (w .state)
+  pub turns-all : {k : ℕ} → AfterTurns f n k s → n ≤ k → s ≡ f n
+  turns-all w l = at-end f (w .turns) l (w .state)

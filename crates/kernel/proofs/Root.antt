@@ -10,7 +10,8 @@ use mathlib.Core.Bool.{Bool, true, false, cond}
 use lib.Pow.{pow-pos, pow-mono, pow-add}
 use borrow.Author.Tests.{lt-ltb, le-ltb, ltb-true, ltb-false}
 use Rattle.kernel.specs.Sqrt.{square, scaledBits, greatest, notAbove, rootPattern}
-use Rattle.kernel.specs.Nearest.{Nearest, Significand, Rounds, RootOf}
+use Rattle.kernel.specs.Private.{Nearest, RootOf}
+use Rattle.kernel.proofs.Rounding.{Significand, Rounds}
 use Rattle.kernel.proofs.Whole.{nearest-range, argument-least, argument-most}
 use Rattle.kernel.proofs.Patterns.{scaled-bits-low, scaled-bits-at, split-pattern, scaled-bits-grows, scaled-bits-mono}
 

@@ -13,7 +13,7 @@ use lib.Ieee.Bits.{ofBits-toBits, toBits-ofBits, ofBits-fits}
 use lib.Ieee.Fits.{nan-fits, inf-fits}
 use lib.Ieee.Positive.{positive}
 use Rattle.kernel.specs.Sqrt.{square, scaled, nextUp, nextDown, Root, scaledBits, rootPattern, sqrt}
-use Rattle.kernel.specs.Nearest.{Rounds}
+use Rattle.kernel.proofs.Rounding.{Rounds}
 use Rattle.kernel.proofs.Doubles.{positive-pattern, pattern-size, pattern-positive, positive-no-nan}
 use Rattle.kernel.proofs.Signs.{negative, isZero}
 use Rattle.kernel.proofs.Patterns.{scaled-bits-grows, scaled-bits-mono}

@@ -9,7 +9,8 @@ use native.Mathlib.Omega.{arith}
 use native.Mathlib.Decide.{decLe, decLt}
 use mathlib.Core.Path.{_≡_, refl, sym, ap, _∙_, subst, subst⁻¹}
 use Rattle.kernel.specs.Sqrt.{square}
-use Rattle.kernel.specs.Nearest.{Nearest, Significand}
+use Rattle.kernel.specs.Private.{Nearest}
+use Rattle.kernel.proofs.Rounding.{Significand}
 
 -- The test of number/root.rt: r is a * 2 ^ 27 + b, and e * 2 ^ 28 - (b² + 2 ^ 53) is w * 2 ^ 52 - r².
 pub nearest-test : (w r a b d e : ℕ) → r ≡ a * 2 ^ 27 + b → w + 2 ≡ 4 * a * a + d → d * 2 ^ 24 ≡ e + a * b

@@ -6,4 +6,4 @@ pub mod First
 pub mod Lists
 pub mod Number
 pub mod Sqrt
-pub mod Nearest
+pub mod Private

@@ -52,7 +52,7 @@ unfoldable pub rootPattern : ℕ → ℕ
 unfolding greatest notAbove
 rootPattern x = greatest (notAbove (4 * x * 2 ^ 1074)) 63 0
 
--- Root of ±0 is ±0, of +infinity itself, of other negatives and NaN a NaN.
+-- A zero and +infinity are their own roots; below 0 there is none, nor for a NaN.
 unfoldable pub sqrt : Float → Float
 unfolding rootPattern scaled
 sqrt nan = nan

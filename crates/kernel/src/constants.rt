@@ -1,5 +1,5 @@
-// Constants that several crates use, each once. First the tolerances that the source names: specs/Constants has the same
-// under the same names.
+// Constants that several crates use, each once: the limits in the source's tests, which specs/Constants spells relTol, minScale and so
+// on, and bit patterns.
 ghost use mathlib.Core.Path.{_≡_};
 ghost use Rattle.kernel.specs.Constants.{infinity};
 

@@ -13,7 +13,7 @@ use Rattle.kernel.specs.Number.{sub}
 use Rattle.kernel.specs.Sqrt.{sqrt}
 use Rattle.kernel.specs.Constants.{nought}
 use Rattle.dense.specs.Matrix.{at}
-use Rattle.dense.specs.Fill.{Padded}
+use Rattle.linalg.specs.Private.{Padded}
 use Rattle.linalg.specs.Cholesky.{isPivot, inner, belowEntry, withLeft, reachedPivot, factor, definite}
 use Rattle.kernel.proofs.Lists.{row-within}
 use Rattle.dense.proofs.Laws.{sum-ext}

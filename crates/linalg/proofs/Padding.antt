@@ -9,7 +9,7 @@ use lib.ListN.{length, take, set, replicate, length-append, length-set, length-r
 use lib.Seq.{set-at, take-at}
 use Rattle.kernel.specs.Constants.{nought}
 use Rattle.dense.specs.Matrix.{nth}
-use Rattle.dense.specs.Fill.{Padded}
+use Rattle.linalg.specs.Private.{Padded}
 
 -- the front of a slice of zeros
 pub zeros-front : (k n : ℕ) → k ≤ n → take k (replicate n nought) ≡ replicate k nought

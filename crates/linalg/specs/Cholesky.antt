@@ -40,11 +40,15 @@ factor a n (suc i) =
     let p = withLeft a n (factor a n i) i i in
     p ++ (sqrt (reachedPivot a n p i) ∷ replicate (n - suc i) nought)
 
+-- the pivot of row i, under the rows of the factor before it
+abbrev pub rowPivot : List Float → ℕ → ℕ → Float
+rowPivot a n i = reachedPivot a n (withLeft a n (factor a n i) i i) i
+
 -- whether the first i pivots are met
 unfoldable pub definite : List Float → ℕ → ℕ → Bool
 unfolding isPivot factor
 definite a n zero = true
-definite a n (suc i) = definite a n i && isPivot (reachedPivot a n (withLeft a n (factor a n i) i i) i)
+definite a n (suc i) = definite a n i && isPivot (rowPivot a n i)
 
 -- `mat_cholesky`: the lower factor of a, n by n, whose entries right of the diagonal are not read
 unfoldable pub matCholesky : List Float → ℕ → List Float → Outcome (List Float)

@@ -3,4 +3,4 @@ pub mod Sums
 pub mod Norms
 pub mod Cholesky
 pub mod Regularize
-pub mod Room
+pub mod Private

@@ -3,14 +3,9 @@ use Prim.Native.Nat.{ℕ, _*_}
 use mathlib.Core.Bool.{_&&_}
 use mathlib.Core.List.{List}
 use lib.Ieee.{Float}
-use Rattle.kernel.specs.Number.{mul}
 use Rattle.kernel.specs.Sqrt.{sqrt}
 use Rattle.kernel.specs.Answer.{Outcome, answered, ask}
-use Rattle.dense.specs.Matrix.{total, sumFrom, nth, isSide, hasLength}
-
--- the root of the sum of the squares of the first n entries
-abbrev pub norm : List Float → ℕ → Float
-norm x n = sqrt (total n (λ j. mul (nth x j) (nth x j)))
+use Rattle.dense.specs.Matrix.{sumFrom, norm, isSide, hasLength}
 
 -- `vec_norm`
 unfoldable pub vecNorm : List Float → ℕ → Outcome Float

@@ -13,10 +13,15 @@ use Rattle.kernel.specs.Lists.{tabulate}
 abbrev pub dampedEntry : List Float → ℕ → Float → ℕ → ℕ → Float
 dampedEntry a n alpha i j = cond (eqb i j) (add (at a n i j) alpha) (at a n i j)
 
--- `tikhonov`: a, n by n, plus alpha times the identity
+-- a, n by n, plus alpha times the identity
+unfoldable pub damped : List Float → Float → ℕ → List Float
+unfolding matrix tabulate
+damped a alpha n = matrix n n (dampedEntry a n alpha)
+
+-- `tikhonov`
 unfoldable pub tikhonov : List Float → Float → ℕ → List Float → Outcome (List Float)
-unfolding matrix tabulate isSide hasLength
+unfolding damped isSide hasLength
 tikhonov a alpha n out =
     ask 1 (isSide n)
     (ask 2 (hasLength a (n * n) && hasLength out (n * n))
-    (answered (matrix n n (dampedEntry a n alpha))))
+    (answered (damped a alpha n)))

@@ -6,9 +6,9 @@ use lib.Ieee.{Float}
 use Rattle.kernel.specs.Number.{sub, mul}
 use Rattle.kernel.specs.Answer.{Outcome, answered, ask}
 use Rattle.kernel.specs.Constants.{nought}
-use Rattle.dense.specs.Matrix.{total, sumFrom, sumRowsFrom, sumPlanesFrom, nth, at, matrix, isSide, hasLength}
+use Rattle.dense.specs.Matrix.{total, sumFrom, sumRowsFrom, sumPlanesFrom, nth, at, isSide, hasLength}
 use Rattle.kernel.specs.Lists.{tabulate}
-use Rattle.linalg.specs.Products.{productEntry}
+use Rattle.linalg.specs.Products.{product}
 
 -- `mat_trace`: the sum of the diagonal of a, n by n
 unfoldable pub matTrace : List Float → ℕ → Outcome Float
@@ -30,11 +30,11 @@ traceCube m n = sumPlanesFrom nought n n n (λ i j k. mul (mul (at m n i j) (at 
 
 -- `mat_trace_cube`: the trace of the cube of a b, both n by n
 unfoldable pub matTraceCube : List Float → List Float → ℕ → Outcome Float
-unfolding traceCube matrix isSide hasLength
+unfolding traceCube product isSide hasLength
 matTraceCube a b n =
     ask 1 (isSide n)
     (ask 2 (hasLength a (n * n) && hasLength b (n * n))
-    (answered (traceCube (matrix n n (productEntry a b n n)) n)))
+    (answered (traceCube (product a b n n n) n)))
 
 -- xᵀ a x, for a n by n, as one sum of (x_i a_ij) x_j
 unfoldable pub quadraticForm : List Float → List Float → ℕ → Float

@@ -4,9 +4,9 @@ ghost use mathlib.Core.Bool.{true, false};
 ghost use Prim.Native.Nat.{_+_, _*_, _≤_};
 ghost use lib.ListN.{length, replicate};
 ghost use Rattle.kernel.specs.Constants.{nought};
-ghost use Rattle.dense.specs.Fill.{Padded};
-ghost use Rattle.linalg.specs.Cholesky.{isPivot, inner, withLeft, reachedPivot, factor, definite};
-ghost use Rattle.linalg.specs.Room.{Factoring, Reaches};
+ghost use Rattle.dense.specs.Private.{Reaches};
+ghost use Rattle.linalg.specs.Cholesky.{isPivot, inner, withLeft, factor, rowPivot, definite};
+ghost use Rattle.linalg.specs.Private.{Padded, Factoring};
 use dense::shape::entry;
 use dense::shape::part;
 use dense::vector::copy;
@@ -44,7 +44,7 @@ fn left_entries(a: &[f64], n: usize, i: usize, l: &mut [f64])
 // Makes row i where its pivot is met, and says whether it is.
 fn factor_row(a: &[f64], n: usize, i: usize, l: &mut [f64]) -> bool
     requires { ⌜ Factoring (now a) n i (now l) ⌝ }
-    ensures { λ r. ⌜ Reaches (isPivot (reachedPivot (now (a .entry)) n (withLeft (now (a .entry)) n (factor (now (a .entry)) n i) i i) i)) r (Padded (factor (now (a .entry)) n (i + 1)) (now (l .exit))) ⌝ }
+    ensures { λ r. ⌜ Reaches (isPivot (rowPivot (now (a .entry)) n i)) r (Padded (factor (now (a .entry)) n (i + 1)) (now (l .exit))) ⌝ }
 {
     left_entries(a, n, i, l);
     let d = entry(a, n, i, i) - inner(l, n, i, i);

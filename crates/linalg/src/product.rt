@@ -2,9 +2,8 @@
 ghost use mathlib.Core.Path.{_≡_};
 ghost use Prim.Native.Nat.{_+_, _*_, _<_, _≤_};
 ghost use lib.ListN.{length};
-ghost use Rattle.dense.specs.Matrix.{matrix};
 ghost use Rattle.kernel.specs.Lists.{tabulate};
-ghost use Rattle.linalg.specs.Products.{productEntry, transposeEntry, ataEntry, symmetricEntry, vectorEntry};
+ghost use Rattle.linalg.specs.Products.{productEntry, transposeEntry, ataEntry, symmetricEntry, product, transposed, gram, symmetricPart, times};
 use dense::shape::entry;
 use dense::shape::row;
 use dense::vector::add_scaled;
@@ -26,7 +25,7 @@ fn product_row(a: &[f64], b: &[f64], k: usize, n: usize, i: usize, y: &mut [f64]
 // Writes the m by n product of a, m by k, and b, k by n.
 pub(crate) fn product(a: &[f64], b: &[f64], m: usize, k: usize, n: usize, out: &mut [f64])
     requires { ⌜ (n ≤ 16) × (length (now a) ≡ m * k) × (length (now b) ≡ k * n) × (length (now out) ≡ m * n) ⌝ }
-    ensures { λ _. ⌜ now (out .exit) ≡ matrix m n (productEntry (now (a .entry)) (now (b .entry)) k n) ⌝ }
+    ensures { λ _. ⌜ now (out .exit) ≡ product (now (a .entry)) (now (b .entry)) m k n ⌝ }
 {
     for i in 0..m {
         let start = i * n;
@@ -37,7 +36,7 @@ pub(crate) fn product(a: &[f64], b: &[f64], m: usize, k: usize, n: usize, out: &
 // The same, with the widths of the usual states known to the compiler, which then unrolls the loops along a row.
 pub(crate) fn product_by_width(a: &[f64], b: &[f64], m: usize, k: usize, n: usize, out: &mut [f64])
     requires { ⌜ (n ≤ 16) × (length (now a) ≡ m * k) × (length (now b) ≡ k * n) × (length (now out) ≡ m * n) ⌝ }
-    ensures { λ _. ⌜ now (out .exit) ≡ matrix m n (productEntry (now (a .entry)) (now (b .entry)) k n) ⌝ }
+    ensures { λ _. ⌜ now (out .exit) ≡ product (now (a .entry)) (now (b .entry)) m k n ⌝ }
 {
     if n == 6 {
         return product(a, b, m, k, 6, out);
@@ -64,7 +63,7 @@ fn transpose_row(a: &[f64], m: usize, n: usize, i: usize, y: &mut [f64])
 // Writes the n by m transpose of a, m by n.
 pub(crate) fn transpose(a: &[f64], m: usize, n: usize, out: &mut [f64])
     requires { ⌜ (length (now a) ≡ m * n) × (length (now out) ≡ n * m) ⌝ }
-    ensures { λ _. ⌜ now (out .exit) ≡ matrix n m (transposeEntry (now (a .entry)) n) ⌝ }
+    ensures { λ _. ⌜ now (out .exit) ≡ transposed (now (a .entry)) m n ⌝ }
 {
     for i in 0..n {
         let start = i * m;
@@ -87,7 +86,7 @@ fn ata_row(a: &[f64], m: usize, n: usize, i: usize, y: &mut [f64])
 // Writes the n by n product of the transpose of a, m by n, and a.
 pub(crate) fn ata(a: &[f64], m: usize, n: usize, out: &mut [f64])
     requires { ⌜ (n ≤ 16) × (length (now a) ≡ m * n) × (length (now out) ≡ n * n) ⌝ }
-    ensures { λ _. ⌜ now (out .exit) ≡ matrix n n (ataEntry (now (a .entry)) m n) ⌝ }
+    ensures { λ _. ⌜ now (out .exit) ≡ gram (now (a .entry)) m n ⌝ }
 {
     for i in 0..n {
         let start = i * n;
@@ -98,7 +97,7 @@ pub(crate) fn ata(a: &[f64], m: usize, n: usize, out: &mut [f64])
 // The same, by width.
 pub(crate) fn ata_by_width(a: &[f64], m: usize, n: usize, out: &mut [f64])
     requires { ⌜ (n ≤ 16) × (length (now a) ≡ m * n) × (length (now out) ≡ n * n) ⌝ }
-    ensures { λ _. ⌜ now (out .exit) ≡ matrix n n (ataEntry (now (a .entry)) m n) ⌝ }
+    ensures { λ _. ⌜ now (out .exit) ≡ gram (now (a .entry)) m n ⌝ }
 {
     if n == 6 {
         return ata(a, m, 6, out);
@@ -125,7 +124,7 @@ fn symmetric_row(a: &[f64], n: usize, i: usize, y: &mut [f64])
 // Writes half the sum of a, n by n, and its transpose.
 pub(crate) fn symmetrize(a: &[f64], n: usize, out: &mut [f64])
     requires { ⌜ (length (now a) ≡ n * n) × (length (now out) ≡ n * n) ⌝ }
-    ensures { λ _. ⌜ now (out .exit) ≡ matrix n n (symmetricEntry (now (a .entry)) n) ⌝ }
+    ensures { λ _. ⌜ now (out .exit) ≡ symmetricPart (now (a .entry)) n ⌝ }
 {
     for i in 0..n {
         let start = i * n;
@@ -136,7 +135,7 @@ pub(crate) fn symmetrize(a: &[f64], n: usize, out: &mut [f64])
 // Writes the product of a, n by n, and the vector x.
 pub(crate) fn times_vector(a: &[f64], x: &[f64], n: usize, y: &mut [f64])
     requires { ⌜ (length (now a) ≡ n * n) × (length (now x) ≡ n) × (length (now y) ≡ n) ⌝ }
-    ensures { λ _. ⌜ now (y .exit) ≡ tabulate n (vectorEntry (now (a .entry)) (now (x .entry)) n) ⌝ }
+    ensures { λ _. ⌜ now (y .exit) ≡ times (now (a .entry)) (now (x .entry)) n n ⌝ }
 {
     for i in 0..n {
         y[i] = dot(row(a, n, i), x, n);
@@ -146,7 +145,7 @@ pub(crate) fn times_vector(a: &[f64], x: &[f64], n: usize, y: &mut [f64])
 // The same, by width.
 pub(crate) fn times_vector_by_width(a: &[f64], x: &[f64], n: usize, y: &mut [f64])
     requires { ⌜ (length (now a) ≡ n * n) × (length (now x) ≡ n) × (length (now y) ≡ n) ⌝ }
-    ensures { λ _. ⌜ now (y .exit) ≡ tabulate n (vectorEntry (now (a .entry)) (now (x .entry)) n) ⌝ }
+    ensures { λ _. ⌜ now (y .exit) ≡ times (now (a .entry)) (now (x .entry)) n n ⌝ }
 {
     if n == 6 {
         return times_vector(a, x, 6, y);

@@ -3,9 +3,8 @@ ghost use mathlib.Core.Path.{_≡_};
 ghost use Prim.Native.Nat.{_+_, _*_, _<_};
 ghost use lib.ListN.{length};
 ghost use Rattle.dense.specs.Answer.{Leaves};
-ghost use Rattle.dense.specs.Matrix.{matrix};
 ghost use Rattle.kernel.specs.Lists.{tabulate};
-ghost use Rattle.linalg.specs.Regularize.{dampedEntry, tikhonov};
+ghost use Rattle.linalg.specs.Regularize.{dampedEntry, damped, tikhonov};
 use dense::Written;
 use dense::shape::are_matrices;
 use dense::shape::is_side;
@@ -26,7 +25,7 @@ fn damped_row(a: &[f64], alpha: f64, n: usize, i: usize, y: &mut [f64])
 // Writes a, n by n, with alpha added on the diagonal.
 fn damped(a: &[f64], alpha: f64, n: usize, out: &mut [f64])
     requires { ⌜ (length (now a) ≡ n * n) × (length (now out) ≡ n * n) ⌝ }
-    ensures { λ _. ⌜ now (out .exit) ≡ matrix n n (dampedEntry (now (a .entry)) n alpha) ⌝ }
+    ensures { λ _. ⌜ now (out .exit) ≡ damped (now (a .entry)) alpha n ⌝ }
 {
     for i in 0..n {
         let start = i * n;

@@ -4,10 +4,10 @@ ghost use Prim.Native.Nat.{_+_, _*_, _<_, _≤_};
 ghost use lib.ListN.{length};
 ghost use Rattle.kernel.specs.Number.{mul};
 ghost use Rattle.kernel.specs.Constants.{nought};
-ghost use Rattle.dense.specs.Matrix.{nth, at, total, sumFrom, sumRowsFrom, matrix};
-ghost use Rattle.linalg.specs.Products.{productEntry};
+ghost use Rattle.dense.specs.Matrix.{nth, at, total, sumFrom, sumRowsFrom};
+ghost use Rattle.linalg.specs.Products.{product};
 ghost use Rattle.linalg.specs.Sums.{traceCube, quadraticForm, difference};
-ghost use Rattle.linalg.specs.Room.{Cell};
+ghost use Rattle.linalg.specs.Private.{Cell};
 use crate::product::product;
 use crate::vector::subtract;
 use dense::shape::entry;
@@ -111,7 +111,7 @@ fn trace_cube(m: &[f64], n: usize) -> f64
 // The trace of the cube of the product of a and b, n by n.
 pub(crate) fn trace_cube_product(a: &[f64], b: &[f64], n: usize) -> f64
     requires { ⌜ (n * n ≤ 256) × (length (now a) ≡ n * n) × (length (now b) ≡ n * n) ⌝ }
-    ensures { λ r. ⌜ r ≡ traceCube (matrix n n (productEntry (now (a .entry)) (now (b .entry)) n n)) n ⌝ }
+    ensures { λ r. ⌜ r ≡ traceCube (product (now (a .entry)) (now (b .entry)) n n n) n ⌝ }
 {
     let mut m = [0.0f64; 256];
     let size = n * n;

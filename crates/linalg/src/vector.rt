@@ -1,10 +1,7 @@
-// Loops over one vector.
+// A loop over two vectors.
 ghost use mathlib.Core.Path.{_≡_};
 ghost use lib.ListN.{length};
 ghost use Rattle.linalg.specs.Sums.{difference};
-ghost use Rattle.linalg.specs.Norms.{norm};
-use dense::vector::dot;
-use kernel::number::sqrt;
 
 // Writes x - mu to y.
 pub(crate) fn subtract(x: &[f64], mu: &[f64], n: usize, y: &mut [f64])
@@ -14,12 +11,4 @@ pub(crate) fn subtract(x: &[f64], mu: &[f64], n: usize, y: &mut [f64])
     for j in 0..n {
         y[j] = x[j] - mu[j];
     }
-}
-
-// The root of the sum of the squares of the n entries of x.
-pub(crate) fn norm(x: &[f64], n: usize) -> f64
-    requires { ⌜ length (now x) ≡ n ⌝ }
-    ensures { λ r. ⌜ r ≡ norm (now (x .entry)) n ⌝ }
-{
-    sqrt(dot(x, x, n))
 }

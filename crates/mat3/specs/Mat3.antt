@@ -24,15 +24,15 @@ det3 m =
     (at m 3 1 0) (at m 3 1 1) (at m 3 1 2)
     (at m 3 2 0) (at m 3 2 1) (at m 3 2 2)
 
--- the cube of the greatest |entry|, floored
+-- the scale of document 01: the cube of the greatest |entry|
 unfoldable pub scale : List Float → Float
 unfolding maxAbs
-scale m = let g = maxAbs m 9 in max (mul (mul g g) g) minPositive
+scale m = let g = maxAbs m 9 in mul (mul g g) g
 
--- question 8: |det| is not below 1e-14 of the scale
+-- question 8: |det| is not below 1e-14 of the scale, or of MIN_POSITIVE where that is greater
 unfoldable pub regular : List Float → Bool
 unfolding det3 scale
-regular m = not (lt (abs (det3 m)) (mul relTol (scale m)))
+regular m = not (lt (abs (det3 m)) (mul relTol (max (scale m) minPositive)))
 
 -- the adjugate over the determinant, row by row
 unfoldable pub inverse3 : List Float → List Float

@@ -10,7 +10,7 @@ use Rattle.tracks.specs.Read.{contents}
 use Rattle.compare.specs.Distance.{floorAndGate}
 use Rattle.pairing.specs.Pairing.{Candidates}
 use Rattle.pairing.specs.Keys.{firstPartners, secondPartners}
-use Rattle.pairing.specs.Search.{isFree}
+use Rattle.pairingNone.specs.Keys.{isFree}
 use Rattle.merge.specs.Tracks.{ThreeLists, trackCount}
 use Rattle.merge.specs.Candidates.{candidatesOf, among}
 use Rattle.merge.specs.Rows.{Row, rowBytes, rowsWith, verdictOn, Partners, Pairings, rowsOf}

@@ -6,7 +6,7 @@ use lib.Dec.{eqb}
 use lib.ListN.{getD}
 use Rattle.kernel.specs.Lists.{tabulate}
 use Rattle.pairing.specs.Keys.{nobody}
-use Rattle.pairing.specs.Search.{isFree}
+use Rattle.pairingNone.specs.Keys.{isFree}
 use Rattle.merge.specs.Tracks.{ThreeLists, equalTracks}
 
 -- ---- verdicts

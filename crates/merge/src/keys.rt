@@ -7,7 +7,7 @@ ghost use lib.ListN.{length};
 ghost use Rattle.kernel.specs.Lists.{tabulate};
 ghost use Rattle.dense.specs.Matrix.{rowOf};
 ghost use Rattle.pairing.specs.Keys.{nobody};
-ghost use Rattle.pairing.specs.Search.{isFree};
+ghost use Rattle.pairingNone.specs.Keys.{isFree};
 ghost use Rattle.merge.specs.Candidates.{candidacyOf, rank};
 ghost use Rattle.merge.specs.Private.{OneKey, SomeKeys, KeyRow, TwoValues, KeysInFront, keyFrom, keyAmong, keysFrom, keysBetween};
 use crate::pairings::both_free;

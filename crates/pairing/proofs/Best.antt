@@ -9,7 +9,7 @@ use lib.Ieee.{Float, isNan, lt, eq}
 use Rattle.kernel.proofs.Order.{lt-numbers, eq-numbers, eq-reflexive, lt-trichotomy}
 use Rattle.pairing.specs.Pairing.{Pair, pair}
 use Rattle.pairing.specs.Keys.{keyOf, byKey, fromKeys}
-use Rattle.pairing.specs.Search.{noneFound, foundAt, lookAt}
+use Rattle.pairing.specs.Private.{noneFound, foundAt, lookAt}
 use Rattle.pairing.specs.declared.Foremost.{Foremost}
 use Rattle.pairing.proofs.Sorting.{Upto}
 use Rattle.pairing.proofs.Keys.{Index, of-key, to-key, key-transitive}

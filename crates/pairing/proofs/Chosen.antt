@@ -10,8 +10,8 @@ use lib.ListN.{getD}
 use lib.Ieee.{Float}
 use borrow.Author.Tests.{eqb-true, eqb-false}
 use Rattle.pairing.specs.Pairing.{Pair, pair}
-use Rattle.pairing.specs.Keys.{keyOf, nobody}
-use Rattle.pairing.specs.Search.{isFree, lookAt, searchRow, search}
+use Rattle.pairing.specs.Keys.{keyOf, nobody, isFree}
+use Rattle.pairing.specs.Private.{lookAt, searchRow, search}
 use Rattle.pairing.specs.declared.Foremost.{Foremost}
 use Rattle.pairing.proofs.Pairings.{pair-path}
 use Rattle.pairing.proofs.Keys.{Index, Keyed}

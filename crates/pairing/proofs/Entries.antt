@@ -15,7 +15,8 @@ use Rattle.kernel.specs.Lists.{tabulate}
 use Rattle.kernel.proofs.Lists.{length-tabulate, getD-tabulate, by-elements}
 use Rattle.pairing.specs.Pairing.{Pairs}
 use Rattle.pairing.specs.Keys.{nobody, partner}
-use Rattle.pairing.specs.Search.{Entered, nobodies, countFree}
+use Rattle.pairing.proofs.Filling.{Entered, countFree}
+use Rattle.pairing.specs.Private.{nobodies}
 
 -- ---- one table and the other
 

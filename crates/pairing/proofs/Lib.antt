@@ -9,6 +9,7 @@ pub mod Keys
 pub mod Searches
 pub mod Best
 pub mod Chosen
+pub mod Filling
 pub mod Entries
 pub mod Tables
 pub mod Struck

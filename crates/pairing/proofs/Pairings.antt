@@ -69,12 +69,12 @@ with-pairing g o s p a c f h = record {
     clear q t (inl e) = free-first g o s a q (subst (λ (x : ℕ). T (freeFirst g s x)) (sym e) f) t
     clear q t (inr e) = free-second g o s a q (subst (λ (x : ℕ). T (freeSecond g s x)) (sym e) h) t
 
-    turned : (q r : Pair) → ShareTrack q r → ShareTrack r q
-    turned q r (inl e) = inl (sym e)
-    turned q r (inr e) = inr (sym e)
+    share-sym : (q r : Pair) → ShareTrack q r → ShareTrack r q
+    share-sym q r (inl e) = inl (sym e)
+    share-sym q r (inr e) = inr (sym e)
 
     go : (q r : Pair) → In s q ⊎ (q ≡ p) → In s r ⊎ (r ≡ p) → ShareTrack q r → q ≡ r
     go q r (inl t) (inl u) v = a .apart q r t u v
     go q r (inl t) (inr e) v = absurd (clear q t (subst (ShareTrack q) e v))
-    go q r (inr e) (inl u) v = absurd (clear r u (subst (ShareTrack r) e (turned q r v)))
+    go q r (inr e) (inl u) v = absurd (clear r u (subst (ShareTrack r) e (share-sym q r v)))
     go q r (inr e) (inr d) v = e ∙ sym d

@@ -6,7 +6,7 @@ use lib.ListN.{getD}
 use lib.Ieee.{Float, nan}
 use borrow.Author.Tests.{eq-eqb, ne-eqb}
 use Rattle.pairing.specs.Keys.{keyOf, nobody}
-use Rattle.pairing.specs.Search.{lookAt, searchRow, search}
+use Rattle.pairing.specs.Private.{lookAt, searchRow, search}
 use Rattle.pairing.specs.declared.Foremost.{Foremost}
 
 module _ (keys : List Float) (n : ℕ) (seconds : List ℕ) (i j : ℕ) (start : Foremost) where

@@ -11,13 +11,14 @@ use lib.Ieee.{Float}
 use Rattle.kernel.proofs.Lists.{length-tabulate, getD-tabulate, by-elements}
 use Rattle.pairing.specs.Pairing.{Pair, pair, has, In, Candidates, ShareTrack, paired}
 use Rattle.pairing.specs.Keys.{fromKeys, nobody, partner, firstPartners, secondPartners}
-use Rattle.pairing.specs.Search.{nobodies, Underway}
+use Rattle.pairing.specs.Private.{nobodies}
 use Rattle.pairing.proofs.Tests.{either}
 use Rattle.pairing.proofs.Settled.{Preceded, Settled, settled}
 use Rattle.pairing.proofs.Stable.{asymmetric}
 use Rattle.pairing.proofs.Keys.{Keyed, of-candidate, to-candidate, ordered}
 use Rattle.pairing.proofs.Best.{First}
 use Rattle.pairing.proofs.Chosen.{Open}
+use Rattle.pairing.proofs.Filling.{Underway}
 use Rattle.pairing.proofs.Entries.{entered-none, entered-more, entered-all}
 
 module _ (keys : List Float) (m n : ℕ) (hm : m ≤ 32) (hn : n ≤ 32) where

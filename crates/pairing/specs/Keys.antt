@@ -43,6 +43,10 @@ pub record Shape (keys : List Float) (m n : ℕ) (firsts seconds : List ℕ) : T
 abbrev pub nobody : ℕ
 nobody = 255
 
+-- Whether track i of a table of partners is free.
+abbrev pub isFree : List ℕ → ℕ → Bool
+isFree table i = eqb (getD table i 0) nobody
+
 -- The number below n that passes the test, or nobody.
 unfoldable pub partner : ℕ → (ℕ → Bool) → ℕ
 partner zero test = nobody

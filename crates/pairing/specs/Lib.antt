@@ -1,4 +1,4 @@
 pub mod Pairing
 pub mod Keys
-pub mod Search
 pub mod Examples
+pub mod Private

@@ -3,7 +3,7 @@ ghost use mathlib.Core.Path.{_≡_};
 ghost use Prim.Native.Nat.{_+_, _*_, _≤_};
 ghost use lib.ListN.{length};
 ghost use Rattle.pairing.specs.Keys.{Shape};
-ghost use Rattle.pairing.specs.Search.{lookAt, searchRow, search};
+ghost use Rattle.pairing.specs.Private.{lookAt, searchRow, search};
 use crate::Foremost;
 use crate::NOBODY;
 

@@ -1,7 +1,7 @@
 // The tables of partners.
 ghost use mathlib.Core.Path.{_≡_};
 ghost use lib.ListN.{length};
-ghost use Rattle.pairing.specs.Search.{nobodies};
+ghost use Rattle.pairing.specs.Private.{nobodies};
 use crate::NOBODY;
 
 // Each of n tracks is free.

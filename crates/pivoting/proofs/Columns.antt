@@ -9,10 +9,10 @@ use mathlib.Core.Path.{_≡_, refl, sym, ap, _∙_}
 use borrow.Author.Tests.{eq-eqb, ne-eqb, lt-ltb, le-ltb}
 use lib.Ieee.{Float}
 use Rattle.kernel.specs.Answer.{answered, ask, through}
-use Rattle.dense.specs.Matrix.{nth, at, matrix}
+use Rattle.dense.specs.Matrix.{nth, at, matrix, columnOf}
 use Rattle.dense.proofs.Laws.{length-matrix, nth-tabulate, by-entries, at-matrix}
 use Rattle.pivoting.specs.Pivot.{rowNorms, someScale, bestOf, swapped, swappedNorms, Stage, pivotAt, pivoted}
-use Rattle.pivoting.specs.Solve.{stepEntry, column, reduced, augmentedEntry, augmented, start, solution, solved, columnOf}
+use Rattle.pivoting.specs.Solve.{stepEntry, column, reduced, augmentedEntry, augmented, start, solution, solved}
 use Rattle.pivoting.proofs.Pivots.{pivot-row}
 
 -- Two stages of n rows, with w and v columns, have equal norms and equal first n columns, and column c of the one is column d of the other.
@@ -76,15 +76,15 @@ module _ (n w v c d : ℕ) (nw : n ≤ w) (nv : n ≤ v) (cw : c < w) (dv : d < 
   same-pivoted t u a (suc k) h = rw (same-pivoted t u a k (omega arith), same-pivot (reduced n w t k) (reduced n v u k) (same-reduced t u a k (omega arith)) k h)
 
 -- [a | b] and [a | column j of b]
-start-alike : (a b : List Float) (n r j : ℕ) → j < r → Alike n (n + r) (n + 1) (n + j) n (start a b n r) (start a (columnOf n r j b) n 1)
+start-alike : (a b : List Float) (n r j : ℕ) → j < r → Alike n (n + r) (n + 1) (n + j) n (start a b n r) (start a (columnOf b n r j) n 1)
 unfolding augmented
 start-alike a b n r j h = record { norms = refl; front = front; beyond = beyond }
   where
-    front : (i x : ℕ) → i < n → x < n → at (augmented a b n r) (n + r) i x ≡ at (augmented a (columnOf n r j b) n 1) (n + 1) i x
+    front : (i x : ℕ) → i < n → x < n → at (augmented a b n r) (n + r) i x ≡ at (augmented a (columnOf b n r j) n 1) (n + 1) i x
     front i x p q =
         at-matrix n (n + r) (augmentedEntry a b n r) i x p (omega arith)
         ∙ (rw (lt-ltb x n q))
-        ∙ sym (at-matrix n (n + 1) (augmentedEntry a (columnOf n r j b) n 1) i x p (omega arith))
+        ∙ sym (at-matrix n (n + 1) (augmentedEntry a (columnOf b n r j) n 1) i x p (omega arith))
 
     place : (i : ℕ) → i * 1 + (n - n) ≡ i
     place i = omega arith
@@ -92,13 +92,13 @@ start-alike a b n r j h = record { norms = refl; front = front; beyond = beyond 
     same : n + j - n ≡ j
     same = omega arith
 
-    beyond : (i : ℕ) → i < n → at (augmented a b n r) (n + r) i (n + j) ≡ at (augmented a (columnOf n r j b) n 1) (n + 1) i n
+    beyond : (i : ℕ) → i < n → at (augmented a b n r) (n + r) i (n + j) ≡ at (augmented a (columnOf b n r j) n 1) (n + 1) i n
     beyond i p =
         at-matrix n (n + r) (augmentedEntry a b n r) i (n + j) p (omega arith)
         ∙ (rw (le-ltb (n + j) n (omega arith), le-ltb n n (omega arith), same, place i) (sym (nth-tabulate n (λ x. at b r x j) i p)))
-        ∙ sym (at-matrix n (n + 1) (augmentedEntry a (columnOf n r j b) n 1) i n p (omega arith))
+        ∙ sym (at-matrix n (n + 1) (augmentedEntry a (columnOf b n r j) n 1) i n p (omega arith))
 
-solution-column : (a b : List Float) (n r j : ℕ) → j < r → columnOf n r j (solution a b n r) ≡ solution a (columnOf n r j b) n 1
+solution-column : (a b : List Float) (n r j : ℕ) → j < r → columnOf (solution a b n r) n r j ≡ solution a (columnOf b n r j) n 1
 unfolding solution
 solution-column a b n r j h = sym (by-entries n _ _ (length-matrix n 1 one-column ∙ omega arith) entry)
   where
@@ -106,7 +106,7 @@ solution-column a b n r j h = sym (by-entries n _ _ (length-matrix n 1 one-colum
     t = reduced n (n + r) (start a b n r) n
 
     u : Stage
-    u = reduced n (n + 1) (start a (columnOf n r j b) n 1) n
+    u = reduced n (n + 1) (start a (columnOf b n r j) n 1) n
 
     one-column : ℕ → ℕ → Float
     one-column i x = at (u .rows) (n + 1) i (n + x)
@@ -132,14 +132,14 @@ solution-column a b n r j h = sym (by-entries n _ _ (length-matrix n 1 one-colum
         ∙ sym (at-matrix n r columns q j k h)
 
 -- Column j of the solution against b, n by r, is the solution against column j of b; and both are refused alike.
-pub solved-column : (a b : List Float) (n r j : ℕ) → j < r → through (columnOf n r j) (solved a b n r) ≡ solved a (columnOf n r j b) n 1
+pub solved-column : (a b : List Float) (n r j : ℕ) → j < r → through (λ v. columnOf v n r j) (solved a b n r) ≡ solved a (columnOf b n r j) n 1
 unfolding solved
-solved-column a b n r j h = rw pivots (go (someScale n (rowNorms a n)) (pivoted n (n + 1) (reduced n (n + 1) (start a (columnOf n r j b) n 1)) n))
+solved-column a b n r j h = rw pivots (go (someScale n (rowNorms a n)) (pivoted n (n + 1) (reduced n (n + 1) (start a (columnOf b n r j) n 1)) n))
   where
-    pivots : pivoted n (n + r) (reduced n (n + r) (start a b n r)) n ≡ pivoted n (n + 1) (reduced n (n + 1) (start a (columnOf n r j b) n 1)) n
+    pivots : pivoted n (n + r) (reduced n (n + r) (start a b n r)) n ≡ pivoted n (n + 1) (reduced n (n + 1) (start a (columnOf b n r j) n 1)) n
     pivots = same-pivoted n (n + r) (n + 1) (n + j) n (omega arith) (omega arith) (omega arith) (omega arith) _ _ (start-alike a b n r j h) n (omega arith)
 
-    go : (x p : Bool) → through (columnOf n r j) (ask 5 x (ask 6 p (answered (solution a b n r)))) ≡ ask 5 x (ask 6 p (answered (solution a (columnOf n r j b) n 1)))
+    go : (x p : Bool) → through (λ v. columnOf v n r j) (ask 5 x (ask 6 p (answered (solution a b n r)))) ≡ ask 5 x (ask 6 p (answered (solution a (columnOf b n r j) n 1)))
     go true true = ap answered (solution-column a b n r j h)
     go true false = refl
     go false p = refl

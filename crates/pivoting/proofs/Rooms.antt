@@ -6,7 +6,7 @@ use mathlib.Core.List.{List}
 use lib.Ieee.{Float}
 use lib.ListN.{length, take}
 use lib.Seq.{length-take-le}
-use Rattle.pivoting.specs.Room.{Elimination}
+use Rattle.pivoting.specs.Private.{Elimination}
 
 pub square-room : (k n : ℕ) → n ≤ k → n * n ≤ k * k
 square-room k n h = mul-le-mul h h

@@ -11,35 +11,27 @@ use Rattle.dense.specs.Matrix.{at, rowOf, matrix, isSide, hasLength, maxAbs}
 use Rattle.kernel.specs.Lists.{tabulate}
 use Rattle.pivoting.specs.Pivot.{rowNorms, someScale, bestOf, swapped, swappedNorms, Stage, stage, pivotAt, pivoted}
 
--- entry j of y less, right of column k, its own entry in column k over that of x, times x
-abbrev pub lessEntry : (ℕ → Float) → (ℕ → Float) → ℕ → ℕ → Float
-lessEntry x y k j = cond (ltb k j) (sub (y j) (mul (div (y k) (x k)) (x j))) (y j)
-
--- entry j of row i, from row k on, when the rows below row k are lowered: x where i is k
-abbrev pub loweredEntry : (ℕ → Float) → (ℕ → Float) → ℕ → ℕ → ℕ → Float
-loweredEntry x y k i j = cond (eqb i k) (x j) (lessEntry x y k j)
-
 -- Entry (i, j) when the pivot of column k is in row p: rows k and p of m, of n columns, have changed places, and each row
 -- below row k loses, right of column k, its own entry in column k over the pivot, times row k.
-unfoldable pub lowerEntry : List Float → ℕ → ℕ → ℕ → ℕ → ℕ → Float
+unfoldable pub forwardEntry : List Float → ℕ → ℕ → ℕ → ℕ → ℕ → Float
 unfolding swapped
-lowerEntry m n k p i j =
+forwardEntry m n k p i j =
     cond (ltb k i && ltb k j)
     (sub (at m n (swapped k p i) j) (mul (div (at m n (swapped k p i) k) (at m n p k)) (at m n p j)))
     (at m n (swapped k p i) j)
 
 -- column k of an n by n stage is reduced
-unfoldable pub lower : ℕ → ℕ → Stage → Stage
-unfolding bestOf lowerEntry matrix tabulate swapped
-lower n k t =
+unfoldable pub forwardStep : ℕ → ℕ → Stage → Stage
+unfolding bestOf forwardEntry matrix tabulate swapped
+forwardStep n k t =
     let p = pivotAt n n k t .row in
-    stage (matrix n n (lowerEntry (t .rows) n k p)) (swappedNorms n k p (t .norms))
+    stage (matrix n n (forwardEntry (t .rows) n k p)) (swappedNorms n k p (t .norms))
 
 -- the first k columns are reduced
-unfoldable pub lowered : ℕ → Stage → ℕ → Stage
-unfolding lower
-lowered n t zero = t
-lowered n t (suc k) = lower n k (lowered n t k)
+unfoldable pub triangulated : ℕ → Stage → ℕ → Stage
+unfolding forwardStep
+triangulated n t zero = t
+triangulated n t (suc k) = forwardStep n k (triangulated n t k)
 
 -- the sign flips where row p, not k, is the pivot of column k
 unfoldable pub flipped : Float → ℕ → ℕ → Float
@@ -58,14 +50,14 @@ pivotProduct n f zero = one
 pivotProduct n f (suc k) = mul (pivotProduct n f k) (at (f k .rows) n (pivotAt n n k (f k) .row) k)
 
 -- their product with its sign, where each column has one, else 0.0
-unfoldable pub product : ℕ → (ℕ → Stage) → Float
+unfoldable pub signedProduct : ℕ → (ℕ → Stage) → Float
 unfolding pivoted swapSign pivotProduct
-product n f = cond (pivoted n n f n) (mul (swapSign n f n) (pivotProduct n f n)) nought
+signedProduct n f = cond (pivoted n n f n) (mul (swapSign n f n) (pivotProduct n f n)) nought
 
 -- the determinant of a, n by n: 0.0 too where no norm is large enough
 unfoldable pub determinant : List Float → ℕ → Float
-unfolding maxAbs rowOf someScale lowered product tabulate
-determinant a n = cond (someScale n (rowNorms a n)) (product n (lowered n (stage a (rowNorms a n)))) nought
+unfolding maxAbs rowOf someScale triangulated signedProduct tabulate
+determinant a n = cond (someScale n (rowNorms a n)) (signedProduct n (triangulated n (stage a (rowNorms a n)))) nought
 
 -- `mat_det`
 unfoldable pub matDet : List Float → ℕ → Outcome Float

@@ -1,4 +1,4 @@
 pub mod Pivot
 pub mod Solve
 pub mod Det
-pub mod Room
+pub mod Private

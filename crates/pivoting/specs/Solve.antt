@@ -1,19 +1,13 @@
 -- Gauss–Jordan elimination by scaled pivots, of document 01, "Pivoting": `mat_solve`, `mat_inv` and the distance over the inverse.
-use Prim.Native.Nat.{ℕ, zero, suc, _+_, _*_, _-_, _≤_}
+use Prim.Native.Nat.{ℕ, zero, suc, _+_, _*_, _-_}
 use mathlib.Core.Bool.{cond, _&&_}
-use mathlib.Core.Path.{_≡_}
 use mathlib.Core.List.{List}
 use lib.Dec.{eqb, ltb}
-use lib.ListN.{length}
 use lib.Ieee.{Float}
 use Rattle.kernel.specs.Number.{sub, mul, div}
 use Rattle.kernel.specs.Answer.{Outcome, answered, ask, through}
-use Rattle.dense.specs.Matrix.{at, rowOf, matrix, unitEntry, identity, isSide, hasLength, maxAbs}
+use Rattle.dense.specs.Matrix.{at, rowOf, matrix, identity, isSide, hasLength, maxAbs}
 use Rattle.kernel.specs.Lists.{tabulate}
-use Rattle.dense.specs.declared.Written.{Written}
-use Rattle.dense.specs.declared.Written.the-variants as written
-use Rattle.dense.specs.declared.Number.{Number}
-use Rattle.dense.specs.declared.Number.the-variants as number
 use Rattle.linalg.specs.Sums.{difference, quadraticForm}
 use Rattle.pivoting.specs.Pivot.{rowNorms, someScale, bestOf, swapped, swappedNorms, Stage, stage, pivotAt, pivoted}
 
@@ -70,10 +64,6 @@ solved a b n r =
     (ask 6 (pivoted n (n + r) (reduced n (n + r) (start a b n r)) n)
     (answered (solution a b n r)))
 
--- unit vector j of n entries: 1.0 at j, 0.0 elsewhere
-abbrev pub unitVector : ℕ → ℕ → List Float
-unitVector n j = tabulate n (λ i. unitEntry i j)
-
 -- `mat_solve`: the vector x with a x = b, for a n by n
 unfoldable pub matSolve : List Float → List Float → ℕ → List Float → Outcome (List Float)
 unfolding solved isSide hasLength
@@ -82,27 +72,23 @@ matSolve a b n out =
     (ask 2 (hasLength a (n * n) && (hasLength b n && hasLength out n))
     (solved a b n 1))
 
--- `mat_inv`: the inverse of a, n by n, is the solution against the identity
+-- questions 5 and 6, and then the inverse of a, n by n: the solution against the identity
+unfoldable pub inverse : List Float → ℕ → Outcome (List Float)
+unfolding solved
+inverse a n = solved a (identity n) n n
+
+-- `mat_inv`
 unfoldable pub matInv : List Float → ℕ → List Float → Outcome (List Float)
-unfolding solved isSide hasLength
+unfolding inverse isSide hasLength
 matInv a n out =
     ask 1 (isSide n)
     (ask 2 (hasLength a (n * n) && hasLength out (n * n))
-    (solved a (identity n) n n))
-
--- the answer where v is the number that follows a call that wrote: its refusal stays
-abbrev pub following : Written → Float → Number
-following (written.Refused k) v = number.Refused k
-following written.Done v = number.Value v
-
--- column j of x, of n rows and r columns
-abbrev pub columnOf : ℕ → ℕ → ℕ → List Float → List Float
-columnOf n r j x = tabulate n (λ i. at x r i j)
+    (inverse a n))
 
 -- the quadratic form of x - mu under the inverse of cov, n by n, where it has one
 unfoldable pub distance : List Float → List Float → List Float → ℕ → Outcome Float
-unfolding solved quadraticForm
-distance x mu cov n = through (λ inv. quadraticForm (difference x mu n) inv n) (solved cov (identity n) n n)
+unfolding inverse quadraticForm
+distance x mu cov n = through (λ inv. quadraticForm (difference x mu n) inv n) (inverse cov n)
 
 -- `mahalanobis_distance_squared`
 unfoldable pub mahalanobis : List Float → List Float → List Float → ℕ → Outcome Float
@@ -111,10 +97,3 @@ mahalanobis x mu cov n =
     ask 1 (isSide n)
     (ask 2 (hasLength x n && (hasLength mu n && hasLength cov (n * n)))
     (distance x mu cov n))
-
--- Two vectors of n entries, at least one, and an n by n matrix.
-pub record Under (x mu cov : List Float) (n : ℕ) : Type 0 where
-  pub some : 1 ≤ n
-  pub first : length x ≡ n
-  pub second : length mu ≡ n
-  pub square : length cov ≡ n * n

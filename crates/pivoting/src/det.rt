@@ -7,8 +7,8 @@ ghost use lib.ListN.{length};
 ghost use Rattle.dense.specs.Matrix.{nth, at, matrix};
 ghost use Rattle.kernel.specs.Lists.{tabulate};
 ghost use Rattle.pivoting.specs.Pivot.{stage};
-ghost use Rattle.pivoting.specs.Det.{lessEntry, loweredEntry, lowerEntry, flipped, lowered, determinant, product};
-ghost use Rattle.pivoting.specs.Room.{TwoRows, Clearing, PivotRow, Elimination};
+ghost use Rattle.pivoting.specs.Det.{forwardEntry, flipped, triangulated, determinant, signedProduct};
+ghost use Rattle.pivoting.specs.Private.{TwoRows, Clearing, PivotRow, Elimination, belowPivot, pivotOrBelow};
 use crate::choice::choose;
 use crate::choice::is_taken;
 use crate::choice::swap_norms;
@@ -29,9 +29,9 @@ fn row_of(m: &[f64], n: usize, p: usize, y: &mut [f64])
 }
 
 // Takes from y, right of column k, its entry in column k over that of x, times x.
-fn lower_entries(x: &[f64], n: usize, k: usize, y: &mut [f64])
+fn below_pivot(x: &[f64], n: usize, k: usize, y: &mut [f64])
     requires { ⌜ TwoRows n k (now x) (now y) ⌝ }
-    ensures { λ _. ⌜ now (y .exit) ≡ tabulate n (lessEntry (nth (now (x .entry))) (nth (now (y .entry))) k) ⌝ }
+    ensures { λ _. ⌜ now (y .exit) ≡ tabulate n (belowPivot (nth (now (x .entry))) (nth (now (y .entry))) k) ⌝ }
 {
     let factor = y[k] / x[k];
     for j in k + 1..n {
@@ -40,36 +40,36 @@ fn lower_entries(x: &[f64], n: usize, k: usize, y: &mut [f64])
 }
 
 // Row i, from row k on, of a step in column k, from y: the pivot row x where i is k, else y less its part of x.
-fn lower_row(x: &[f64], n: usize, k: usize, i: usize, y: &mut [f64])
+fn pivot_or_below(x: &[f64], n: usize, k: usize, i: usize, y: &mut [f64])
     requires { ⌜ TwoRows n k (now x) (now y) ⌝ }
-    ensures { λ _. ⌜ now (y .exit) ≡ tabulate n (loweredEntry (nth (now (x .entry))) (nth (now (y .entry))) k i) ⌝ }
+    ensures { λ _. ⌜ now (y .exit) ≡ tabulate n (pivotOrBelow (nth (now (x .entry))) (nth (now (y .entry))) k i) ⌝ }
 {
     if i == k {
         copy(x, n, y);
         return;
     }
-    lower_entries(x, n, k, y);
+    below_pivot(x, n, k, y);
 }
 
 // Row k of m, n by n, becomes x, and every row below it loses its part of x.
-fn lower_rows(x: &[f64], m: &mut [f64], n: usize, k: usize)
+fn reduce_below(x: &[f64], m: &mut [f64], n: usize, k: usize)
     requires { ⌜ Clearing n n k (now x) (now m) ⌝ }
-    ensures { λ _. ⌜ now (m .exit) ≡ matrix n n (λ i j. cond (ltb i k) (at (now (m .entry)) n i j) (loweredEntry (nth (now (x .entry))) (at (now (m .entry)) n i) k i j)) ⌝ }
+    ensures { λ _. ⌜ now (m .exit) ≡ matrix n n (λ i j. cond (ltb i k) (at (now (m .entry)) n i j) (pivotOrBelow (nth (now (x .entry))) (at (now (m .entry)) n i) k i j)) ⌝ }
 {
     for i in k..n {
         let start = i * n;
-        lower_row(x, n, k, i, &mut m[start..start + n]);
+        pivot_or_below(x, n, k, i, &mut m[start..start + n]);
     }
 }
 
 // The step in column k of m, n by n, with its pivot in row p; x takes the pivot row.
-fn lower(m: &mut [f64], x: &mut [f64], n: usize, k: usize, p: usize)
+fn forward_step(m: &mut [f64], x: &mut [f64], n: usize, k: usize, p: usize)
     requires { ⌜ PivotRow n n p k (now m) (now x) ⌝ }
-    ensures { λ _. ⌜ now (m .exit) ≡ matrix n n (lowerEntry (now (m .entry)) n k p) ⌝ }
+    ensures { λ _. ⌜ now (m .exit) ≡ matrix n n (forwardEntry (now (m .entry)) n k p) ⌝ }
 {
     row_of(m, n, p, x);
     copy_row(m, n, n, k, p);
-    lower_rows(x, m, n, k);
+    reduce_below(x, m, n, k);
 }
 
 // The sign s, flipped where p is not k.
@@ -84,9 +84,9 @@ fn flipped(s: f64, k: usize, p: usize) -> f64
 
 // Question 6 in each column of m, n by n, with norms s, and then the product of the pivots with its sign; 0.0 where it is
 // not met. x is room for a row.
-fn product(m: &mut [f64], s: &mut [f64], x: &mut [f64], n: usize) -> f64
+fn signed_product(m: &mut [f64], s: &mut [f64], x: &mut [f64], n: usize) -> f64
     requires { ⌜ Elimination n n (now m) (now s) (now x) ⌝ }
-    ensures { λ r. ⌜ r ≡ product n (lowered n (stage (now (m .entry)) (now (s .entry)))) ⌝ }
+    ensures { λ r. ⌜ r ≡ signedProduct n (triangulated n (stage (now (m .entry)) (now (s .entry)))) ⌝ }
 {
     let mut sign = 1.0;
     let mut det = 1.0;
@@ -99,7 +99,7 @@ fn product(m: &mut [f64], s: &mut [f64], x: &mut [f64], n: usize) -> f64
         sign = flipped(sign, k, p);
         det = det * entry(m, n, p, k);
         swap_norms(s, n, k, p);
-        lower(m, x, n, k, p);
+        forward_step(m, x, n, k, p);
     }
     sign * det
 }
@@ -121,7 +121,7 @@ fn determinant_in(
         return 0.0;
     }
     copy(a, size, m);
-    product(m, s, x, n)
+    signed_product(m, s, x, n)
 }
 
 // The same with room of its own.

@@ -2,10 +2,10 @@
 ghost use mathlib.Core.Path.{_≡_};
 ghost use Prim.Native.Nat.{_<_, _≤_};
 ghost use Rattle.dense.specs.Matrix.{nth, at, matrix};
-ghost use Rattle.pivoting.specs.Pivot.{pivot, taken, stage, pivoted};
-ghost use Rattle.pivoting.specs.Solve.{clearedEntry, stepEntry, column, reduced};
-ghost use Rattle.linalg.specs.Room.{Reaches};
-ghost use Rattle.pivoting.specs.Room.{Clearing, PivotRow, Elimination, Column};
+ghost use Rattle.pivoting.specs.Pivot.{pivot, taken, stage};
+ghost use Rattle.pivoting.specs.Solve.{clearedEntry, stepEntry, column};
+ghost use Rattle.dense.specs.Private.{Reaches};
+ghost use Rattle.pivoting.specs.Private.{Clearing, PivotRow, Elimination, Column, Reduces};
 use crate::choice::choose;
 use crate::choice::is_taken;
 use crate::choice::swap_norms;
@@ -52,7 +52,7 @@ fn reduce_column(m: &mut [f64], s: &mut [f64], x: &mut [f64], n: usize, w: usize
 // Question 6 in the first n columns of m, n by w, with norms s; where it is met all are reduced. x is room for a row.
 pub(crate) fn reduce(m: &mut [f64], s: &mut [f64], x: &mut [f64], n: usize, w: usize) -> bool
     requires { ⌜ (n ≤ w) × Elimination n w (now m) (now s) (now x) ⌝ }
-    ensures { λ r. ⌜ Reaches (pivoted n w (reduced n w (stage (now (m .entry)) (now (s .entry)))) n) r (stage (now (m .exit)) (now (s .exit)) ≡ reduced n w (stage (now (m .entry)) (now (s .entry))) n) ⌝ }
+    ensures { λ r. ⌜ Reduces n w (stage (now (m .entry)) (now (s .entry))) r (stage (now (m .exit)) (now (s .exit))) ⌝ }
 {
     for k in 0..n {
         if !reduce_column(m, s, x, n, w, k) {

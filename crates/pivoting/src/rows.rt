@@ -4,23 +4,13 @@ ghost use mathlib.Core.Bool.{cond};
 ghost use Prim.Native.Nat.{_+_, _*_, _-_, _<_};
 ghost use lib.Dec.{eqb};
 ghost use lib.ListN.{length};
-ghost use Rattle.kernel.specs.Number.{sub, mul};
 ghost use Rattle.dense.specs.Matrix.{nth, at, matrix};
 ghost use Rattle.kernel.specs.Lists.{tabulate};
 ghost use Rattle.pivoting.specs.Solve.{dividedEntry, clearedEntry};
-ghost use Rattle.pivoting.specs.Room.{TwoRows, PivotRow};
+ghost use Rattle.pivoting.specs.Private.{TwoRows, PivotRow};
 use dense::shape::entry;
 use dense::vector::copy;
-
-// Takes s times x from y, entry by entry.
-fn subtract_scaled(s: f64, x: &[f64], n: usize, y: &mut [f64])
-    requires { ⌜ (length (now x) ≡ n) × (length (now y) ≡ n) ⌝ }
-    ensures { λ _. ⌜ now (y .exit) ≡ tabulate n (λ j. sub (nth (now (y .entry)) j) (mul s (nth (now (x .entry)) j))) ⌝ }
-{
-    for j in 0..n {
-        y[j] = y[j] - s * x[j];
-    }
-}
+use dense::vector::subtract_scaled;
 
 // Row i of a Gauss–Jordan step in column k, from y: the divided pivot row x where i is k, else y less its entry in column k times x.
 pub(crate) fn reduce_row(x: &[f64], w: usize, k: usize, i: usize, y: &mut [f64])

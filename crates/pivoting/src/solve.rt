@@ -6,7 +6,7 @@ ghost use Rattle.kernel.specs.Lists.{tabulate};
 ghost use Rattle.dense.specs.Answer.{Leaves};
 ghost use Rattle.dense.specs.Matrix.{at, matrix};
 ghost use Rattle.pivoting.specs.Solve.{augmentedEntry, augmented, solved};
-ghost use Rattle.pivoting.specs.Room.{System, SystemIn, SystemTo};
+ghost use Rattle.pivoting.specs.Private.{System, SystemIn, SystemTo};
 use crate::norms::row_norms;
 use crate::norms::some_scale;
 use crate::reduce::reduce;

@@ -13,15 +13,14 @@ use Rattle.kernel.proofs.Answers.{answered-inj, ask-met}
 use Rattle.dense.specs.declared.Written.{Written}
 use Rattle.dense.specs.declared.Written.the-variants.{Done, Refused}
 use Rattle.dense.specs.Answer.{after, Leaves}
-use Rattle.dense.specs.Matrix.{matrix, hasLength}
+use Rattle.dense.specs.Matrix.{hasLength}
 use Rattle.dense.proofs.Tests.{never}
-use Rattle.linalg.specs.Products.{matVecMul, matAta}
-use Rattle.linalg.specs.Regularize.{dampedEntry, tikhonov}
+use Rattle.linalg.specs.Products.{matVecMul, matAta, times, gram}
+use Rattle.linalg.specs.Regularize.{damped, tikhonov}
 use Rattle.pivoting.specs.Pivot.{rowNorms, someScale, pivoted}
 use Rattle.pivoting.specs.Solve.{start, reduced, matSolve, solved}
-use Rattle.power.specs.Power.{times, gram}
 use Rattle.power.specs.Condition.{solutionOf, isRefused}
-use Rattle.power.specs.Room.{Matrices, Vectors}
+use Rattle.power.specs.Private.{Matrices, Vectors}
 
 long-of : (a : List Float) (n : ℕ) → length a ≡ n → hasLength a n ≡ true
 unfolding hasLength
@@ -46,11 +45,11 @@ value-of p q b c v e = answered-inj (ask-met q c (answered v) (ask-met p b (ask 
 -- ---- with room for a matrix
 
 module _ {n : ℕ} {a old : List Float} (m : Matrices n a old) {r : Written} {new : List Float} where
-  pub gram-left : Leaves (matAta a n n old) old r new → new ≡ gram a n
-  unfolding matAta gram
+  pub gram-left : Leaves (matAta a n n old) old r new → new ≡ gram a n n
+  unfolding matAta
   gram-left l = left (matAta a n n old) old (rw (m .order, long-of a (n * n) (m .matrix), long-of old (n * n) (m .room))) l
 
-  pub damped-left : (alpha : Float) → Leaves (tikhonov a alpha n old) old r new → new ≡ matrix n n (dampedEntry a n alpha)
+  pub damped-left : (alpha : Float) → Leaves (tikhonov a alpha n old) old r new → new ≡ damped a alpha n
   unfolding tikhonov
   damped-left alpha l = left (tikhonov a alpha n old) old (rw (m .order, long-of a (n * n) (m .matrix), long-of old (n * n) (m .room))) l
 
@@ -61,8 +60,8 @@ abbrev pub Solves : List Float → ℕ → List Float → Bool → List Float �
 Solves a n x r new = (r ≡ not (isRefused (solved a x n 1))) × (r ≡ true → new ≡ solutionOf a n x)
 
 module _ {n : ℕ} {a x old : List Float} (m : Vectors n a x old) where
-  pub times-left : {r : Written} {new : List Float} → Leaves (matVecMul a x n old) old r new → new ≡ times a n x
-  unfolding matVecMul times
+  pub times-left : {r : Written} {new : List Float} → Leaves (matVecMul a x n old) old r new → new ≡ times a x n n
+  unfolding matVecMul
   times-left l = left (matVecMul a x n old) old (rw (m .order, long-of a (n * n) (m .matrix), long-of x n (m .left), long-of old n (m .right))) l
 
   -- the questions on sides and lengths are met

@@ -16,15 +16,14 @@ use Rattle.kernel.specs.Lists.{tabulate}
 use Rattle.kernel.specs.Number.{sub, mul, div}
 use Rattle.kernel.proofs.First.{Standing, stands-first, stands-next}
 use Rattle.kernel.proofs.Lists.{length-tabulate}
-use Rattle.dense.specs.Matrix.{nth, isSide, hasLength}
-use Rattle.linalg.specs.Norms.{norm}
-use Rattle.power.specs.Power.{times, dotProduct, rayleigh, residual, advanced, signOf, roundValue}
-use Rattle.power.specs.Power.{vanishes, isSmall, converges, afterRounds, isLast, eigenpair, refined, concluded, lastRound}
+use Rattle.dense.specs.Matrix.{nth, isSide, hasLength, dotProduct, norm}
+use Rattle.power.specs.Power.{rayleigh, residual, advanced, signOf, roundValue, vanishes, isSmall, converges, afterRounds, isLast, eigenpair, refined, concluded, lastRound}
 use Rattle.power.specs.Power.{iterated, evenVector, dominant, matEigenvectorMax}
-use Rattle.power.specs.Room.{Multiplied, Measured, Rounded}
+use Rattle.power.specs.Private.{Multiplied, Measured, Rounded}
+use Rattle.linalg.specs.Products.{times}
 use Rattle.power.proofs.Stops.{ends-stopped, ends-unstopped}
 
-length-times : (a : List Float) (n : ℕ) (x : List Float) {w : List Float} → w ≡ times a n x → length w ≡ n
+length-times : (a : List Float) (n : ℕ) (x : List Float) {w : List Float} → w ≡ times a x n n → length w ≡ n
 unfolding times
 length-times a n x e = ap length e ∙ length-tabulate n _
 
@@ -40,7 +39,7 @@ module _ {n : ℕ} {a v w : List Float} (m : Multiplied n a v w) where
 
 module _ {n : ℕ} {a v w : List Float} {size : Float} (m : Measured n a v w size) where
   -- the size is the norm of the product
-  sized : size ≡ norm (times a n v) n
+  sized : size ≡ norm (times a v n n) n
   sized = m .measure ∙ ap (λ (x : List Float). norm x n) (m .multiplied .product)
 
   valued : {d g : Float} → d ≡ dotProduct w v n → g ≡ signOf d → mul g size ≡ roundValue a n v
@@ -51,7 +50,7 @@ module _ {n : ℕ} {a v w : List Float} {size : Float} (m : Measured n a v w siz
   unfolding advanced
   moved e = e ∙ rw (sized, m .multiplied .product)
 
-  pub round-made : {tol d g r : Float} {u x : List Float} {q : Bool} → d ≡ dotProduct w v n → g ≡ signOf d → u ≡ tabulate n (λ i. div (nth w i) size) → x ≡ times a n u
+  pub round-made : {tol d g r : Float} {u x : List Float} {q : Bool} → d ≡ dotProduct w v n → g ≡ signOf d → u ≡ tabulate n (λ i. div (nth w i) size) → x ≡ times a u n n
       → r ≡ norm (tabulate n (λ i. sub (nth x i) (mul (mul g size) (nth u i)))) n → q ≡ isSmall tol (mul g size) r
       → Rounded a n tol v q u x
   unfolding converges residual
@@ -63,10 +62,10 @@ module _ {n : ℕ} {a v w : List Float} {size : Float} (m : Measured n a v w siz
 pub record Before (a : List Float) (n max : ℕ) (tol : Float) (v : List Float) (k : ℕ) (u w : List Float) : Type 0 where
   pub at : Standing (afterRounds a n v) (isLast a n tol) max k u
   pub vector : length u ≡ n
-  pub product : w ≡ times a n u
+  pub product : w ≡ times a u n n
 
 module _ {a : List Float} {n max : ℕ} {tol : Float} {v : List Float} where
-  pub begun : {w : List Float} → length v ≡ n → w ≡ times a n v → Before a n max tol v 0 v w
+  pub begun : {w : List Float} → length v ≡ n → w ≡ times a v n n → Before a n max tol v 0 v w
   unfolding afterRounds
   begun l p = record { at = stands-first refl; vector = l; product = p }
 

@@ -4,8 +4,4 @@ pub mod Stops
 pub mod Iteration
 pub mod Starts
 pub mod Ratios
-pub mod Exacts
-pub mod Ones
-pub mod Underflow
-pub mod Overflow
 pub mod OneByOne

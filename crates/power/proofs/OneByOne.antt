@@ -1,5 +1,8 @@
 -- `one-by-one`: every 1 by 1 matrix has the condition number +infinity. A NaN and an infinity are refused by the solver; a positive square s leaves the first
 -- vector as it is, since √(s · s) = s, or vanishes, or overflows.
+pub mod Ones
+pub mod Underflow
+pub mod Overflow
 use Prim.Native.Nat.{ℕ, zero, suc, _*_, _^_, _≤_}
 use native.Mathlib.Nat.{lt-of-not-le}
 use native.Mathlib.Omega.{arith}
@@ -18,12 +21,13 @@ use Rattle.kernel.specs.Answer.{answered}
 use Rattle.kernel.specs.Constants.{nought, one, relTol, infinity}
 use Rattle.kernel.specs.Number.{add, mul}
 use Rattle.kernel.specs.Sqrt.{scaled}
-use Rattle.power.specs.Power.{vanishes, dominant, gram}
+use Rattle.power.specs.Power.{vanishes, dominant}
 use Rattle.power.specs.Condition.{maxRounds, ratioOf, condition, conditionNumber}
-use Rattle.power.proofs.Exacts.{unsigned, zero-double, zero-plus}
-use Rattle.power.proofs.Ones.{measured, unsigned-of, round-measured, squared, large-ratio, small-ratio, refused-ratio, refused-nan, refused-infinite, vanished-ratio}
-use Rattle.power.proofs.Underflow.{small-vanishes}
-use Rattle.power.proofs.Overflow.{over-ratio}
+use Rattle.kernel.proofs.Squares.Exacts.{unsigned, zero-double, zero-plus}
+use Rattle.power.proofs.OneByOne.Ones.{measured, unsigned-of, round-measured, squared, large-ratio, small-ratio, refused-ratio, refused-nan, refused-infinite, vanished-ratio}
+use Rattle.power.proofs.OneByOne.Underflow.{small-vanishes}
+use Rattle.linalg.specs.Products.{gram}
+use Rattle.power.proofs.OneByOne.Overflow.{over-ratio}
 
 cases : (x : Float) → T (measured x) → T (finite x) ⊎ (x ≡ inf false)
 cases nan u = absurd u
@@ -62,7 +66,7 @@ own-square (inf false) = tt
 own-square (fin true m e) = rounded-square (m * up e * (m * up e)) (down e * down e)
 own-square (fin false m e) = rounded-square (m * up e * (m * up e)) (down e * down e)
 
-gram-one : (w : Float) → gram (w ∷ []) 1 ≡ mul w w ∷ []
+gram-one : (w : Float) → gram (w ∷ []) 1 1 ≡ mul w w ∷ []
 unfolding gram
 gram-one w = ap (λ (z : Float). z ∷ []) (zero-plus (mul w w) (mul-fits binary64 w w) (own-square w))
 

@@ -13,12 +13,13 @@ use Rattle.kernel.specs.Constants.{nought, relTol, leastNorm, infinity}
 use Rattle.kernel.specs.Sqrt.{sqrt}
 use Rattle.kernel.proofs.First.{Standing, stands-first, stands-next}
 use Rattle.kernel.proofs.Lists.{length-tabulate}
-use Rattle.linalg.specs.Norms.{norm}
+use Rattle.dense.specs.Matrix.{norm, dotProduct}
 use Rattle.pivoting.specs.Solve.{solved}
-use Rattle.power.specs.Power.{dotProduct, gram, Eigenpair, eigenpair, dominant}
+use Rattle.power.specs.Power.{Eigenpair, eigenpair, dominant}
 use Rattle.power.specs.Condition.{maxRounds, normalized, deflated, startIndex, Iterate, iterate, solutionOf, isRefused, inverted, fails, isSteady}
 use Rattle.power.specs.Condition.{afterInverses, isLastInverse, lastInverse, ratio, concludedRatio, iteratedRatio, ratioFrom, ratioOf, condition}
 use Rattle.power.proofs.Stops.{ends-stopped, ends-unstopped}
+use Rattle.linalg.specs.Products.{gram}
 use Rattle.power.proofs.Starts.{Starts}
 
 -- what a test leaves
@@ -119,7 +120,7 @@ module _ (g : List Float) (n : ℕ) (lambda : Float) (v : List Float) where
       high h es (e ∙ ap (λ (z : List Float). iteratedRatio g n sigma (iterate z nought)) (w .1 refl) ∙ if-true (started sigma) infinity (sym (w .0)))
 
 -- by the product of the transpose of a and a, and its greatest eigenvalue
-pub conditioned : (a : List Float) (n : ℕ) {g v : List Float} {lambda r : Float} → g ≡ gram a n → eigenpair v lambda ≡ dominant g n maxRounds relTol → r ≡ ratioOf g n (eigenpair v lambda)
+pub conditioned : (a : List Float) (n : ℕ) {g v : List Float} {lambda r : Float} → g ≡ gram a n n → eigenpair v lambda ≡ dominant g n maxRounds relTol → r ≡ ratioOf g n (eigenpair v lambda)
     → r ≡ condition a n
 unfolding condition
 conditioned a n {g} eg ev er = er ∙ ap (λ (p : Eigenpair). ratioOf g n p) ev ∙ ap (λ (m : List Float). ratioOf m n (dominant m n maxRounds relTol)) eg

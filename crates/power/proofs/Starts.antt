@@ -11,7 +11,7 @@ use lib.ListN.{length}
 use Rattle.kernel.specs.First.{firstBelow}
 use Rattle.kernel.proofs.First.{Standing, stopped, unstopped}
 use Rattle.dense.proofs.Tests.{never}
-use Rattle.linalg.specs.Norms.{norm}
+use Rattle.dense.specs.Matrix.{norm}
 use Rattle.power.specs.Condition.{normalized, deflated, isStart, startIndex}
 
 -- whether unit vector k is the start

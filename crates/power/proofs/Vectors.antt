@@ -10,9 +10,8 @@ use lib.Seq.{getD-set-same, getD-set-other}
 use Rattle.kernel.specs.Constants.{nought, one}
 use Rattle.kernel.specs.Lists.{tabulate}
 use Rattle.kernel.proofs.Lists.{length-tabulate}
-use Rattle.dense.specs.Matrix.{nth, unitEntry}
+use Rattle.dense.specs.Matrix.{nth, unitEntry, unitVector}
 use Rattle.dense.proofs.Laws.{nth-tabulate, by-entries}
-use Rattle.pivoting.specs.Solve.{unitVector}
 
 abbrev zeros : ℕ → List Float
 zeros n = tabulate n (λ i. nought)

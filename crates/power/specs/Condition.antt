@@ -10,14 +10,14 @@ use Rattle.kernel.specs.Answer.{Outcome, refused, answered, ask}
 use Rattle.kernel.specs.Constants.{nought, one, relTol, leastNorm, infinity}
 use Rattle.kernel.specs.First.{firstBelow}
 use Rattle.kernel.specs.Lists.{tabulate}
-use Rattle.dense.specs.Matrix.{sumFrom, nth, matrix, isSide, hasLength}
-use Rattle.linalg.specs.Norms.{norm}
-use Rattle.linalg.specs.Regularize.{dampedEntry}
-use Rattle.pivoting.specs.Solve.{unitVector, solution, solved}
+use Rattle.dense.specs.Matrix.{sumFrom, nth, dotProduct, norm, unitVector, isSide, hasLength}
+use Rattle.linalg.specs.Products.{gram}
+use Rattle.linalg.specs.Regularize.{damped}
+use Rattle.pivoting.specs.Solve.{solution, solved}
 use Rattle.power.specs.declared.TikhonovReport.{TikhonovReport}
 use Rattle.power.specs.declared.Damped.{Damped}
 use Rattle.power.specs.declared.Damped.the-variants as answer
-use Rattle.power.specs.Power.{dotProduct, gram, Eigenpair, dominant}
+use Rattle.power.specs.Power.{Eigenpair, dominant}
 
 -- `CONDITION_NUMBER_MAX_ITER`
 abbrev pub maxRounds : ℕ
@@ -130,7 +130,7 @@ ratioOf g n p = cond (le (p .value) nought) infinity (ratioFrom g n (sqrt (p .va
 -- the condition number of a, n by n
 unfoldable pub condition : List Float → ℕ → Float
 unfolding gram dominant ratioOf
-condition a n = let g = gram a n in ratioOf g n (dominant g n maxRounds relTol)
+condition a n = let g = gram a n n in ratioOf g n (dominant g n maxRounds relTol)
 
 -- `condition_number`
 unfoldable pub conditionNumber : List Float → ℕ → Outcome Float
@@ -143,9 +143,9 @@ pub record Damping : Type 0 where
 
 -- cov, n by n, with alpha added on the diagonal, and the condition numbers before and after
 unfoldable pub damping : List Float → Float → ℕ → Damping
-unfolding matrix
+unfolding damped
 damping cov alpha n =
-    let m = matrix n n (dampedEntry cov n alpha) in
+    let m = damped cov alpha n in
     record { damped = m; report = record { alpha = alpha; «condition_number_before» = condition cov n; «condition_number_after» = condition m n } }
 
 -- `tikhonov_with_report`

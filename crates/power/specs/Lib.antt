@@ -1,3 +1,3 @@
 pub mod Power
 pub mod Condition
-pub mod Room
+pub mod Private

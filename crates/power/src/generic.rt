@@ -5,9 +5,10 @@ ghost use Prim.Native.Nat.{_*_};
 ghost use lib.ListN.{length};
 ghost use Rattle.dense.specs.Answer.{given};
 ghost use Rattle.dense.specs.Matrix.{isSide};
-ghost use Rattle.power.specs.Power.{eigenpair, gram, dominant, singularValue, matEigenvectorMax, afterEigenpair, matLargestSingularValue};
+ghost use Rattle.power.specs.Power.{eigenpair, dominant, singularValue, matEigenvectorMax, afterEigenpair, matLargestSingularValue};
 ghost use Rattle.power.specs.Condition.{conditionNumber};
-ghost use Rattle.power.specs.Room.{Spaces};
+ghost use Rattle.linalg.specs.Products.{gram};
+ghost use Rattle.power.specs.Private.{Spaces};
 use crate::inverse::condition;
 use crate::inverse::gram;
 use crate::rounds::dominant;
@@ -62,7 +63,7 @@ fn largest_in(
     w: &mut [f64],
 ) -> f64
     requires { ⌜ Spaces n (now a) (now g) (now v) (now w) ⌝ }
-    ensures { λ r. ⌜ r ≡ singularValue (dominant (gram (now (a .entry)) n) n «max_iter» tol .value) ⌝ }
+    ensures { λ r. ⌜ r ≡ singularValue (dominant (gram (now (a .entry)) n n) n «max_iter» tol .value) ⌝ }
 {
     gram(a, n, g);
     singular_value(dominant(g, n, max_iter, tol, v, w))
@@ -71,7 +72,7 @@ fn largest_in(
 // The same with room of its own.
 fn largest(a: &[f64], n: usize, max_iter: u32, tol: f64) -> f64
     requires { ⌜ (isSide n ≡ true) × (length (now a) ≡ n * n) ⌝ }
-    ensures { λ r. ⌜ r ≡ singularValue (dominant (gram (now (a .entry)) n) n «max_iter» tol .value) ⌝ }
+    ensures { λ r. ⌜ r ≡ singularValue (dominant (gram (now (a .entry)) n n) n «max_iter» tol .value) ⌝ }
 {
     let mut g = [0.0f64; 256];
     let mut v = [0.0f64; 16];

@@ -5,19 +5,18 @@ ghost use Prim.Native.Nat.{_*_, _<_};
 ghost use lib.Dec.{ltb};
 ghost use lib.ListN.{length};
 ghost use Rattle.kernel.specs.Constants.{nought};
-ghost use Rattle.kernel.specs.Lists.{tabulate};
-ghost use Rattle.kernel.specs.Number.{sub, mul};
-ghost use Rattle.dense.specs.Matrix.{nth, isSide};
-ghost use Rattle.linalg.specs.Norms.{norm};
-ghost use Rattle.pivoting.specs.Solve.{unitVector, solved};
-ghost use Rattle.power.specs.Power.{gram, eigenpair};
+ghost use Rattle.dense.specs.Matrix.{norm, unitVector, isSide};
+ghost use Rattle.pivoting.specs.Solve.{solved};
+ghost use Rattle.power.specs.Power.{eigenpair};
 ghost use Rattle.power.specs.Condition.{normalized, deflated, isStart, startIndex, iterate, solutionOf, isRefused, isSteady, ratio, iteratedRatio, ratioOf, condition};
-ghost use Rattle.power.specs.Room.{Matrices, Vectors, Spaces, Starting, Deflating};
+ghost use Rattle.linalg.specs.Products.{gram};
+ghost use Rattle.power.specs.Private.{Matrices, Vectors, Spaces, Starting, Deflating};
 use crate::rounds::dominant;
 use crate::vector::fill;
 use crate::vector::multiply;
-use crate::vector::norm;
 use dense::vector::dot;
+use dense::vector::norm;
+use dense::vector::subtract_scaled;
 use kernel::constants::LEAST_NORM;
 use kernel::constants::REL_TOL;
 use kernel::constants::infinity;
@@ -39,16 +38,6 @@ fn unit_vector(n: usize, k: usize, y: &mut [f64])
     y[k] = 1.0;
 }
 
-// Takes d times v from y.
-fn take(d: f64, v: &[f64], n: usize, y: &mut [f64])
-    requires { ⌜ (length (now v) ≡ n) × (length (now y) ≡ n) ⌝ }
-    ensures { λ _. ⌜ now (y .exit) ≡ tabulate n (λ i. sub (nth (now (y .entry)) i) (mul d (nth (now (v .entry)) i))) ⌝ }
-{
-    for i in 0..n {
-        y[i] = y[i] - d * v[i];
-    }
-}
-
 // Writes unit vector k, less its part along v.
 fn deflate(v: &[f64], n: usize, k: usize, y: &mut [f64])
     requires { ⌜ Deflating n k (now v) (now y) ⌝ }
@@ -56,7 +45,7 @@ fn deflate(v: &[f64], n: usize, k: usize, y: &mut [f64])
 {
     unit_vector(n, k, y);
     let d = dot(y, v, n);
-    take(d, v, n, y);
+    subtract_scaled(d, v, n, y);
 }
 
 // Whether unit vector k, deflated to the norm s, is the start.
@@ -163,7 +152,7 @@ fn ratio_of(g: &[f64], n: usize, lambda: f64, v: &[f64], x: &mut [f64], y: &mut 
 // Writes the product of the transpose of a, n by n, and a.
 pub(crate) fn gram(a: &[f64], n: usize, g: &mut [f64])
     requires { ⌜ Matrices n (now a) (now g) ⌝ }
-    ensures { λ _. ⌜ now (g .exit) ≡ gram (now (a .entry)) n ⌝ }
+    ensures { λ _. ⌜ now (g .exit) ≡ gram (now (a .entry)) n n ⌝ }
 {
     mat_ata(a, n, n, g);
 }

@@ -1,9 +1,8 @@
 // `tikhonov_with_report` of regularize.rs.
 ghost use mathlib.Core.Path.{_≡_};
-ghost use Rattle.dense.specs.Matrix.{matrix};
-ghost use Rattle.linalg.specs.Regularize.{dampedEntry};
+ghost use Rattle.linalg.specs.Regularize.{damped};
 ghost use Rattle.power.specs.Condition.{tikhonovWithReport, afterDamping};
-ghost use Rattle.power.specs.Room.{Matrices};
+ghost use Rattle.power.specs.Private.{Matrices};
 use crate::Damped;
 use crate::TikhonovReport;
 use crate::inverse::condition;
@@ -16,7 +15,7 @@ use linalg::regularize::tikhonov;
 // Writes cov, n by n, with alpha added on the diagonal.
 fn damp(cov: &[f64], alpha: f64, n: usize, out: &mut [f64])
     requires { ⌜ Matrices n (now cov) (now out) ⌝ }
-    ensures { λ _. ⌜ now (out .exit) ≡ matrix n n (dampedEntry (now (cov .entry)) n alpha) ⌝ }
+    ensures { λ _. ⌜ now (out .exit) ≡ damped (now (cov .entry)) alpha n ⌝ }
 {
     tikhonov(cov, alpha, n, out);
 }

@@ -4,25 +4,14 @@ ghost use lib.ListN.{length};
 ghost use Rattle.kernel.specs.Lists.{tabulate};
 ghost use Rattle.kernel.specs.Number.{mul, div};
 ghost use Rattle.dense.specs.Matrix.{nth};
-ghost use Rattle.linalg.specs.Norms.{norm};
-ghost use Rattle.power.specs.Power.{times};
-ghost use Rattle.power.specs.Room.{Vectors};
-use dense::vector::dot;
-use kernel::number::sqrt;
+ghost use Rattle.linalg.specs.Products.{times};
+ghost use Rattle.power.specs.Private.{Vectors};
 use linalg::generic::mat_vec_mul;
-
-// The root of the sum of the squares of x.
-pub(crate) fn norm(x: &[f64], n: usize) -> f64
-    requires { ⌜ length (now x) ≡ n ⌝ }
-    ensures { λ r. ⌜ r ≡ norm (now (x .entry)) n ⌝ }
-{
-    sqrt(dot(x, x, n))
-}
 
 // Writes the product of a, n by n, and x.
 pub(crate) fn times(a: &[f64], x: &[f64], n: usize, y: &mut [f64])
     requires { ⌜ Vectors n (now a) (now x) (now y) ⌝ }
-    ensures { λ _. ⌜ now (y .exit) ≡ times (now (a .entry)) n (now (x .entry)) ⌝ }
+    ensures { λ _. ⌜ now (y .exit) ≡ times (now (a .entry)) (now (x .entry)) n n ⌝ }
 {
     mat_vec_mul(a, x, n, y);
 }

@@ -5,7 +5,7 @@ ghost use mathlib.Core.Bool.{true};
 ghost use Prim.Native.Nat.{ℕ, _+_, _*_, _/_, _%_, _^_, _≤_, _<_};
 ghost use lib.Ieee.{binary64, toBits};
 ghost use Rattle.kernel.specs.Sqrt.{scaledBits, rootPattern};
-ghost use Rattle.kernel.specs.Nearest.{Nearest, RootOf};
+ghost use Rattle.kernel.specs.Private.{Nearest, RootOf};
 
 // 2 ^ 52, the weight of a significand's leading digit and of the exponent's field.
 const LEAD: u64 = 0x10_0000_0000_0000;

@@ -15,7 +15,7 @@ use Rattle.kernel.proofs.Lists.{length-over}
 use Rattle.tracks.specs.Read.{TrackList, contents, count}
 use Rattle.tracks.proofs.Reading.Accepted.{contents-met}
 use Rattle.pairing.specs.Pairing.{pair, Pairs, Candidates, Ordered, paired, freeSecond}
-use Rattle.pairing.specs.Search.{isFree}
+use Rattle.pairing.specs.Keys.{isFree}
 use Rattle.pairing.proofs.Tests.{left, right}
 use Rattle.pairing.proofs.Stable.{paired-stable}
 use Rattle.merge.specs.Tracks.{ThreeLists, trackCount}

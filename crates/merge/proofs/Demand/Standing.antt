@@ -8,8 +8,7 @@ use mathlib.Core.Bool.{Bool, not, _||_}
 use mathlib.Core.List.{List}
 use lib.Dec.{T, T-not}
 use Rattle.pairing.specs.Pairing.{Pairs}
-use Rattle.pairing.specs.Keys.{nobody}
-use Rattle.pairing.specs.Search.{isFree}
+use Rattle.pairing.specs.Keys.{nobody, isFree}
 use Rattle.pairing.proofs.Tests.{both, left, right, or-left, or-right}
 use Rattle.merge.specs.Rows.{isTrack, Pairings, partnerOf, withoutBase, remaining, rowAt}
 use Rattle.merge.specs.Buffer.{baseIn, oursIn, theirsIn, verdictIn, TrackOrNone, howMany}

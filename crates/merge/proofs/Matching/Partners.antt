@@ -10,8 +10,7 @@ use lib.ListN.{getD}
 use borrow.Author.Tests.{eq-eqb, ne-eqb}
 use Rattle.kernel.proofs.Lists.{getD-tabulate}
 use Rattle.pairing.specs.Pairing.{Pair, pair, Pairs, Candidates, Ordered, Pairing, some, freeSecond, paired}
-use Rattle.pairing.specs.Keys.{nobody, partner, firstPartners, secondPartners}
-use Rattle.pairing.specs.Search.{isFree}
+use Rattle.pairing.specs.Keys.{nobody, partner, firstPartners, secondPartners, isFree}
 use Rattle.pairing.proofs.Tests.{either, alike, some-where, none-at}
 use Rattle.pairing.proofs.Entries.{partner-none, partner-one}
 use Rattle.pairing.proofs.Stable.{paired-stable}

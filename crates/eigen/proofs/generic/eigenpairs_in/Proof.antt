@@ -1,7 +1,7 @@
 -- `eigenpairs_in` meets its contract: its five steps are those of the definition.
 use mathlib.Core.Path.{sym, _∙_, subst}
 use borrow.Author.Needs.{needs}
-use Rattle.eigen.specs.Rows.{Symmetric}
+use Rattle.eigen.specs.Rotation.{Symmetric}
 use Rattle.eigen.proofs.Means.{symmetrized-symmetric}
 use Rattle.eigen.proofs.Pairs.{answered-by}
 use Rattle.eigen.proofs.generic.eigenpairs_in.Statement.{statement}
@@ -14,11 +14,11 @@ entered c = c .before .before .before .before .before .before .before .before .b
 abbrev symmetric : tie.After-identity → tie.After-symmetrize
 symmetric c = c .before .before .before .before
 
-abbrev identified : tie.After-settle → tie.After-identity
+abbrev identified : tie.After-sweep-until → tie.After-identity
 identified c = c .before .before .before .before .before .before .before
 
-settle-requires : tie.Need-settle-requires
-settle-requires c κs =
+sweep-until-requires : tie.Need-sweep-until-requires
+sweep-until-requires c κs =
     let start-vectors = c .before .before .before .before .before .before in
     let made = symmetric start-vectors in
     let x = entered made in
@@ -34,11 +34,11 @@ returns c =
     let call = last .before .before .before .before .before .before .before .before .before .before .before in
     let made = symmetric (identified call) in
     let x = entered made .args in
-    answered-by (x .a .now) (x .n) (call .settle .last .0) (call .settle .last .1 .0) (x .values .now) (x .vectors .now) (made .symmetrize .ensures)
-    (identified call .identity .ensures) (call .before .before .before .tolerance .ensures) (call .settle .ensures) (last .pairs .ensures)
+    answered-by (x .a .now) (x .n) (call .sweep-until .last .0) (call .sweep-until .last .1 .0) (x .values .now) (x .vectors .now) (made .symmetrize .ensures)
+    (identified call .identity .ensures) (call .before .before .before .tolerance .ensures) (call .sweep-until .ensures) (last .pairs .ensures)
 
 pub eigenpairs-in-spec : {M : Type 1} → statement M
 eigenpairs-in-spec =
     tie.close
-    (tie.spec (λ c κs. search needs) (λ c κs. search needs) (λ c κs. search needs) settle-requires (λ c κs. search needs) (λ c. search needs)
+    (tie.spec (λ c κs. search needs) (λ c κs. search needs) (λ c κs. search needs) sweep-until-requires (λ c κs. search needs) (λ c. search needs)
     (λ c. search needs) (λ c. search needs) (λ c. search needs) (λ c. search needs) (λ c. search needs) returns)

@@ -1,7 +1,7 @@
 -- `pairs` meets its contract: the diagonal decides, and then its order arranges the answer.
 use mathlib.Core.Path.{_∙_}
 use borrow.Author.Needs.{needs}
-use Rattle.eigen.specs.Room.{Ordering}
+use Rattle.eigen.specs.Private.{Ordering}
 use Rattle.eigen.proofs.Pairs.{sorted-below, pairs-refused, pairs-made}
 use Rattle.eigen.proofs.generic.pairs.Statement.{statement}
 use Rattle.eigen.proofs.generic.pairs.Tie as tie

@@ -4,7 +4,7 @@ use Prim.Native.Nat.{ℕ}
 use mathlib.Core.List.{List}
 use mathlib.Core.Path.{_≡_, subst}
 use lib.Ieee.{Float}
-use Rattle.eigen.specs.Room.{Lent}
+use Rattle.eigen.specs.Private.{Lent}
 use Rattle.eigen.proofs.inside.eigenpairs.Statement.{statement}
 use Rattle.eigen.proofs.inside.eigenpairs.Tie as tie
 

@@ -3,13 +3,13 @@ use Prim.Native.Nat.{_-_}
 use native.Mathlib.Omega.{arith}
 use Rattle.dense.specs.Matrix.{nth}
 use Rattle.dense.proofs.Entries.{EntryByEntry, no-entry, entry-written, every-entry}
-use Rattle.eigen.specs.Eigen.{place}
-use Rattle.eigen.specs.Rows.{Below}
+use Rattle.eigen.specs.Eigen.{indexAt}
+use Rattle.eigen.specs.Private.{Below}
 use Rattle.eigen.proofs.order.arrange_values.Statement.{statement}
 use Rattle.eigen.proofs.order.arrange_values.Tie as tie
 
 abbrev Inv-loop : tie.InvT-loop
-Inv-loop e l n y₀ k₀ y k = EntryByEntry (λ i. nth e (place l i)) n y₀ k y
+Inv-loop e l n y₀ k₀ y k = EntryByEntry (λ i. nth e (indexAt l i)) n y₀ k y
 
 abbrev μ-loop : tie.MeasureT-loop
 μ-loop e l n y₀ k₀ y k = n - k

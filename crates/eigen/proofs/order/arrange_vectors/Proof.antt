@@ -3,12 +3,12 @@ use Prim.Native.Nat.{_-_}
 use native.Mathlib.Omega.{arith}
 use Rattle.dense.specs.Matrix.{at}
 use Rattle.dense.proofs.Rows.{RowByRow, RowFits, no-row, row-fits, row-lent, row-written, every-row}
-use Rattle.eigen.specs.Eigen.{place}
+use Rattle.eigen.specs.Eigen.{indexAt}
 use Rattle.eigen.proofs.order.arrange_vectors.Statement.{statement}
 use Rattle.eigen.proofs.order.arrange_vectors.Tie as tie
 
 abbrev Inv-loop : tie.InvT-loop
-Inv-loop v l n out₀ i₀ out i = RowByRow (λ j k. at v n (place l k) j) n n out₀ i out
+Inv-loop v l n out₀ i₀ out i = RowByRow (λ j k. at v n (indexAt l k) j) n n out₀ i out
 
 abbrev μ-loop : tie.MeasureT-loop
 μ-loop v l n out₀ i₀ out i = n - i

@@ -8,14 +8,14 @@ use mathlib.Core.Path.{refl, sym, _∙_}
 use lib.Ieee.{Float, lt}
 use Rattle.kernel.proofs.First.{Standing, stands-first, stands-next, stopped, unstopped}
 use Rattle.dense.specs.Matrix.{nth}
-use Rattle.eigen.specs.Eigen.{place, spot}
-use Rattle.eigen.specs.Rows.{Below}
+use Rattle.eigen.specs.Eigen.{indexAt, spot}
+use Rattle.eigen.specs.Private.{Below}
 use Rattle.eigen.proofs.order.spot.Statement.{statement}
 use Rattle.eigen.proofs.order.spot.Tie as tie
 
 -- whether element j is less than element k
 abbrev less : List Float → List ℕ → ℕ → ℕ → Bool
-less e l k j = lt (nth e (place l j)) (nth e k)
+less e l k j = lt (nth e (indexAt l j)) (nth e k)
 
 abbrev Inv-loop : tie.InvT-loop
 Inv-loop e l k j₀ j = Standing (λ i. i) (less e l k) k j j

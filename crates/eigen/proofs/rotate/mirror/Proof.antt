@@ -18,8 +18,8 @@ abbrev μ-loop : tie.MeasureT-loop
 abbrev entered : tie.At-loop Inv-loop μ-loop → tie.Start Inv-loop μ-loop
 entered c = c .before .before
 
-abbrev turned : tie.After-entry Inv-loop μ-loop → tie.At-loop Inv-loop μ-loop
-turned c = c .before .before .before
+abbrev this-turn : tie.After-entry Inv-loop μ-loop → tie.At-loop Inv-loop μ-loop
+this-turn c = c .before .before .before
 
 loop-holds : tie.Need-loop-holds Inv-loop μ-loop
 loop-holds c = (omega arith, mirror-none _ _ _ (c .before .pre .0) (c .before .pre .1))
@@ -31,14 +31,14 @@ entry-requires c κs =
     omega (arith, cell (x .n) (x .n) {i = x .p} {j = turn .loop .i} (omega arith) (omega arith), turn .loop .inv .1 .size)
 
 put-requires : tie.Need-put-requires Inv-loop μ-loop
-put-requires c κs = let turn = turned (c .before) in (omega arith, entered turn .pre .0, turn .loop .inv .1 .size)
+put-requires c κs = let turn = this-turn (c .before) in (omega arith, entered turn .pre .0, turn .loop .inv .1 .size)
 
 loop-again : tie.Need-loop-again Inv-loop μ-loop
 loop-again c =
     let after-put = c .before .before in
     let after-entry = after-put .before .before in
-    let start = entered (turned after-entry) in
-    let turn = turned after-entry .loop in
+    let start = entered (this-turn after-entry) in
+    let turn = this-turn after-entry .loop in
     let x = start .args in
     let old = after-entry .entry .ensures ∙ mirror-next (x .n) (x .p) (x .m .now) (start .pre .0) (turn .i) (omega arith) (turn .inv .1) in
     (omega arith, rw (after-put .put .ensures) (mirror-more (x .n) (x .p) (x .m .now) (start .pre .0) (turn .i) (omega arith) old (turn .inv .1)))

@@ -20,8 +20,8 @@ abbrev μ-loop : tie.MeasureT-loop
 abbrev entered : tie.At-loop Inv-loop μ-loop → tie.Start Inv-loop μ-loop
 entered c = c .before .before
 
-abbrev turned : tie.After-entry Inv-loop μ-loop → tie.At-loop Inv-loop μ-loop
-turned c = c .before .before .before
+abbrev this-turn : tie.After-entry Inv-loop μ-loop → tie.At-loop Inv-loop μ-loop
+this-turn c = c .before .before .before
 
 abbrev read : tie.After-entry2 Inv-loop μ-loop → tie.After-entry Inv-loop μ-loop
 read c = c .before .before
@@ -44,14 +44,14 @@ loop-holds c = (omega arith, let pre = c .before .pre in turn-none _ _ _ _ _ (pr
 put-requires-2 : tie.Need-put-requires-2 Inv-loop μ-loop
 put-requires-2 c κs =
     let after-put = c .before .before .before .before .before in
-    (omega arith, omega arith, after-put .put .kept .0 ∙ turned (read (read-both after-put)) .loop .inv .1 .size)
+    (omega arith, omega arith, after-put .put .kept .0 ∙ this-turn (read (read-both after-put)) .loop .inv .1 .size)
 
 loop-again : tie.Need-loop-again Inv-loop μ-loop
 loop-again c =
     let after-put2 = c .before .before in
     let after-put = after-put2 .before .before .before .before .before .before in
     let both = read-both after-put in
-    let at-loop = turned (read both) in
+    let at-loop = this-turn (read both) in
     let start = entered at-loop in
     let x = start .args in
     let at-p = read both .entry .ensures ∙ old at-loop (x .p) (omega arith) (omega arith) in
@@ -71,6 +71,6 @@ pub turn-rows-spec : {M : Type 1} → statement M
 turn-rows-spec =
     tie.close
     (tie.spec Inv-loop μ-loop loop-holds (λ c κs. let turn = c .before .before in within turn (entered turn .args .p) (omega arith) (omega arith))
-    (λ c κs. let turn = turned (c .before) in within turn (entered turn .args .q) (omega arith) (omega arith))
-    (λ c κs. (omega arith, omega arith, turned (read (c .before .before .before)) .loop .inv .1 .size)) put-requires-2 (λ c. omega arith) (λ c. omega arith) loop-again
+    (λ c κs. let turn = this-turn (c .before) in within turn (entered turn .args .q) (omega arith) (omega arith))
+    (λ c κs. (omega arith, omega arith, this-turn (read (c .before .before .before)) .loop .inv .1 .size)) put-requires-2 (λ c. omega arith) (λ c. omega arith) loop-again
     same-length returns)

@@ -5,7 +5,7 @@ use native.Mathlib.Nat.{le-antisymm}
 use mathlib.Core.Path.{refl, sym, ap, _∙_}
 use Rattle.eigen.specs.Eigen.{sweptRows}
 use Rattle.eigen.specs.Rotation.{State}
-use Rattle.eigen.specs.Rows.{stateOf}
+use Rattle.eigen.specs.Private.{stateOf}
 use Rattle.eigen.proofs.Sweeps.{RowsSwept, slices-row, rows-more}
 use Rattle.eigen.proofs.sweep.sweep.Statement.{statement}
 use Rattle.eigen.proofs.sweep.sweep.Tie as tie

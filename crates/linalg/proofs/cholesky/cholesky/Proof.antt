@@ -35,7 +35,7 @@ factor-rows-requires : tie.Need-factor-rows-requires
 factor-rows-requires c κs = let start = c .before .before .before in (start .pre .1, zeros-front (start .args .n * start .args .n) 256 (start .pre .0))
 
 returns : tie.Need-returns
-returns c = (sym (unmet (c .before .before .factor-rows .ensures .told) (c .if1 .taken)), λ e. never e, λ _. refl)
+returns c = (sym (unmet (c .before .before .factor-rows .ensures .answers) (c .if1 .taken)), λ e. never e, λ _. refl)
 
 array-share-prefix-l : tie.Need-array-share-prefix-l
 array-share-prefix-l c = let n = start c .args .n in omega (arith, length-front _ (called c .factor-rows .last .1 .1 .0) (n * n) (called c .factor-rows .kept .1 .1 .0))
@@ -47,7 +47,7 @@ returns-2 : tie.Need-returns-2
 returns-2 c =
     let after-copy = c .before .before in
     let else1 = after-copy .before .before .before in
-    (sym (met (called else1 .factor-rows .ensures .told) (else1 .if1 .left)), λ _. after-copy .copy .ensures ∙ made else1 _, λ e. never (sym e))
+    (sym (met (called else1 .factor-rows .ensures .answers) (else1 .if1 .left)), λ _. after-copy .copy .ensures ∙ made else1 _, λ e. never (sym e))
 
 pub cholesky-spec : {M : Type 1} → statement M
 cholesky-spec =

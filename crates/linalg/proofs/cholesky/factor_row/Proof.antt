@@ -47,7 +47,7 @@ entry-requires : tie.Need-entry-requires
 entry-requires c κs = let start = entered (c .before .before) in omega (arith, row-within (start .args .n) (start .args .n) (start .pre .row))
 
 returns : tie.Need-returns
-returns c = record { told = sym (ap isPivot (sym (pivot-of (c .before))) ∙ unmet (c .before .is-pivot .ensures) (c .if1 .taken)); reached = λ e. never e }
+returns c = record { answers = sym (ap isPivot (sym (pivot-of (c .before))) ∙ unmet (c .before .is-pivot .ensures) (c .if1 .taken)); reached = λ e. never e }
 
 returns-2 : tie.Need-returns-2
 returns-2 c =
@@ -56,7 +56,7 @@ returns-2 c =
     let x = entered m .args in
     let l = m .left-entries .last .1 .1 .1 .0 in
     record {
-      told = sym (ap isPivot (sym (pivot-of tested)) ∙ met (tested .is-pivot .ensures) (c .before .if1 .left));
+      answers = sym (ap isPivot (sym (pivot-of tested)) ∙ met (tested .is-pivot .ensures) (c .before .if1 .left));
       reached = λ _. row-more (x .a .now) l (x .n) (x .i) (size m) (entered m .pre .row) _ (c .sqrt .ensures ∙ ap sqrt (pivot-of tested)) (m .left-entries .ensures);
     }
 

@@ -8,7 +8,7 @@ use native.Mathlib.Nat.{le-antisymm}
 use borrow.Author.Tests.{not-true, not-false}
 use lib.Ieee.{Float}
 use lib.ListN.{length, length-replicate}
-use Rattle.dense.specs.Fill.{Padded}
+use Rattle.linalg.specs.Private.{Padded}
 use Rattle.linalg.specs.Cholesky.{factor, definite}
 use Rattle.dense.proofs.Tests.{never}
 use Rattle.linalg.proofs.Padding.{padded-none, padded-all}
@@ -41,7 +41,7 @@ whole c = ap length (c .pre .1) ∙ length-replicate _ _
 
 -- what is known of the pivots after the row
 pivots : (c : tie.After-factor-row Inv-loop μ-loop) → let x = start (turn c) .args in definite (x .a .now) (x .n) (turn c .loop .i + 1) ≡ c .factor-row .result
-pivots c = let x = start (turn c) .args in definite-suc (x .a .now) (x .n) (turn c .loop .i) ∙ rw (turn c .loop .inv .pivots) (sym (c .factor-row .ensures .told))
+pivots c = let x = start (turn c) .args in definite-suc (x .a .now) (x .n) (turn c .loop .i) ∙ rw (turn c .loop .inv .pivots) (sym (c .factor-row .ensures .answers))
 
 loop-holds : tie.Need-loop-holds Inv-loop μ-loop
 unfolding definite factor
@@ -63,7 +63,7 @@ returns : tie.Need-returns Inv-loop μ-loop
 returns c =
     let row = c .before .before .before in
     let x = start (turn row) .args in
-    record { told = sym (definite-never (x .a .now) (x .n) (turn row .loop .i + 1) (omega arith) (pivots row ∙ not-true _ (c .if1 .taken))); reached = λ e. never e }
+    record { answers = sym (definite-never (x .a .now) (x .n) (turn row .loop .i + 1) (omega arith) (pivots row ∙ not-true _ (c .if1 .taken))); reached = λ e. never e }
 
 loop-again : tie.Need-loop-again Inv-loop μ-loop
 loop-again c =
@@ -81,7 +81,7 @@ returns-2 c =
     let long : length (factor (x .a .now) (x .n) (l .i)) ≡ length (l .l) =
     omega (arith, length-factor (x .a .now) (x .n) (l .i) (inv .turns), ap (λ (k : ℕ). k * x .n) end, inv .size, whole s) in
     record {
-      told = sym (ap (definite (x .a .now) (x .n)) (sym end) ∙ inv .pivots);
+      answers = sym (ap (definite (x .a .now) (x .n)) (sym end) ∙ inv .pivots);
       reached = λ _. padded-all (factor (x .a .now) (x .n) (l .i)) (l .l) long (inv .rows) ∙ ap (factor (x .a .now) (x .n)) end;
     }
 

@@ -6,7 +6,7 @@ use native.Mathlib.Nat.{le-antisymm}
 use mathlib.Core.List.{List}
 use lib.Ieee.{Float}
 use lib.ListN.{length, length-set}
-use Rattle.dense.specs.Fill.{Padded}
+use Rattle.linalg.specs.Private.{Padded}
 use Rattle.linalg.specs.Cholesky.{withLeft, factor}
 use Rattle.kernel.proofs.Lists.{row-within}
 use Rattle.linalg.proofs.Factor.{left-more}

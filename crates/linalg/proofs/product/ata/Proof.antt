@@ -1,7 +1,7 @@
 -- `ata` meets its contract: it is written row by row.
 use Prim.Native.Nat.{_-_}
 use native.Mathlib.Omega.{arith}
-use Rattle.linalg.specs.Products.{ataEntry}
+use Rattle.linalg.specs.Products.{ataEntry, gram}
 use Rattle.dense.proofs.Rows.{RowByRow, RowFits, no-row, row-fits, row-lent, row-written, every-row}
 use Rattle.linalg.proofs.product.ata.Statement.{statement}
 use Rattle.linalg.proofs.product.ata.Tie as tie
@@ -22,6 +22,7 @@ loop-again : tie.Need-loop-again Inv-loop μ-loop
 loop-again c = let turn = c .before .before .before .before in row-written (turn .before .loop .inv) (turn .loop-test .taken) (c .before .before .ata-row .ensures)
 
 returns : tie.Need-returns Inv-loop μ-loop
+unfolding gram
 returns c = every-row (c .before .loop .inv) (c .loop-test .left)
 
 pub ata-spec : {M : Type 1} → statement M

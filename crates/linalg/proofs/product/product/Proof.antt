@@ -1,7 +1,7 @@
 -- `product` meets its contract: it is written row by row.
 use Prim.Native.Nat.{_-_}
 use native.Mathlib.Omega.{arith}
-use Rattle.linalg.specs.Products.{productEntry}
+use Rattle.linalg.specs.Products.{productEntry, product}
 use Rattle.kernel.proofs.Lists.{row-within}
 use Rattle.dense.proofs.Rows.{RowByRow, RowFits, no-row, row-fits, row-lent, row-written, every-row}
 use Rattle.linalg.proofs.product.product.Statement.{statement}
@@ -25,6 +25,7 @@ loop-again : tie.Need-loop-again Inv-loop μ-loop
 loop-again c = let turn = c .before .before .before .before in row-written (turn .before .loop .inv) (turn .loop-test .taken) (c .before .before .product-row .ensures)
 
 returns : tie.Need-returns Inv-loop μ-loop
+unfolding product
 returns c = every-row (c .before .loop .inv) (c .loop-test .left)
 
 pub product-spec : {M : Type 1} → statement M

@@ -2,7 +2,7 @@
 use mathlib.Core.Path.{_∙_}
 use Prim.Native.Nat.{_-_}
 use native.Mathlib.Omega.{arith}
-use Rattle.linalg.specs.Products.{vectorEntry}
+use Rattle.linalg.specs.Products.{vectorEntry, times}
 use Rattle.dense.proofs.Entries.{EntryByEntry, no-entry, entry-written, every-entry}
 use Rattle.kernel.proofs.Lists.{row-within}
 use Rattle.dense.proofs.Laws.{row-sum}
@@ -25,6 +25,7 @@ loop-again c =
     entry-written (turn .before .loop .inv) (turn .loop-test .taken) (c .dot .ensures ∙ row-sum (x .a .now) (x .x .now) (x .n) (turn .before .loop .i) (c .before .row .ensures .1))
 
 returns : tie.Need-returns Inv-loop μ-loop
+unfolding times
 returns c = every-entry (c .before .loop .inv) (c .loop-test .left)
 
 pub times-vector-spec : {M : Type 1} → statement M

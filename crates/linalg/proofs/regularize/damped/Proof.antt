@@ -1,7 +1,7 @@
 -- `damped` meets its contract: it is written row by row.
 use Prim.Native.Nat.{_-_}
 use native.Mathlib.Omega.{arith}
-use Rattle.linalg.specs.Regularize.{dampedEntry}
+use Rattle.linalg.specs.Regularize.{dampedEntry, damped}
 use Rattle.dense.proofs.Rows.{RowByRow, RowFits, no-row, row-fits, row-lent, row-written, every-row}
 use Rattle.linalg.proofs.regularize.damped.Statement.{statement}
 use Rattle.linalg.proofs.regularize.damped.Tie as tie
@@ -22,6 +22,7 @@ loop-again : tie.Need-loop-again Inv-loop μ-loop
 loop-again c = let turn = c .before .before .before .before in row-written (turn .before .loop .inv) (turn .loop-test .taken) (c .before .before .damped-row .ensures)
 
 returns : tie.Need-returns Inv-loop μ-loop
+unfolding damped
 returns c = every-row (c .before .loop .inv) (c .loop-test .left)
 
 pub damped-spec : {M : Type 1} → statement M

@@ -7,8 +7,9 @@ use lib.Ieee.{Float}
 use lib.ListN.{length}
 use lib.Seq.{length-take-le, length-front}
 use Rattle.linalg.specs.Sums.{traceCube}
-use Rattle.dense.proofs.Laws.{length-matrix, front}
+use Rattle.dense.proofs.Laws.{front}
 use Rattle.dense.proofs.Tests.{side-of-area}
+use Rattle.linalg.proofs.Lengths.{length-product}
 use Rattle.linalg.proofs.sums.trace_cube_product.Statement.{statement}
 use Rattle.linalg.proofs.sums.trace_cube_product.Tie as tie
 
@@ -24,16 +25,16 @@ array-share-prefix-m c =
     omega (arith, length-front _ (c .before .product .last .1 .1 .1 .1 .1 .0) (start .args .n * start .args .n) (c .before .product .kept .1 .1 .1 .1 .1 .0))
 
 slice-aggregate-trace-cube : tie.Need-slice-aggregate-trace-cube
-slice-aggregate-trace-cube c = sym (ap length (front _ (length-matrix _ _ _) (c .before .before .product .ensures)) ∙ length-matrix _ _ _)
+slice-aggregate-trace-cube c = sym (ap length (front _ (length-product _ _ _ _ _) (c .before .before .product .ensures)) ∙ length-product _ _ _ _ _)
 
 trace-cube-requires : tie.Need-trace-cube-requires
-trace-cube-requires c κs = ap length (front _ (length-matrix _ _ _) (c .before .before .product .ensures)) ∙ length-matrix _ _ _
+trace-cube-requires c κs = ap length (front _ (length-product _ _ _ _ _) (c .before .before .product .ensures)) ∙ length-product _ _ _ _ _
 
 returns : tie.Need-returns
 returns c =
     let after-product = c .before .before .before in
     let start = after-product .before .before .before .before in
-    c .trace-cube .ensures ∙ ap (λ (d : List Float). traceCube d (start .args .n)) (front _ (length-matrix _ _ _) (after-product .product .ensures))
+    c .trace-cube .ensures ∙ ap (λ (d : List Float). traceCube d (start .args .n)) (front _ (length-product _ _ _ _ _) (after-product .product .ensures))
 
 pub trace-cube-product-spec : {M : Type 1} → statement M
 trace-cube-product-spec =

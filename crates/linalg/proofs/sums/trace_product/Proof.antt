@@ -7,7 +7,7 @@ use lib.Ieee.{Float}
 use Rattle.kernel.specs.Number.{mul}
 use Rattle.kernel.specs.Constants.{nought}
 use Rattle.dense.specs.Matrix.{at, sumRowsFrom}
-use Rattle.kernel.proofs.Loops.{Turned, turned-none, turned-more, turned-all}
+use Rattle.kernel.proofs.Loops.{AfterTurns, turns-none, turns-more, turns-all}
 use Rattle.linalg.proofs.sums.trace_product.Statement.{statement}
 use Rattle.linalg.proofs.sums.trace_product.Tie as tie
 
@@ -15,21 +15,21 @@ abbrev term : List Float → List Float → ℕ → ℕ → ℕ → Float
 term a b n i j = mul (at a n i j) (at b n j i)
 
 abbrev Inv-loop : tie.InvT-loop
-Inv-loop a b n s₀ i₀ s i = Turned (λ l. sumRowsFrom nought l n (term a b n)) n i s
+Inv-loop a b n s₀ i₀ s i = AfterTurns (λ l. sumRowsFrom nought l n (term a b n)) n i s
 
 abbrev μ-loop : tie.MeasureT-loop
 μ-loop a b n s₀ i₀ s i = n - i
 
 loop-holds : tie.Need-loop-holds Inv-loop μ-loop
 unfolding sumRowsFrom
-loop-holds c = turned-none refl
+loop-holds c = turns-none refl
 
 loop-again : tie.Need-loop-again Inv-loop μ-loop
 unfolding sumRowsFrom
-loop-again c = turned-more (c .before .before .loop .inv) (c .before .loop-test .taken) (λ e. c .trace-row .ensures ∙ rw e)
+loop-again c = turns-more (c .before .before .loop .inv) (c .before .loop-test .taken) (λ e. c .trace-row .ensures ∙ rw e)
 
 returns : tie.Need-returns Inv-loop μ-loop
-returns c = turned-all (c .before .loop .inv) (c .loop-test .left)
+returns c = turns-all (c .before .loop .inv) (c .loop-test .left)
 
 pub trace-product-spec : {M : Type 1} → statement M
 trace-product-spec = tie.close (tie.spec Inv-loop μ-loop loop-holds (λ c κs. omega arith) (λ c. omega arith) (λ c. omega arith) loop-again returns)

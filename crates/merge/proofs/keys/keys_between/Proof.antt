@@ -8,11 +8,11 @@ use lib.Ieee.{Float}
 use lib.ListN.{length, take, length-replicate}
 use Rattle.kernel.specs.Constants.{nought}
 use Rattle.kernel.specs.Lists.{tabulate}
-use Rattle.dense.specs.Fill.{FilledRows}
+use Rattle.dense.proofs.Fill.{FilledRows}
 use Rattle.dense.specs.Matrix.{rowOf, matrix}
 use Rattle.kernel.proofs.Lists.{row-within}
 use Rattle.dense.proofs.Laws.{length-part, rows-none, rows-more}
-use Rattle.pairing.specs.Search.{isFree}
+use Rattle.pairingNone.specs.Keys.{isFree}
 use Rattle.merge.specs.Private.{keyAmong}
 use Rattle.merge.proofs.keys.keys_between.Statement.{statement}
 use Rattle.merge.proofs.keys.keys_between.Tie as tie

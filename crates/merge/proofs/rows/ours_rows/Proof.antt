@@ -4,8 +4,7 @@ use Prim.Native.Nat.{ℕ, _-_}
 use native.Mathlib.Omega.{arith}
 use mathlib.Core.Bool.{Bool}
 use lib.ListN.{getD}
-use Rattle.pairing.specs.Keys.{nobody}
-use Rattle.pairing.specs.Search.{isFree}
+use Rattle.pairing.specs.Keys.{nobody, isFree}
 use Rattle.merge.specs.Rows.{Row, selected}
 use Rattle.merge.specs.Private.{undecidedRow, oursGroup}
 use Rattle.merge.proofs.Buffers.Appending.{Growing, no-turn, selected-room, selected-turn, every-turn}

@@ -1,5 +1,5 @@
 -- `look_at` meets its contract: each way out has the tests of `look_at`.
-use Rattle.pairing.specs.Search.{lookAt}
+use Rattle.pairing.specs.Private.{lookAt}
 use Rattle.pairing.proofs.search.look_at.Statement.{statement}
 use Rattle.pairing.proofs.search.look_at.Tie as tie
 

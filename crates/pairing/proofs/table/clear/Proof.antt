@@ -9,7 +9,7 @@ use lib.ListN.{length, getD, set, length-set}
 use lib.Seq.{getD-set-same, getD-set-other}
 use Rattle.kernel.proofs.Lists.{by-elements}
 use Rattle.pairing.specs.Keys.{nobody}
-use Rattle.pairing.specs.Search.{nobodies}
+use Rattle.pairing.specs.Private.{nobodies}
 use Rattle.pairing.proofs.table.clear.Statement.{statement}
 use Rattle.pairing.proofs.table.clear.Tie as tie
 

@@ -1,6 +1,6 @@
 -- `choose` meets its contract: before turn i the best is that of the rows k to i - 1.
 use Prim.Native.Nat.{_-_, _≤_}
-use Rattle.kernel.proofs.Loops.{Turned, turned-more, turned-all}
+use Rattle.kernel.proofs.Loops.{AfterTurns, turns-more, turns-all}
 use Rattle.dense.proofs.Laws.{cell}
 use Rattle.pivoting.specs.Pivot.{bestOf}
 use Rattle.pivoting.proofs.Pivots.{best-abs, best-more, best-none}
@@ -9,7 +9,7 @@ use Rattle.pivoting.proofs.choice.choose.Statement.{statement}
 use Rattle.pivoting.proofs.choice.choose.Tie as tie
 
 abbrev Inv-loop : tie.InvT-loop
-Inv-loop m s n w k best₀ i₀ best i = (k ≤ i) × Turned (λ l. bestOf m s w k (l - k)) n i best
+Inv-loop m s n w k best₀ i₀ best i = (k ≤ i) × AfterTurns (λ l. bestOf m s w k (l - k)) n i best
 
 abbrev μ-loop : tie.MeasureT-loop
 μ-loop m s n w k best₀ i₀ best i = n - i
@@ -27,10 +27,10 @@ loop-again : tie.Need-loop-again Inv-loop μ-loop
 loop-again c =
     let turn = c .before .before .before in
     let inv = turn .before .loop .inv in
-    (omega arith, turned-more (inv .1) (turn .loop-test .taken) (λ e. best-more _ _ _ _ _ (inv .0) e (c .before .entry .ensures) (c .consider .ensures)))
+    (omega arith, turns-more (inv .1) (turn .loop-test .taken) (λ e. best-more _ _ _ _ _ (inv .0) e (c .before .entry .ensures) (c .consider .ensures)))
 
 returns : tie.Need-returns Inv-loop μ-loop
-returns c = turned-all (c .before .loop .inv .1) (c .loop-test .left)
+returns c = turns-all (c .before .loop .inv .1) (c .loop-test .left)
 
 pub choose-spec : {M : Type 1} → statement M
 choose-spec =

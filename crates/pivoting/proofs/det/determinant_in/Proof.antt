@@ -5,13 +5,13 @@ use mathlib.Core.Path.{_≡_, ap, _∙_}
 use lib.Ieee.{Float}
 use Rattle.dense.proofs.Tests.{met, unmet}
 use Rattle.pivoting.specs.Pivot.{someScale, rowNorms, stage}
-use Rattle.pivoting.specs.Det.{lowered, product, determinant}
+use Rattle.pivoting.specs.Det.{triangulated, signedProduct, determinant}
 use borrow.Author.Needs.{needs}
 use Rattle.pivoting.proofs.det.determinant_in.Statement.{statement}
 use Rattle.pivoting.proofs.det.determinant_in.Tie as tie
 
 -- what is reduced is a copy of a, with the norms of a
-started : (a m s : List Float) (n : ℕ) → m ≡ a → s ≡ rowNorms a n → product n (lowered n (stage m s)) ≡ product n (lowered n (stage a (rowNorms a n)))
+started : (a m s : List Float) (n : ℕ) → m ≡ a → s ≡ rowNorms a n → signedProduct n (triangulated n (stage m s)) ≡ signedProduct n (triangulated n (stage a (rowNorms a n)))
 started a m s n f g = rw (f, g)
 
 returns : tie.Need-returns
@@ -31,7 +31,7 @@ returns-2 c =
     let normed = scaled .before .before .before .before .before in
     let x = normed .before .before .before .before .before .before .args in
     rw (met (scaled .before .some-scale .ensures ∙ ap (someScale (x .n)) (normed .row-norms .ensures)) (scaled .if1 .left))
-    (after-product .product .ensures ∙ started (x .a .now) _ _ (x .n) (copied .copy .ensures) (normed .row-norms .ensures))
+    (after-product .signed-product .ensures ∙ started (x .a .now) _ _ (x .n) (copied .copy .ensures) (normed .row-norms .ensures))
 
 pub determinant-in-spec : {M : Type 1} → statement M
 determinant-in-spec =

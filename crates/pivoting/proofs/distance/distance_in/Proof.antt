@@ -6,9 +6,9 @@ use lib.Ieee.{Float}
 use Rattle.kernel.specs.Answer.{Outcome, refused, answered, through}
 use Rattle.dense.specs.declared.Written.{Written}
 use Rattle.dense.specs.Answer.{Leaves, given}
-use Rattle.dense.specs.Matrix.{identity}
 use Rattle.linalg.specs.Sums.{difference, quadraticForm}
-use Rattle.pivoting.specs.Solve.{solved, following, distance}
+use Rattle.pivoting.specs.Solve.{inverse, distance}
+use Rattle.pivoting.specs.Private.{following}
 use Rattle.pivoting.proofs.distance.distance_in.Statement.{statement}
 use Rattle.pivoting.proofs.distance.distance_in.Tie as tie
 
@@ -23,7 +23,7 @@ returns c =
     let inverted = c .before .before .before .before .before .before in
     let x = inverted .before .before .before .before .before .before .before .before .args in
     c .distance-under .ensures
-    ∙ followed (λ z. quadraticForm (difference (x .x .now) (x .mu .now) (x .n)) z (x .n)) (solved (x .cov .now) (identity (x .n)) (x .n) (x .n)) (x .inv .now) _ _ (inverted .inverse-in .ensures)
+    ∙ followed (λ z. quadraticForm (difference (x .x .now) (x .mu .now) (x .n)) z (x .n)) (inverse (x .cov .now) (x .n)) (x .inv .now) _ _ (inverted .inverse-in .ensures)
 
 pub distance-in-spec : {M : Type 1} → statement M
 distance-in-spec = tie.close (tie.spec (λ c κs. search needs) (λ c κs. search needs) (λ c. search needs) (λ c. search needs) returns)

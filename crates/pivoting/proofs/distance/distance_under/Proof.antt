@@ -10,7 +10,7 @@ use Rattle.dense.specs.declared.Number.the-variants.{Value}
 use Rattle.dense.specs.Answer.{given}
 use Rattle.dense.specs.Matrix.{isSide, hasLength}
 use Rattle.linalg.specs.Sums.{difference, quadraticForm, distanceWithInv}
-use Rattle.pivoting.specs.Solve.{following}
+use Rattle.pivoting.specs.Private.{following}
 use borrow.Author.Needs.{needs}
 use Rattle.pivoting.proofs.distance.distance_under.Statement.{statement}
 use Rattle.pivoting.proofs.distance.distance_under.Tie as tie

@@ -1,9 +1,11 @@
 -- `inverse_in` meets its contract: what is solved is [a | I].
 use borrow.Author.Needs.{needs}
+use Rattle.pivoting.specs.Solve.{inverse}
 use Rattle.pivoting.proofs.invert.inverse_in.Statement.{statement}
 use Rattle.pivoting.proofs.invert.inverse_in.Tie as tie
 
 returns : tie.Need-returns
+unfolding inverse
 returns c =
     let after-solve = c .before .before in
     let after-identity = after-solve .before .before .before .before .before in

@@ -39,7 +39,7 @@ returns : tie.Need-returns Inv-loop μ-loop
 returns c =
     let t = turn (c .before) in
     record {
-      told = sym (columns-never (t .before .loop .inv .columns) (t .loop-test .taken) (called (c .before) .reduce-column .ensures .told) (not-true _ (c .if1 .taken)));
+      answers = sym (columns-never (t .before .loop .inv .columns) (t .loop-test .taken) (called (c .before) .reduce-column .ensures .answers) (not-true _ (c .if1 .taken)));
       reached = never;
     }
 
@@ -50,12 +50,12 @@ loop-again c =
     let call = called (c .before) .reduce-column in
     let ok : call .result ≡ true = not-false _ (c .if1 .left) in
     record {
-      columns = columns-more columns (t .loop-test .taken) (call .ensures .told) ok (reduced-more _ _ _ _ _ _ (columns .here) (call .ensures .reached ok));
+      columns = columns-more columns (t .loop-test .taken) (call .ensures .answers) ok (reduced-more _ _ _ _ _ _ (columns .here) (call .ensures .reached ok));
       lengths = lengths (c .before);
     }
 
 returns-2 : tie.Need-returns-2 Inv-loop μ-loop
-returns-2 c = let all = columns-all (c .before .loop .inv .columns) (c .loop-test .left) in record { told = sym (all .pivots); reached = λ q. all .here }
+returns-2 c = let all = columns-all (c .before .loop .inv .columns) (c .loop-test .left) in record { answers = sym (all .pivots); reached = λ q. all .here }
 
 pub reduce-spec : {M : Type 1} → statement M
 reduce-spec =

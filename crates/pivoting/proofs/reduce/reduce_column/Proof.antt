@@ -9,7 +9,7 @@ use Rattle.pivoting.proofs.reduce.reduce_column.Statement.{statement}
 use Rattle.pivoting.proofs.reduce.reduce_column.Tie as tie
 
 returns : tie.Need-returns
-returns c = record { told = sym (unmet (c .before .is-taken .ensures ∙ ap taken (c .before .before .choose .ensures)) (c .if1 .taken)); reached = never }
+returns c = record { answers = sym (unmet (c .before .is-taken .ensures ∙ ap taken (c .before .before .choose .ensures)) (c .if1 .taken)); reached = never }
 
 swap-norms-requires : tie.Need-swap-norms-requires
 swap-norms-requires c κs =
@@ -40,7 +40,7 @@ returns-2 c =
     let else1 = after-swap-norms .before .before in
     let after-choose = else1 .before .before in
     record {
-      told = sym (met (else1 .before .is-taken .ensures ∙ ap taken (after-choose .choose .ensures)) (else1 .if1 .left));
+      answers = sym (met (else1 .before .is-taken .ensures ∙ ap taken (after-choose .choose .ensures)) (else1 .if1 .left));
       reached = λ e. columned _ _ _ _ _ _ _ _ (after-choose .choose .ensures) (after-step .step .ensures) (after-swap-norms .swap-norms .ensures);
     }
 

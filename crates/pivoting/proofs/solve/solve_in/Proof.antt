@@ -96,7 +96,7 @@ reduce-requires c κs =
 
 returns-2 : tie.Need-returns-2
 unfolding solved
-returns-2 c = let t = refused-6 c in rw (met-5 t, unmet (t .reduce .ensures .told ∙ begun t .0) (c .if2 .taken))
+returns-2 c = let t = refused-6 c in rw (met-5 t, unmet (t .reduce .ensures .answers ∙ begun t .0) (c .if2 .taken))
 
 right-part-requires : tie.Need-right-part-requires
 right-part-requires c κs =
@@ -110,7 +110,7 @@ returns-3 c =
     let t = answered-at c in
     let x = start-of t .args in
     let reduced-all = t .reduce .ensures .reached (not-false _ (met-6 c .if2 .left)) ∙ begun t .1 in
-    rw (met-5 t, met (t .reduce .ensures .told ∙ begun t .0) (met-6 c .if2 .left))
+    rw (met-5 t, met (t .reduce .ensures .answers ∙ begun t .0) (met-6 c .if2 .left))
     (done (c .before .before .right-part .ensures ∙ right (x .a .now) (x .b .now) _ _ (x .n) (x .r) (x .w) (start-of t .pre .width) reduced-all))
 
 pub solve-in-spec : {M : Type 1} → statement M

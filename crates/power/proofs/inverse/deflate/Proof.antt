@@ -17,13 +17,13 @@ wide : (c : tie.After-unit-vector) → length (c .unit-vector .last .1 .1 .0) �
 wide c = c .unit-vector .kept .1 .1 .0 ∙ entered c .pre .room
 
 same-length : tie.Need-same-length
-same-length c = c .before .before .take .kept .1 .1 .1 .0 ∙ written (c .before .before .before .before) .unit-vector .kept .1 .1 .0
+same-length c = c .before .before .subtract-scaled .kept .1 .1 .1 .0 ∙ written (c .before .before .before .before) .unit-vector .kept .1 .1 .0
 
 returns : tie.Need-returns
 unfolding deflated
 returns c =
     let after-dot = c .before .before .before .before in
-    c .before .before .take .ensures ∙ rw (after-dot .dot .ensures, written after-dot .unit-vector .ensures)
+    c .before .before .subtract-scaled .ensures ∙ rw (after-dot .dot .ensures, written after-dot .unit-vector .ensures)
 
 pub deflate-spec : {M : Type 1} → statement M
 deflate-spec =

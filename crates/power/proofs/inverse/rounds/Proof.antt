@@ -24,8 +24,8 @@ abbrev μ-loop : tie.MeasureT-loop
 abbrev entered : tie.At-loop Inv-loop μ-loop → tie.Start Inv-loop μ-loop
 entered c = c .before .before .before .before
 
-abbrev turned : tie.After-solve Inv-loop μ-loop → tie.At-loop Inv-loop μ-loop
-turned c = c .before .before .before .before
+abbrev this-turn : tie.After-solve Inv-loop μ-loop → tie.At-loop Inv-loop μ-loop
+this-turn c = c .before .before .before .before
 
 abbrev solved-at : tie.After-norm Inv-loop μ-loop → tie.After-solve Inv-loop μ-loop
 solved-at c = c .before .before .before .before .before
@@ -35,11 +35,11 @@ normed c = c .before .before .before .before
 
 -- the turn at which the solution was made
 abbrev turn-of : tie.After-norm Inv-loop μ-loop → tie.At-loop Inv-loop μ-loop
-turn-of c = turned (solved-at c)
+turn-of c = this-turn (solved-at c)
 
 -- the solution has n entries
-wide : (c : tie.After-solve Inv-loop μ-loop) → length (c .solve .last .1 .1 .1 .0) ≡ entered (turned c) .args .n
-wide c = c .solve .kept .1 .1 .1 .0 ∙ turned c .loop .inv .room
+wide : (c : tie.After-solve Inv-loop μ-loop) → length (c .solve .last .1 .1 .1 .0) ≡ entered (this-turn c) .args .n
+wide c = c .solve .kept .1 .1 .1 .0 ∙ this-turn c .loop .inv .room
 
 -- the solution, where it is not refused
 solution-at : (c : tie.After-norm Inv-loop μ-loop)
@@ -60,8 +60,8 @@ passed c = sym (told (normed c)) ∙ c .before .before .before .if2 .left
 kept-x : (c : tie.At-loop Inv-loop μ-loop) → length (c .loop .x) ≡ length (entered c .args .x .now)
 kept-x c = c .loop .inv .vector ∙ sym (entered c .pre .left)
 
-kept-y : (c : tie.After-solve Inv-loop μ-loop) → length (c .solve .last .1 .1 .1 .0) ≡ length (entered (turned c) .args .y .now)
-kept-y c = wide c ∙ sym (entered (turned c) .pre .right)
+kept-y : (c : tie.After-solve Inv-loop μ-loop) → length (c .solve .last .1 .1 .1 .0) ≡ length (entered (this-turn c) .args .y .now)
+kept-y c = wide c ∙ sym (entered (this-turn c) .pre .right)
 
 solve-requires : tie.Need-solve-requires Inv-loop μ-loop
 solve-requires c κs =
@@ -72,8 +72,8 @@ solve-requires c κs =
 returns : tie.Need-returns Inv-loop μ-loop
 returns c =
     let call = c .before .before .before .before in
-    let held = turned call .loop .inv in
-    ends-failed held (entered (turned call) .args .sigma) (omega arith) (fails-refused held (unmet (call .solve .ensures .0) (c .before .if1 .taken))) (c .infinity .ensures)
+    let held = this-turn call .loop .inv in
+    ends-failed held (entered (this-turn call) .args .sigma) (omega arith) (fails-refused held (unmet (call .solve .ensures .0) (c .before .if1 .taken))) (c .infinity .ensures)
 
 returns-2 : tie.Need-returns-2 Inv-loop μ-loop
 returns-2 c =
@@ -82,7 +82,7 @@ returns-2 c =
     ends-failed (turn .loop .inv) (entered turn .args .sigma) (omega arith) (sym (told after-norm) ∙ c .before .if2 .taken) (c .infinity2 .ensures)
 
 dot-requires : tie.Need-dot-requires Inv-loop μ-loop
-dot-requires c κs = let call = solved-at (c .before .before .before) in (turned call .loop .inv .vector, wide call)
+dot-requires c κs = let call = solved-at (c .before .before .before) in (this-turn call .loop .inv .vector, wide call)
 
 returns-3 : tie.Need-returns-3 Inv-loop μ-loop
 returns-3 c =
@@ -113,7 +113,7 @@ pub rounds-spec : {M : Type 1} → statement M
 rounds-spec =
     tie.close
     (tie.spec Inv-loop μ-loop (λ c. let pre = c .before .before .before .pre in begun (pre .left) (pre .right)) solve-requires (λ c κs. search needs)
-    (λ c. kept-x (turned (c .before .before .before .before))) (λ c. kept-y (c .before .before .before .before)) returns (λ c κs. wide (c .before .before .before .before))
+    (λ c. kept-x (this-turn (c .before .before .before .before))) (λ c. kept-y (c .before .before .before .before)) returns (λ c κs. wide (c .before .before .before .before))
     (λ c κs. search needs) (λ c. kept-x (turn-of (c .before .before))) (λ c. kept-y (solved-at (c .before .before))) returns-2 dot-requires (λ c κs. search needs)
     (λ c κs. search needs) (λ c. kept-x (turn-of (normed (c .before .before .before)))) (λ c. kept-y (solved-at (normed (c .before .before .before)))) returns-3
     normalize-requires (λ c. omega arith) (λ c. omega arith) loop-again (λ c κs. search needs) (λ c. kept-x (c .before .before))

@@ -19,8 +19,8 @@ abbrev μ-loop : tie.MeasureT-loop
 abbrev entered : tie.At-loop Inv-loop μ-loop → tie.Start Inv-loop μ-loop
 entered c = c .before .before .before .before
 
-abbrev turned : tie.After-deflate Inv-loop μ-loop → tie.At-loop Inv-loop μ-loop
-turned c = c .before .before .before
+abbrev this-turn : tie.After-deflate Inv-loop μ-loop → tie.At-loop Inv-loop μ-loop
+this-turn c = c .before .before .before
 
 abbrev deflated-at : tie.After-is-start Inv-loop μ-loop → tie.After-deflate Inv-loop μ-loop
 deflated-at c = c .before .before .before .before .before
@@ -30,12 +30,12 @@ tested c = c .before .before .before .before
 
 -- what the test says of unit vector k
 told : (c : tie.After-is-start Inv-loop μ-loop)
-    → let turn = turned (deflated-at c) in c .is-start .result ≡ startAt (entered turn .args .v .now) (entered turn .args .n) (turn .loop .k)
-told c = start-test (turned (deflated-at c) .loop .inv) (deflated-at c .deflate .ensures) (c .before .norm .ensures) (c .is-start .ensures)
+    → let turn = this-turn (deflated-at c) in c .is-start .result ≡ startAt (entered turn .args .v .now) (entered turn .args .n) (turn .loop .k)
+told c = start-test (this-turn (deflated-at c) .loop .inv) (deflated-at c .deflate .ensures) (c .before .norm .ensures) (c .is-start .ensures)
 
 -- the vector that was deflated has n entries
-wide : (c : tie.After-deflate Inv-loop μ-loop) → length (c .deflate .last .1 .1 .1 .0) ≡ entered (turned c) .args .n
-wide c = c .deflate .kept .1 .1 .1 .0 ∙ turned c .loop .inv .room
+wide : (c : tie.After-deflate Inv-loop μ-loop) → length (c .deflate .last .1 .1 .1 .0) ≡ entered (this-turn c) .args .n
+wide c = c .deflate .kept .1 .1 .1 .0 ∙ this-turn c .loop .inv .room
 
 -- the slice of the start keeps its length
 kept-x : (c : tie.At-loop Inv-loop μ-loop) → length (c .loop .x) ≡ length (entered c .args .x .now)
@@ -51,25 +51,25 @@ normalize-requires : tie.Need-normalize-requires Inv-loop μ-loop
 normalize-requires c κs =
     let after-norm = c .before .before .before .before in
     let call = after-norm .before .before .before .before in
-    (wide call, turned call .loop .inv .start, after-norm .norm .ensures)
+    (wide call, this-turn call .loop .inv .start, after-norm .norm .ensures)
 
 same-length : tie.Need-same-length Inv-loop μ-loop
-same-length c = let call = deflated-at (tested (c .before .before)) in wide call ∙ sym (entered (turned call) .pre .room)
+same-length c = let call = deflated-at (tested (c .before .before)) in wide call ∙ sym (entered (this-turn call) .pre .room)
 
 same-length-2 : tie.Need-same-length-2 Inv-loop μ-loop
-same-length-2 c = c .before .before .normalize .kept .1 .1 .1 .0 ∙ kept-x (turned (deflated-at (tested (c .before .before))))
+same-length-2 c = c .before .before .normalize .kept .1 .1 .1 .0 ∙ kept-x (this-turn (deflated-at (tested (c .before .before))))
 
 returns : tie.Need-returns Inv-loop μ-loop
 returns c =
     let after-normalize = c .before .before in
     let call = deflated-at (tested after-normalize) in
-    start-found (turned call .loop .inv) (omega arith) (sym (told (tested after-normalize)) ∙ after-normalize .before .before .before .if1 .taken) (call .deflate .ensures)
+    start-found (this-turn call .loop .inv) (omega arith) (sym (told (tested after-normalize)) ∙ after-normalize .before .before .before .if1 .taken) (call .deflate .ensures)
     (after-normalize .normalize .ensures)
 
 loop-again : tie.Need-loop-again Inv-loop μ-loop
 loop-again c =
     let call = deflated-at (c .before) in
-    let held = turned call .loop .inv in
+    let held = this-turn call .loop .inv in
     record { at = stands-next (held .at) (omega arith) (sym (told (c .before)) ∙ c .if1 .left) refl; room = wide call; start = held .start }
 
 pub start-spec : {M : Type 1} → statement M

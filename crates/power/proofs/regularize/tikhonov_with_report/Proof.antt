@@ -6,8 +6,8 @@ use mathlib.Core.List.{List}
 use borrow.Author.Needs.{needs}
 use lib.Ieee.{Float}
 use lib.ListN.{length}
-use Rattle.dense.specs.Matrix.{matrix, isSide, hasLength}
-use Rattle.linalg.specs.Regularize.{dampedEntry}
+use Rattle.dense.specs.Matrix.{isSide, hasLength}
+use Rattle.linalg.specs.Regularize.{damped}
 use Rattle.dense.proofs.Tests.{met, unmet, two-squares, two-long}
 use Rattle.power.specs.declared.Damped.{Damped}
 use Rattle.power.specs.declared.Damped.the-variants.{Report}
@@ -37,7 +37,7 @@ lengths c = let x = entered (first c) .args in two-long (x .cov .now) (x .out .n
 
 -- the report, and the matrix
 reported : (cov : List Float) (alpha : Float) (n : ℕ) {m : List Float} {before after : Float}
-    → before ≡ condition cov n → m ≡ matrix n n (dampedEntry cov n alpha) → after ≡ condition m n
+    → before ≡ condition cov n → m ≡ damped cov alpha n → after ≡ condition m n
     → _≡_ {A = Damped × List Float} (Report (record { alpha = alpha; «condition_number_before» = before; «condition_number_after» = after }), m)
     (Report (damping cov alpha n .report), damping cov alpha n .damped)
 unfolding damping

@@ -5,8 +5,8 @@ use lib.Ieee.{Float}
 use borrow.Author.Needs.{needs}
 use Rattle.dense.proofs.Tests.{met, unmet}
 use Rattle.eigen.specs.Eigen.{eigenpairs}
-use Rattle.eigen.specs.Pair.{planePairs}
-use Rattle.eigen.proofs.Planes.{four-list}
+use Rattle.eigen.specs.Private.{planePairs}
+use Rattle.eigen.proofs.PlaneSteps.{four-list}
 use Rattle.repair.proofs.SmallOrders.{plane-repaired}
 use Rattle.repair.proofs.direct.plane_repair.Statement.{statement}
 use Rattle.repair.proofs.direct.plane_repair.Tie as tie
