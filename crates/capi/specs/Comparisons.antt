@@ -1,7 +1,6 @@
 -- What C is told of a comparison, and what the memory that it lent holds afterwards.
 use Prim.Native.Nat.{ℕ}
 use lib.Ieee.{Float}
-use Rattle.kernel.specs.Answer.{Outcome, refused, answered}
 use Rattle.compare.specs.declared.Comparison.{Comparison}
 use Rattle.compare.specs.declared.Comparison.the-variants.{Near, Far, NoDistance}
 use Rattle.compare.specs.declared.Compared.{Compared}
@@ -14,10 +13,6 @@ kindAndDistance (Near d2) old = (1, d2)
 kindAndDistance (Far d2) old = (2, d2)
 
 -- The code of an answer, and the two places afterwards: a refusal writes to none.
-abbrev pub enteredComparison : Compared → ℕ → Float → ℕ × (ℕ × Float)
-enteredComparison (compared.Answered c) kind d2 = (0, kindAndDistance c d2)
-enteredComparison (compared.Refused k) kind d2 = (k, (kind, d2))
-
-abbrev pub toldComparison : Outcome Comparison → ℕ → Float → ℕ × (ℕ × Float)
-toldComparison (refused k) kind d2 = (k, (kind, d2))
-toldComparison (answered c) kind d2 = (0, kindAndDistance c d2)
+abbrev pub toldComparison : Compared → ℕ → Float → ℕ × (ℕ × Float)
+toldComparison (compared.Answered c) kind d2 = (0, kindAndDistance c d2)
+toldComparison (compared.Refused k) kind d2 = (k, (kind, d2))

@@ -3,3 +3,4 @@ pub mod Repairs
 pub mod Powers
 pub mod Comparisons
 pub mod Merges
+pub mod Private

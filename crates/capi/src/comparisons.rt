@@ -1,7 +1,7 @@
 // Comparisons of two tracks.
 ghost use mathlib.Core.Path.{_≡_};
-ghost use Rattle.compare.specs.Distance.{comparing};
-ghost use Rattle.capi.specs.Comparisons.{kindAndDistance, enteredComparison, toldComparison};
+ghost use Rattle.compare.specs.Distance.{comparing, compareAnswer};
+ghost use Rattle.capi.specs.Comparisons.{kindAndDistance, toldComparison};
 use compare::Compared;
 use compare::Comparison;
 
@@ -26,7 +26,7 @@ fn enter_kind(c: Comparison, kind: &mut u32, d2: &mut f64)
 
 // The code of an answer, and its comparison into the two places.
 fn enter_comparison(answer: Compared, kind: &mut u32, d2: &mut f64) -> u32
-    ensures { λ r. ⌜ (r, (now (kind .exit), now (d2 .exit))) ≡ enteredComparison answer (now (kind .entry)) (now (d2 .entry)) ⌝ }
+    ensures { λ r. ⌜ (r, (now (kind .exit), now (d2 .exit))) ≡ toldComparison answer (now (kind .entry)) (now (d2 .entry)) ⌝ }
 {
     match answer {
         Compared::Answered(c) => {
@@ -37,24 +37,21 @@ fn enter_comparison(answer: Compared, kind: &mut u32, d2: &mut f64) -> u32
     }
 }
 
-// The comparison of track i, with the state mu and the covariance cov_i, with track j, with x and cov_j, into kind and d2.
+// The comparison of track i, with the state mu and the covariance p_i, with track j, with x and p_j, into kind and d2.
 #[no_mangle]
 pub extern "C" fn pel_compare(
     mu: &[f64],
     x: &[f64],
-    cov_i: &[f64],
-    cov_j: &[f64],
+    p_i: &[f64],
+    p_j: &[f64],
     n: usize,
     floor: f64,
     gate: f64,
     kind: &mut u32,
     d2: &mut f64,
 ) -> u32
-    ensures { λ r. ⌜ (r, (now (kind .exit), now (d2 .exit))) ≡ toldComparison (comparing (now (mu .entry)) (now (x .entry)) (now («cov_i» .entry)) (now («cov_j» .entry)) n floor gate) (now (kind .entry)) (now (d2 .entry)) ⌝ }
+    ensures { λ r. ⌜ (r, (now (kind .exit), now (d2 .exit)))
+        ≡ toldComparison (compareAnswer (comparing (now (mu .entry)) (now (x .entry)) (now («p_i» .entry)) (now («p_j» .entry)) n floor gate)) (now (kind .entry)) (now (d2 .entry)) ⌝ }
 {
-    enter_comparison(
-        compare::compare(mu, x, cov_i, cov_j, n, floor, gate),
-        kind,
-        d2,
-    )
+    enter_comparison(compare::compare(mu, x, p_i, p_j, n, floor, gate), kind, d2)
 }

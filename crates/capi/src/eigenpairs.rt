@@ -12,7 +12,8 @@ pub extern "C" fn pel_mat_symmetric_eigen(
     values: &mut [f64],
     vectors: &mut [f64],
 ) -> u32
-    ensures { λ r. ⌜ Tells (Eigen.matSymmetricEigen (now (a .entry)) n (now (values .entry)) (now (vectors .entry))) (pairs (now (values .entry)) (now (vectors .entry))) r (pairs (now (values .exit)) (now (vectors .exit))) ⌝ }
+    ensures { λ r. ⌜ Tells (Eigen.matSymmetricEigen (now (a .entry)) n (now (values .entry)) (now (vectors .entry)))
+        (pairs (now (values .entry)) (now (vectors .entry))) r (pairs (now (values .exit)) (now (vectors .exit))) ⌝ }
 {
     code(generic::mat_symmetric_eigen(a, n, values, vectors))
 }

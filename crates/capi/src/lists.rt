@@ -20,7 +20,8 @@ pub extern "C" fn pel_read_list(
     count: &mut usize,
     dimension: &mut usize,
 ) -> u32
-    ensures { λ r. ⌜ (r, (now (count .exit), now (dimension .exit))) ≡ toldRead (Read.reading (now (list .entry)) (ListN.length (now (values .entry)))) (now (count .entry)) (now (dimension .entry)) ⌝ }
+    ensures { λ r. ⌜ (r, (now (count .exit), now (dimension .exit)))
+        ≡ toldRead (Calls.readAnswer (Read.reading (now (list .entry)) (ListN.length (now (values .entry))))) (now (count .entry)) (now (dimension .entry)) ⌝ }
     ensures { λ _. ⌜ now (values .exit) ≡ Calls.readValues (Read.reading (now (list .entry)) (ListN.length (now (values .entry)))) (now (values .entry)) ⌝ }
 {
     enter_read(read::read_list(list, values), count, dimension)
@@ -35,7 +36,8 @@ pub extern "C" fn pel_write_list(
     out: &mut [u8],
     length: &mut usize,
 ) -> u32
-    ensures { λ r. ⌜ (r, now (length .exit)) ≡ toldWritten (Write.written count dimension (Calls.patterns (now (values .entry))) (ListN.length (now (out .entry)))) (now (length .entry)) ⌝ }
+    ensures { λ r. ⌜ (r, now (length .exit))
+        ≡ toldWritten (Calls.writeAnswer (Write.written count dimension (Calls.patterns (now (values .entry))) (ListN.length (now (out .entry))))) (now (length .entry)) ⌝ }
     ensures { λ _. ⌜ now (out .exit) ≡ Calls.writeBytes (Write.written count dimension (Calls.patterns (now (values .entry))) (ListN.length (now (out .entry)))) (now (out .entry)) ⌝ }
 {
     enter_length(write::write_list(count, dimension, values, out), length)

@@ -22,7 +22,7 @@ fn enter_counts(answer: Merged, full: &mut usize, half: &mut usize, single: &mut
     }
 }
 
-// Merges ours and theirs over their base. The rows go to the front of the buffer, and the numbers of those with three, two and
+// Merges ours and theirs over their base. The rows go to the front of the slice, and the numbers of those with three, two and
 // one track to their places.
 #[no_mangle]
 pub extern "C" fn pel_merge(
@@ -31,16 +31,19 @@ pub extern "C" fn pel_merge(
     theirs: &[u8],
     floor: f64,
     gate: f64,
-    buffer: &mut [u8],
+    rows: &mut [u8],
     full: &mut usize,
     half: &mut usize,
     single: &mut usize,
 ) -> u32
-    ensures { λ r. ⌜ (r, (now (full .exit), (now (half .exit), now (single .exit)))) ≡ toldMerge (Merge.afterMerge (Merge.merging (now (base .entry)) (now (ours .entry)) (now (theirs .entry)) floor gate (ListN.length (now (buffer .entry)))) (now (buffer .entry)) .0) (now (full .entry)) (now (half .entry)) (now (single .entry)) ⌝ }
-    ensures { λ _. ⌜ now (buffer .exit) ≡ Merge.afterMerge (Merge.merging (now (base .entry)) (now (ours .entry)) (now (theirs .entry)) floor gate (ListN.length (now (buffer .entry)))) (now (buffer .entry)) .1 ⌝ }
+    ensures { λ r. ⌜ (r, (now (full .exit), (now (half .exit), now (single .exit))))
+        ≡ toldMerge (Merge.afterMerge (Merge.merging (now (base .entry)) (now (ours .entry)) (now (theirs .entry)) floor gate (ListN.length (now (rows .entry)))) (now (rows .entry)) .0)
+        (now (full .entry)) (now (half .entry)) (now (single .entry)) ⌝ }
+    ensures { λ _. ⌜ now (rows .exit)
+        ≡ Merge.afterMerge (Merge.merging (now (base .entry)) (now (ours .entry)) (now (theirs .entry)) floor gate (ListN.length (now (rows .entry)))) (now (rows .entry)) .1 ⌝ }
 {
     enter_counts(
-        merge::merge(base, ours, theirs, floor, gate, buffer),
+        merge::merge(base, ours, theirs, floor, gate, rows),
         full,
         half,
         single,

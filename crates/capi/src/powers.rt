@@ -3,7 +3,7 @@ ghost use mathlib.Core.Path.{_≡_};
 ghost use Rattle.power.specs.Power as Power;
 ghost use Rattle.power.specs.Condition as Condition;
 ghost use Rattle.capi.specs.Told.{Tells};
-ghost use Rattle.capi.specs.Powers.{enteredDamping, toldDamping, dampedLeft};
+ghost use Rattle.capi.specs.Powers.{toldDamping};
 use crate::told::enter;
 use power::Damped;
 use power::generic;
@@ -19,7 +19,8 @@ pub extern "C" fn pel_mat_eigenvector_max(
     v: &mut [f64],
     lambda: &mut f64,
 ) -> u32
-    ensures { λ r. ⌜ Tells (Power.matEigenvectorMax (now (a .entry)) n «max_iter» tol (now (v .entry))) (Power.eigenpair (now (v .entry)) (now (lambda .entry))) r (Power.eigenpair (now (v .exit)) (now (lambda .exit))) ⌝ }
+    ensures { λ r. ⌜ Tells (Power.matEigenvectorMax (now (a .entry)) n «max_iter» tol (now (v .entry)))
+        (Power.eigenpair (now (v .entry)) (now (lambda .entry))) r (Power.eigenpair (now (v .exit)) (now (lambda .exit))) ⌝ }
 {
     enter(generic::mat_eigenvector_max(a, n, max_iter, tol, v), lambda)
 }
@@ -51,7 +52,7 @@ pub extern "C" fn pel_condition_number(a: &[f64], n: usize, out: &mut f64) -> u3
 
 // The code of an answer, and its condition numbers into the two places.
 fn enter_damping(answer: Damped, before: &mut f64, after: &mut f64) -> u32
-    ensures { λ r. ⌜ (r, (now (before .exit), now (after .exit))) ≡ enteredDamping answer (now (before .entry)) (now (after .entry)) ⌝ }
+    ensures { λ r. ⌜ (r, (now (before .exit), now (after .exit))) ≡ toldDamping answer (now (before .entry)) (now (after .entry)) ⌝ }
 {
     match answer {
         Damped::Report(report) => {
@@ -73,8 +74,9 @@ pub extern "C" fn pel_tikhonov_with_report(
     before: &mut f64,
     after: &mut f64,
 ) -> u32
-    ensures { λ r. ⌜ (r, (now (before .exit), now (after .exit))) ≡ toldDamping (Condition.tikhonovWithReport (now (cov .entry)) alpha n (now (out .entry))) (now (before .entry)) (now (after .entry)) ⌝ }
-    ensures { λ _. ⌜ now (out .exit) ≡ dampedLeft (Condition.tikhonovWithReport (now (cov .entry)) alpha n (now (out .entry))) (now (out .entry)) ⌝ }
+    ensures { λ r. ⌜ (r, (now (before .exit), now (after .exit)))
+        ≡ toldDamping (Condition.afterDamping (Condition.tikhonovWithReport (now (cov .entry)) alpha n (now (out .entry))) (now (out .entry)) .0) (now (before .entry)) (now (after .entry)) ⌝ }
+    ensures { λ _. ⌜ now (out .exit) ≡ Condition.afterDamping (Condition.tikhonovWithReport (now (cov .entry)) alpha n (now (out .entry))) (now (out .entry)) .1 ⌝ }
 {
     enter_damping(
         regularize::tikhonov_with_report(cov, alpha, n, out),

@@ -1,7 +1,7 @@
 // Repairs of a covariance.
 ghost use mathlib.Core.Path.{_≡_};
 ghost use Rattle.repair.specs.Repair as Repair;
-ghost use Rattle.capi.specs.Repairs.{maskBits, enteredReport, toldRepair, rebuiltLeft};
+ghost use Rattle.capi.specs.Repairs.{maskBits, toldRepair};
 use dense::Written;
 use repair::Repaired;
 use repair::regularize;
@@ -28,7 +28,8 @@ fn enter_report(
     max_clip_magnitude: &mut f64,
     clipped_indices: &mut u32,
 ) -> u32
-    ensures { λ r. ⌜ (r, (now («n_clipped» .exit), (now («max_clip_magnitude» .exit), now («clipped_indices» .exit)))) ≡ enteredReport repaired (now («n_clipped» .entry)) (now («max_clip_magnitude» .entry)) (now («clipped_indices» .entry)) ⌝ }
+    ensures { λ r. ⌜ (r, (now («n_clipped» .exit), (now («max_clip_magnitude» .exit), now («clipped_indices» .exit))))
+        ≡ toldRepair repaired (now («n_clipped» .entry)) (now («max_clip_magnitude» .entry)) (now («clipped_indices» .entry)) ⌝ }
 {
     let answer = repaired.answer;
     match answer {
@@ -55,27 +56,31 @@ pub extern "C" fn pel_nearest_psd(
     max_clip_magnitude: &mut f64,
     clipped_indices: &mut u32,
 ) -> u32
-    ensures { λ r. ⌜ (r, (now («n_clipped» .exit), (now («max_clip_magnitude» .exit), now («clipped_indices» .exit)))) ≡ toldRepair (Repair.nearestPsd (now (cov .entry)) «min_eig» n (now (out .entry))) (now («n_clipped» .entry)) (now («max_clip_magnitude» .entry)) (now («clipped_indices» .entry)) ⌝ }
-    ensures { λ _. ⌜ now (out .exit) ≡ rebuiltLeft (Repair.nearestPsd (now (cov .entry)) «min_eig» n (now (out .entry))) (now (out .entry)) ⌝ }
+    ensures { λ r. ⌜ (r, (now («n_clipped» .exit), (now («max_clip_magnitude» .exit), now («clipped_indices» .exit))))
+        ≡ toldRepair (Repair.afterRepair (Repair.nearestPsd (now (cov .entry)) «min_eig» n (now (out .entry))) (now (out .entry)) .0)
+        (now («n_clipped» .entry)) (now («max_clip_magnitude» .entry)) (now («clipped_indices» .entry)) ⌝ }
+    ensures { λ _. ⌜ now (out .exit) ≡ Repair.afterRepair (Repair.nearestPsd (now (cov .entry)) «min_eig» n (now (out .entry))) (now (out .entry)) .1 ⌝ }
 {
     let repaired = regularize::nearest_psd(cov, min_eig, n, out);
     enter_report(repaired, n_clipped, max_clip_magnitude, clipped_indices)
 }
 
-// The same by its other name, and document 01's words for the report: the clip count, the largest clip and the mask.
+// The same by its other name.
 #[no_mangle]
 pub extern "C" fn pel_eigenvalue_floor(
     cov: &[f64],
     min_eig: f64,
     n: usize,
     out: &mut [f64],
-    count: &mut usize,
-    clip: &mut f64,
-    mask: &mut u32,
+    n_clipped: &mut usize,
+    max_clip_magnitude: &mut f64,
+    clipped_indices: &mut u32,
 ) -> u32
-    ensures { λ r. ⌜ (r, (now (count .exit), (now (clip .exit), now (mask .exit)))) ≡ toldRepair (Repair.nearestPsd (now (cov .entry)) «min_eig» n (now (out .entry))) (now (count .entry)) (now (clip .entry)) (now (mask .entry)) ⌝ }
-    ensures { λ _. ⌜ now (out .exit) ≡ rebuiltLeft (Repair.nearestPsd (now (cov .entry)) «min_eig» n (now (out .entry))) (now (out .entry)) ⌝ }
+    ensures { λ r. ⌜ (r, (now («n_clipped» .exit), (now («max_clip_magnitude» .exit), now («clipped_indices» .exit))))
+        ≡ toldRepair (Repair.afterRepair (Repair.nearestPsd (now (cov .entry)) «min_eig» n (now (out .entry))) (now (out .entry)) .0)
+        (now («n_clipped» .entry)) (now («max_clip_magnitude» .entry)) (now («clipped_indices» .entry)) ⌝ }
+    ensures { λ _. ⌜ now (out .exit) ≡ Repair.afterRepair (Repair.nearestPsd (now (cov .entry)) «min_eig» n (now (out .entry))) (now (out .entry)) .1 ⌝ }
 {
     let repaired = regularize::eigenvalue_floor(cov, min_eig, n, out);
-    enter_report(repaired, count, clip, mask)
+    enter_report(repaired, n_clipped, max_clip_magnitude, clipped_indices)
 }

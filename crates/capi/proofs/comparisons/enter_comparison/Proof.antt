@@ -5,13 +5,13 @@ use denote.Ref.{now}
 use mathlib.Core.Path.{sym, ap, _∙_}
 use lib.Ieee.{Float}
 use Rattle.compare.specs.declared.Compared.{Compared}
-use Rattle.capi.specs.Comparisons.{enteredComparison}
+use Rattle.capi.specs.Comparisons.{toldComparison}
 use Rattle.capi.proofs.comparisons.enter_comparison.Statement.{statement}
 use Rattle.capi.proofs.comparisons.enter_comparison.Tie as tie
 
 -- what the places hold for an answer
 abbrev entered : tie.Start → Compared → ℕ × (ℕ × Float)
-entered c a = enteredComparison a (now (c .args .kind)) (now (c .args .d2))
+entered c a = toldComparison a (now (c .args .kind)) (now (c .args .d2))
 
 returns : tie.Need-returns
 returns c =

@@ -5,13 +5,13 @@ use denote.Ref.{now}
 use mathlib.Core.Path.{sym, ap}
 use lib.Ieee.{Float}
 use Rattle.power.specs.declared.Damped.{Damped}
-use Rattle.capi.specs.Powers.{enteredDamping}
+use Rattle.capi.specs.Powers.{toldDamping}
 use Rattle.capi.proofs.powers.enter_damping.Statement.{statement}
 use Rattle.capi.proofs.powers.enter_damping.Tie as tie
 
 -- what the places hold for an answer
 abbrev entered : tie.Start → Damped → ℕ × (Float × Float)
-entered c a = enteredDamping a (now (c .args .before)) (now (c .args .after))
+entered c a = toldDamping a (now (c .args .before)) (now (c .args .after))
 
 returns : tie.Need-returns
 returns c = ap (entered (c .before .before .before)) (sym (c .before .answer .given .1))

@@ -5,13 +5,13 @@ use denote.Ref.{now}
 use mathlib.Core.Path.{sym, ap, _∙_}
 use lib.Ieee.{Float}
 use Rattle.dense.specs.declared.Written.{Written}
-use Rattle.capi.specs.Repairs.{enteredAs}
+use Rattle.capi.specs.Repairs.{toldAs}
 use Rattle.capi.proofs.repairs.enter_report.Statement.{statement}
 use Rattle.capi.proofs.repairs.enter_report.Tie as tie
 
 -- what the places hold for an answer
 abbrev entered : tie.Start → Written → ℕ × (ℕ × (Float × ℕ))
-entered c a = let x = c .args in enteredAs a (x .repaired .report) (now (x .n-clipped)) (now (x .max-clip-magnitude)) (now (x .clipped-indices))
+entered c a = let x = c .args in toldAs a (x .repaired .report) (now (x .n-clipped)) (now (x .max-clip-magnitude)) (now (x .clipped-indices))
 
 returns : tie.Need-returns
 returns c =
