@@ -138,7 +138,7 @@ vectors: capi
 	$(cargo) oracle/Cargo.toml -- vectors
 
 bench: capi
-	rt staticlib pairing
+	rt staticlib bench_pairing
 	$(cargo) bench/Cargo.toml
 
 # The static library that the runs above link. The bench links that of the pairing too.

@@ -4,9 +4,9 @@ use std::{env, fs};
 
 fn main() {
     let root = PathBuf::from(env::var("CARGO_MANIFEST_DIR").unwrap()).join("..");
-    let archive =
-        fs::canonicalize(root.join("target/staticlib/libpairing.a")).expect("run `rt staticlib pairing` first");
+    let archive = fs::canonicalize(root.join("target/staticlib/libbench_pairing.a"))
+        .expect("run `rt staticlib bench_pairing` first");
     println!("cargo:rerun-if-changed={}", archive.display());
     println!("cargo:rustc-link-search=native={}", archive.parent().unwrap().display());
-    println!("cargo:rustc-link-lib=static=pairing");
+    println!("cargo:rustc-link-lib=static=bench_pairing");
 }

@@ -8,7 +8,7 @@ const TIMES: usize = 100;
 const CASES: usize = 2000;
 
 extern "C" {
-    fn pel_pair_tracks(
+    fn bench_pair_tracks(
         keys: *const f64,
         keys_len: usize,
         m: usize,
@@ -38,7 +38,7 @@ fn ours(keys: &[f64], to: &mut Partners) {
     assert!(m <= TRACKS && n <= TRACKS && keys.len() == m * n);
     // The call's contract asks for these lengths and nothing else.
     unsafe {
-        pel_pair_tracks(keys.as_ptr(), keys.len(), m, n, to.firsts.as_mut_ptr(), m, to.seconds.as_mut_ptr(), n);
+        bench_pair_tracks(keys.as_ptr(), keys.len(), m, n, to.firsts.as_mut_ptr(), m, to.seconds.as_mut_ptr(), n);
     }
 }
 

@@ -5,7 +5,6 @@ ghost use Rattle.pairing.specs.Keys.{Shape, fromKeys, firstPartners, sec
 
 mod search;
 mod table;
-pub mod timed;
 
 // Stands for no partner in a table of partners, and for no track in a row of the merge.
 pub const NOBODY: u8 = 255;

@@ -1,12 +1,12 @@
-// The call under a C name, for the program in bench/ that times it.
+// The pairing under a C name, for the program in bench/ that times it: no part of a library for users.
 ghost use mathlib.Core.Path.{_≡_};
 ghost use Prim.Native.Nat.{_≤_};
 ghost use Rattle.pairing.specs.Keys.{Shape, fromKeys, firstPartners, secondPartners};
-use crate::pair_tracks;
+use pairing::pair_tracks;
 
-// See `pair_tracks`.
+// `pair_tracks` of the crate `pairing`, and what it asks of its lengths.
 #[no_mangle]
-pub extern "C" fn pel_pair_tracks(
+pub extern "C" fn bench_pair_tracks(
     keys: &[f64],
     m: usize,
     n: usize,
