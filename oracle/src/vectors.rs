@@ -148,7 +148,7 @@ fn matrices() {
     for (at, call) in ITERATED.calls.iter().enumerate() {
         answers(&mut frozen, place + 1 + at, &ITERATED, call, true);
     }
-    frozen.write("kernel_vectors");
+    frozen.write("matrix_vectors");
 }
 
 /// A record of a comparison: the states and the gate are its first slice, the result is the kind and the squared distance.

@@ -3,8 +3,8 @@ use mathlib.Core.Path.{sym}
 use native.Mathlib.Omega.{arith}
 use lib.Seq.{length-take-le}
 use borrow.Author.Needs.{needs}
-use Rattle.kernel_vectors.proofs.comparison.compared.Statement.{statement}
-use Rattle.kernel_vectors.proofs.comparison.compared.Tie as tie
+use Rattle.matrix_vectors.proofs.comparison.compared.Statement.{statement}
+use Rattle.matrix_vectors.proofs.comparison.compared.Tie as tie
 
 pub compared-spec : {M : Type 1} → statement M
 compared-spec =

@@ -1,8 +1,8 @@
 -- `bits` is safe and ends: it stays within the mask.
 use Prim.Native.Nat.{_≤_, _-_}
 use borrow.Author.Needs.{needs}
-use Rattle.kernel_vectors.proofs.spectral.bits.Statement.{statement}
-use Rattle.kernel_vectors.proofs.spectral.bits.Tie as tie
+use Rattle.matrix_vectors.proofs.spectral.bits.Statement.{statement}
+use Rattle.matrix_vectors.proofs.spectral.bits.Tie as tie
 
 abbrev Inv-loop : tie.InvT-loop
 Inv-loop mask x₀ weight₀ k₀ x weight k = k ≤ 16

@@ -1,7 +1,7 @@
 -- `replay_input` ends: its turns fall.
 use borrow.Author.Needs.{needs}
-use Rattle.kernel_vectors.proofs.replay_input.Statement.{statement}
-use Rattle.kernel_vectors.proofs.replay_input.Tie as tie
+use Rattle.matrix_vectors.proofs.replay_input.Statement.{statement}
+use Rattle.matrix_vectors.proofs.replay_input.Tie as tie
 
 abbrev Inv-loop : tie.InvT-loop
 Inv-loop cases₀ differences₀ turns₀ cases differences turns = Unit {0}

@@ -1,8 +1,8 @@
 -- `counted` ends.
 use Prim.Native.Nat.{_≤_, _-_}
 use borrow.Author.Needs.{needs}
-use Rattle.kernel_vectors.proofs.spectral.counted.Statement.{statement}
-use Rattle.kernel_vectors.proofs.spectral.counted.Tie as tie
+use Rattle.matrix_vectors.proofs.spectral.counted.Statement.{statement}
+use Rattle.matrix_vectors.proofs.spectral.counted.Tie as tie
 
 abbrev Inv-loop : tie.InvT-loop
 Inv-loop n x₀ i₀ x i = i ≤ 16

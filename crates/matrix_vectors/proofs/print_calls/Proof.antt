@@ -1,8 +1,8 @@
 -- `print_calls` is safe and ends: it stays within the calls.
 use Prim.Native.Nat.{_≤_, _-_}
 use borrow.Author.Needs.{needs}
-use Rattle.kernel_vectors.proofs.print_calls.Statement.{statement}
-use Rattle.kernel_vectors.proofs.print_calls.Tie as tie
+use Rattle.matrix_vectors.proofs.print_calls.Statement.{statement}
+use Rattle.matrix_vectors.proofs.print_calls.Tie as tie
 
 abbrev Inv-loop : tie.InvT-loop
 Inv-loop cases differences call₀ t6 t7 call = call ≤ 30

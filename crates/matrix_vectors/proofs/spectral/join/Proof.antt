@@ -4,8 +4,8 @@ use native.Mathlib.Omega.{arith}
 use mathlib.Core.Path.{_≡_, _∙_}
 use lib.ListN.{length, length-set}
 use borrow.Author.Needs.{needs}
-use Rattle.kernel_vectors.proofs.spectral.join.Statement.{statement}
-use Rattle.kernel_vectors.proofs.spectral.join.Tie as tie
+use Rattle.matrix_vectors.proofs.spectral.join.Statement.{statement}
+use Rattle.matrix_vectors.proofs.spectral.join.Tie as tie
 
 abbrev Inv-loop : tie.InvT-loop
 Inv-loop front out₀ values vectors i₀ i-end out i = (length out ≡ length out₀) × (i-end ≡ length out) × (i ≤ i-end)

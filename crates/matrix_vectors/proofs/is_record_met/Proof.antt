@@ -2,8 +2,8 @@
 use mathlib.Core.Path.{sym}
 use lib.Seq.{length-take-le}
 use borrow.Author.Needs.{needs}
-use Rattle.kernel_vectors.proofs.is_record_met.Statement.{statement}
-use Rattle.kernel_vectors.proofs.is_record_met.Tie as tie
+use Rattle.matrix_vectors.proofs.is_record_met.Statement.{statement}
+use Rattle.matrix_vectors.proofs.is_record_met.Tie as tie
 
 pub is-record-met-spec : {M : Type 1} → statement M
 is-record-met-spec =

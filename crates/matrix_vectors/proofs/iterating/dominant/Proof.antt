@@ -2,8 +2,8 @@
 use mathlib.Core.Path.{sym}
 use lib.Seq.{length-take-le}
 use borrow.Author.Needs.{needs}
-use Rattle.kernel_vectors.proofs.iterating.dominant.Statement.{statement}
-use Rattle.kernel_vectors.proofs.iterating.dominant.Tie as tie
+use Rattle.matrix_vectors.proofs.iterating.dominant.Statement.{statement}
+use Rattle.matrix_vectors.proofs.iterating.dominant.Tie as tie
 
 part : tie.Need-slice-aggregate-mat-eigenvector-max
 part c = sym (length-take-le _ _ (search needs))

@@ -3,8 +3,8 @@ use Prim.Native.Nat.{_+_, _≤_, _-_}
 use mathlib.Core.Path.{_≡_}
 use lib.ListN.{length}
 use borrow.Author.Needs.{needs}
-use Rattle.kernel_vectors.proofs.replay_block.Statement.{statement}
-use Rattle.kernel_vectors.proofs.replay_block.Tie as tie
+use Rattle.matrix_vectors.proofs.replay_block.Statement.{statement}
+use Rattle.matrix_vectors.proofs.replay_block.Tie as tie
 
 abbrev Inv-loop : tie.InvT-loop
 Inv-loop s cases₀ differences₀ at₀ n₀ cases differences at n = n + at ≤ length s
