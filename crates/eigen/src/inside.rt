@@ -6,7 +6,7 @@ ghost use Rattle.eigen.specs.Private.{Lent};
 use crate::generic::large_eigenpairs;
 use crate::generic::single_eigenpair;
 use crate::generic::small_eigenpairs;
-use crate::pair::plane_eigenpairs;
+use crate::planes::plane_eigenpairs;
 use dense::Written;
 
 // The eigenpairs of a, n by n, from question 4 on, with the room that the order needs.
