@@ -2,6 +2,21 @@
 use std::path::{Path, PathBuf};
 use std::{env, fs};
 
+// The source's files that are compared with.
+const FILES: [&str; 6] = [
+    "traits.rs",
+    "impls/f64_traits.rs",
+    "linalg/mod.rs",
+    "linalg/generic.rs",
+    "linalg/regularize.rs",
+    "linalg/mat3.rs",
+];
+
+// FNV-1a, 64 bits.
+fn hash(bytes: &[u8]) -> u64 {
+    bytes.iter().fold(0xCBF2_9CE4_8422_2325, |hash, byte| (hash ^ u64::from(*byte)).wrapping_mul(0x100_0000_01B3))
+}
+
 // The modules of the source under their own names. `linalg/mod.rs` also declares modules that the source at hand lacks,
 // so its two constants are taken and its declarations are made here.
 fn main() {
@@ -20,8 +35,11 @@ fn main() {
         let name = Path::new(file).file_stem().unwrap().to_str().unwrap();
         format!("#[path = {:?}]\n#[allow(dead_code)]\npub mod {name};\n", src.join(file))
     };
+    let hashes: String =
+        FILES.iter().map(|file| format!("    ({file:?}, {:#018x}),\n", hash(&fs::read(src.join(file)).expect(file)))).collect();
     let modules = format!(
-        "{}pub mod impls {{\n{}}}\npub mod linalg {{\n{constants}{}{}{}}}\n",
+        "/// The source's files, each with a hash of it.\npub static FILES: &[(&str, u64)] = &[\n{hashes}];\n\
+         {}pub mod impls {{\n{}}}\npub mod linalg {{\n{constants}{}{}{}}}\n",
         module("traits.rs"),
         module("impls/f64_traits.rs"),
         module("linalg/generic.rs"),

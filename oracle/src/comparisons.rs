@@ -1,19 +1,17 @@
 //! Comparisons of two tracks beside the source's functions, composed as document 01 says.
 use crate::classes::{Named, CLASSES};
+use crate::faults::{self, Kind, Met, Shape};
 use crate::ffi;
+use crate::lent::Lent;
 use crate::rng::Rng;
 use crate::symmetric::SYMMETRIC;
-use crate::tally::{same, Tally};
+use crate::tally::{self, Tally};
 use nolan::flat::{at, Given};
 
 const FLOORS: &[f64] = &[5e-324, 1e-300, 1e-160, 1e-150, 1e-12, 1e-6, 1.0, 1e6, 1e150, 1e300];
 const GATES: &[f64] = &[0.0, -0.0, 5e-324, 1.0, 16.0, 1e6, 1e300];
 pub const BAD_FLOORS: &[f64] = &[0.0, -0.0, -5e-324, -1.0, f64::INFINITY, f64::NEG_INFINITY, f64::NAN];
 pub const BAD_GATES: &[f64] = &[-5e-324, -1.0, f64::INFINITY, f64::NEG_INFINITY, f64::NAN];
-
-/// What memory holds before a call: no kind and no distance that is answered.
-const KIND: u32 = 0xDEAD_BEEF;
-const DISTANCE: f64 = f64::from_bits(0x7FF4_DEAD_BEEF_0000);
 
 /// Two tracks of one dimension.
 pub struct Pair {
@@ -23,7 +21,7 @@ pub struct Pair {
     pub p_j: Vec<f64>,
 }
 
-/// The refusals' number or 0, the kind, and the squared distance that is written.
+/// The refusal's number or 0, the kind, and the squared distance, which is written where the kind is not 0.
 pub type Answer = (u32, u32, f64);
 
 /// How many answers were of each kind, and why there was no distance.
@@ -50,21 +48,48 @@ impl Kinds {
             _ => (&mut self.far, 2),
         };
         *count += 1;
-        (0, kind, if kind == 0 { DISTANCE } else { d2 })
+        (0, kind, d2)
     }
 }
 
 fn compare(tally: &mut Tally, pair: &Pair, n: usize, within: (f64, f64), wanted: Answer, class: &str) {
-    let (mut kind, mut d2) = (KIND, DISTANCE);
-    let number = ffi::compare([&pair.mu, &pair.p_i], [&pair.x, &pair.p_j], n, within, &mut kind, &mut d2);
-    let written = if wanted.0 == 0 && wanted.1 != 0 { same(d2, wanted.2) } else { d2.to_bits() == DISTANCE.to_bits() };
-    let kind_wanted = if wanted.0 == 0 { wanted.1 } else { KIND };
-    tally.case(number == wanted.0 && kind == kind_wanted && written, || {
+    let [mut mu, mut x, mut p_i, mut p_j] = [&pair.mu, &pair.x, &pair.p_i, &pair.p_j].map(|slice| Lent::holding(slice));
+    let (mut kind, mut d2) = (Lent::<u32>::marked(1), Lent::<f64>::marked(1));
+    let (i, j) = ([mu.slice(), p_i.slice()], [x.slice(), p_j.slice()]);
+    let mut number = ffi::compare(i, j, n, within, kind.one(), d2.one());
+    let written = wanted.0 == 0 && wanted.1 != 0;
+    faults::plant(CALL, || Met {
+        number: &mut number,
+        also: unmet(pair, n, within),
+        reads: vec![&mut mu, &mut x, &mut p_i, &mut p_j],
+        writes: vec![(&mut kind, 1), (&mut d2, usize::from(written))],
+    });
+    let kind_wanted = [wanted.1];
+    let agrees = number == wanted.0
+        && kind.begins_with(if wanted.0 == 0 { &kind_wanted } else { &[] })
+        && d2.begins_with(if written { std::slice::from_ref(&wanted.2) } else { &[] });
+    let kept = [&mu, &x, &p_i, &p_j].into_iter().all(Lent::is_untouched);
+    tally.refused(wanted.0);
+    tally.case(agrees && kept, || {
         format!(
-            "side {n}, {class}, floor and gate {within:?}: answers {number}, kind {kind}, {d2:e}, not {wanted:?}\n    {:?} {:?} {:?} {:?}",
-            pair.mu, pair.x, pair.p_i, pair.p_j
+            "side {n}, {class}, floor and gate {within:?}: answers {number}, kind {}, {:e}, not {wanted:?}, what is read {}\n    {:?} {:?} {:?} {:?}",
+            kind.slice()[0],
+            d2.slice()[0],
+            if kept { "stays" } else { "is changed" },
+            pair.mu,
+            pair.x,
+            pair.p_i,
+            pair.p_j
         )
     });
+}
+
+/// The questions that are not met, each asked by itself.
+fn unmet(pair: &Pair, n: usize, (floor, gate): (f64, f64)) -> Vec<u32> {
+    let square = n.saturating_mul(n);
+    let lengths = pair.mu.len() == n && pair.x.len() == n && pair.p_i.len() == square && pair.p_j.len() == square;
+    let within = floor.is_finite() && floor > 0.0 && gate.is_finite() && gate >= 0.0;
+    [(1, (1..=16).contains(&n)), (2, lengths), (18, within)].iter().filter(|(_, met)| !met).map(|(q, _)| *q).collect()
 }
 
 /// States that are near, equal, far apart, or whose difference overflows or is no number.
@@ -152,7 +177,6 @@ fn answers(tally: &mut Tally, kinds: &mut Kinds, rng: &mut Rng, class: &str, n: 
 fn refusals(tally: &mut Tally, kinds: &mut Kinds, rng: &mut Rng, n: usize) {
     let mut refuse = |pair: &Pair, side: usize, within: (f64, f64), number: u32| {
         kinds.refused += 1;
-        tally.refused();
         compare(tally, pair, side, within, (number, 0, 0.0), "refused");
     };
     let whole = |rng: &mut Rng| {
@@ -184,11 +208,31 @@ pub fn classes() -> Vec<Named> {
     [CLASSES, SYMMETRIC, SYMMETRIC].concat()
 }
 
-/// Runs every class at every side, and answers the number of differences.
-pub fn run(long: bool) -> u64 {
+const CALL: &str = "compare";
+
+/// Each kind of answer, and each number, is met so many times at least.
+const LEAST: u64 = 100;
+
+const REFUSES: &[u32] = &[1, 2, 18];
+
+/// The squared distance is a finite number where it is written.
+pub fn shape() -> Shape {
+    let d2 = Kind::Doubles { slice: false, nan: false, zero: true };
+    Shape {
+        name: CALL,
+        reads: 4,
+        writes: vec![Kind::Whole, d2],
+        partly: vec![1],
+        refuses: REFUSES,
+        orders: vec![(1, 2), (1, 18), (2, 18)],
+        others: vec![],
+    }
+}
+
+/// Runs every class at every side so many times, and answers the number of differences.
+pub fn run(count: usize) -> u64 {
     let classes = classes();
-    let count = if long { 2_000 } else { 60 };
-    let mut tally = Tally::new("compare");
+    let mut tally = Tally::refusing(CALL, REFUSES, LEAST);
     let mut kinds = Kinds::default();
     let mut rng = Rng::new(11);
     for n in 1..=16 {
@@ -203,11 +247,18 @@ pub fn run(long: bool) -> u64 {
             }
         }
         refusals(&mut tally, &mut kinds, &mut rng, n);
+        tally.done(n, 16);
     }
     let Kinds { near, far, refused, repair, inverse, infinite, negative } = kinds;
-    println!(
-        "compare: {near} near, {far} far, {} without a distance ({repair} no repair, {inverse} no inverse, {infinite} not finite, {negative} below 0), {refused} refused",
-        repair + inverse + infinite + negative
-    );
-    tally.close()
+    let rare = [near, far, repair, inverse, infinite, negative].iter().any(|met| *met < LEAST);
+    if !tally::is_quiet() {
+        println!(
+            "compare: {near} near, {far} far, {} without a distance ({repair} no repair, {inverse} no inverse, {infinite} not finite, {negative} below 0), {refused} refused",
+            repair + inverse + infinite + negative
+        );
+        if rare {
+            println!("compare: a kind of answer was met fewer than {LEAST} times");
+        }
+    }
+    tally.close() + u64::from(rare)
 }

@@ -1,7 +1,7 @@
 //! The compiled program `trackdump` beside Rust's own text of a double, and the questions in words as `docs/FORMAT.md` has them.
 use crate::lists::{fields, read, write, Read, COUNTS, DIMENSIONS, LONGEST, MOST_VALUES};
 use crate::merge::cases::draw;
-use crate::merge::damage::{fault, turn_bit, FIRST};
+use crate::merge::damage::{fault, turn_bit};
 use crate::number::{powers_of_two, sample, special};
 use crate::rng::Rng;
 use crate::tally::Tally;
@@ -9,8 +9,8 @@ use std::path::{Path, PathBuf};
 use std::process::{Command, Stdio};
 use std::{env, fs, process};
 
-/// The last question that can be asked of a file.
-const LAST: u32 = 16;
+/// The questions that can be asked of a file.
+const REFUSES: &[u32] = &[9, 10, 11, 12, 13, 14, 15, 16];
 
 const NAME: &str = "list.trk";
 
@@ -41,7 +41,7 @@ fn wanted(answer: &Result<Read, u32>, whole: bool, questions: &[String]) -> Stri
             let rows = list.values.chunks(f).enumerate().map(|(j, values)| row(j, values, d, whole));
             format!("count {} dimension {d}\n{}", list.values.len() / f, rows.collect::<String>())
         }
-        Err(number) => format!("no {number}: {}\n", questions[(number - FIRST) as usize]),
+        Err(number) => format!("no {number}: {}\n", questions[(number - REFUSES[0]) as usize]),
     }
 }
 
@@ -101,7 +101,7 @@ pub fn run(long: bool) -> u64 {
     let folder = env::temp_dir().join(format!("oracle-trackdump-{}", process::id()));
     fs::create_dir_all(&folder).unwrap();
     let program = Program { path, folder };
-    let questions: Vec<String> = (FIRST..=LAST).map(question).collect();
+    let questions: Vec<String> = REFUSES.iter().map(|number| question(*number)).collect();
     let mut rng = Rng::new(43);
 
     let mut digits = Tally::new("trackdump, numbers");
@@ -120,13 +120,13 @@ pub fn run(long: bool) -> u64 {
         digits.case(shown == wanted, || "another text around the numbers".to_string());
     }
 
-    let mut lists = Tally::new("trackdump, lists");
-    let mut refused = [0; (LAST - FIRST + 1) as usize];
-    for turn in 0..if long { 3_000 } else { 200 } {
+    let turns = if long { 3_000 } else { 200 };
+    let mut lists = Tally::refusing("trackdump, lists", REFUSES, turns / 40);
+    for turn in 0..turns as u32 {
         let mut case = draw(&mut rng);
         match turn % 4 {
             0 => turn_bit(&mut rng, &mut case),
-            1 | 2 => fault(&mut rng, &mut case, FIRST + turn / 4 % (LAST - FIRST + 1)),
+            1 | 2 => fault(&mut rng, &mut case, REFUSES[turn as usize / 4 % REFUSES.len()]),
             _ => {}
         }
         case.lists[0].resize(
@@ -139,10 +139,7 @@ pub fn run(long: bool) -> u64 {
         );
         for list in &case.lists {
             let (answer, whole) = (read(list), rng.below(2) == 0);
-            if let Err(number) = answer {
-                lists.refused();
-                refused[(number - FIRST) as usize] += 1;
-            }
+            lists.refused(answer.as_ref().err().copied().unwrap_or(0));
             let (shown, wanted) = (program.shown(list, whole), wanted(&answer, whole, &questions));
             lists.case(shown == wanted, || format!("a list of {} bytes: prints\n{shown}and not\n{wanted}", list.len()));
         }
@@ -163,11 +160,5 @@ pub fn run(long: bool) -> u64 {
         lists.case(said == text, || format!("{words:?}: says {said} and not {text}"));
     }
     fs::remove_dir_all(&program.folder).unwrap();
-    let numbers: Vec<String> = (FIRST..=LAST).zip(refused).map(|(q, n)| format!("{q}: {n}")).collect();
-    println!("trackdump: refused {}", numbers.join(", "));
-    let missed = u64::from(refused.contains(&0));
-    if missed != 0 {
-        println!("trackdump: a number was never met");
-    }
-    digits.close() + lists.close() + missed
+    digits.close() + lists.close()
 }

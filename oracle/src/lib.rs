@@ -2,7 +2,9 @@
 pub mod classes;
 pub mod comparisons;
 pub mod dump;
+pub mod faults;
 pub mod ffi;
+pub mod lent;
 pub mod lists;
 pub mod matrix;
 pub mod merge;
@@ -10,6 +12,8 @@ pub mod number;
 pub mod power;
 pub mod rng;
 pub mod rotating;
+pub mod selftest;
+pub mod source;
 pub mod symmetric;
 pub mod tally;
 pub mod vectors;

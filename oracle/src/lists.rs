@@ -1,5 +1,7 @@
 //! The track lists: a second reader and writer, written from document 01, "The list record", beside the library's.
+use crate::faults::{self, Kind, Met, Shape};
 use crate::ffi;
+use crate::lent::Lent;
 use crate::rng::Rng;
 use crate::tally::Tally;
 
@@ -112,58 +114,111 @@ pub struct Compared {
     reads: Tally,
     writes: Tally,
     records: Tally,
-    values: Vec<f64>,
-    bytes: Vec<u8>,
 }
 
 /// The most values of a list, and the length of the longest one.
 pub const MOST_VALUES: usize = 32 * 54;
 pub const LONGEST: usize = 14_050;
 
-/// So much past the lent memory is looked at too.
-const GUARD: usize = 8;
+const READ_LIST: &str = "read_list";
+const WRITE_LIST: &str = "write_list";
+const RECORD: &str = "record";
 
-/// A value that no list holds, so that one that was left alone is seen.
-const UNTOUCHED: f64 = f64::from_bits(0x7FF4_DEAD_BEEF_0000);
+/// The questions of a reader, in order: the lent values come last.
+const READS: &[u32] = &[9, 10, 11, 12, 13, 14, 15, 16, 2];
+const WRITES: &[u32] = &[10, 11, 2, 14, 20];
+
+/// Each number is met so many times at least.
+const LEAST: u64 = 100;
+
+/// What the three calls are lent. The values of a list are finite.
+pub fn shapes() -> [Shape; 3] {
+    let values = Kind::Doubles { slice: true, nan: false, zero: true };
+    let none = Shape { name: "", reads: 1, writes: vec![], partly: vec![], refuses: &[], orders: vec![], others: vec![] };
+    [
+        Shape {
+            name: READ_LIST,
+            writes: vec![values, Kind::Whole, Kind::Whole],
+            partly: vec![0],
+            refuses: READS,
+            orders: [12, 13, 14, 15, 16].map(|first| (first, 2)).to_vec(),
+            ..none
+        },
+        Shape {
+            name: WRITE_LIST,
+            reads: 1,
+            writes: vec![Kind::Bytes, Kind::Whole],
+            partly: vec![0],
+            refuses: WRITES,
+            orders: vec![(10, 11), (10, 2), (10, 14), (11, 2), (11, 14), (2, 14), (14, 20)],
+            others: vec![],
+        },
+        Shape {
+            name: RECORD,
+            reads: 1,
+            writes: vec![Kind::Whole, Kind::Whole],
+            partly: vec![],
+            refuses: &[],
+            orders: vec![],
+            others: vec![],
+        },
+    ]
+}
+
+/// The writer's questions that are not met, each asked by itself.
+fn unmet(count: usize, dimension: usize, values: &[f64], room: usize) -> Vec<u32> {
+    let f = fields(dimension.clamp(1, 9));
+    let stored = values.iter().filter(|x| x.to_bits() != 0).count();
+    let questions = [
+        (10, count <= COUNTS),
+        (11, (1..=DIMENSIONS).contains(&dimension)),
+        (2, Some(values.len()) == count.checked_mul(f)),
+        (14, values.iter().all(|x| x.is_finite())),
+        (20, room >= 2 + count.min(COUNTS) * f.div_ceil(8) + 8 * stored),
+    ];
+    questions.iter().filter(|(_, met)| !met).map(|(question, _)| *question).collect()
+}
 
 impl Compared {
     fn new() -> Compared {
         Compared {
-            reads: Tally::new("read_list"),
-            writes: Tally::new("write_list"),
-            records: Tally::new("record"),
-            values: vec![UNTOUCHED; MOST_VALUES + 64],
-            bytes: vec![0xA5; LONGEST + 64],
+            reads: Tally::refusing(READ_LIST, READS, LEAST),
+            writes: Tally::refusing(WRITE_LIST, WRITES, LEAST),
+            records: Tally::new(RECORD),
         }
     }
 
     /// Reads a list into `room` values.
-    fn read_into(&mut self, list: &[u8], wanted: &Result<Read, u32>, room: usize) {
-        let (mut count, mut dimension) = (usize::MAX, usize::MAX);
-        let number = ffi::read_list(list, &mut self.values[..room], &mut count, &mut dimension);
-        if !matches!(wanted, Ok(read) if room >= read.values.len()) {
-            self.reads.refused();
-        }
-        let mut written = 0;
-        let agrees = match wanted {
-            Ok(read) if room >= read.values.len() => {
-                written = read.values.len();
-                number == 0
-                    && count == list[0] as usize
-                    && dimension == read.dimension
-                    && all_bits(&self.values[..written], &read.values)
-            }
-            _ => {
-                number == wanted.as_ref().err().copied().unwrap_or(2) && count == usize::MAX && dimension == usize::MAX
-            }
+    fn read_into(&mut self, list: &mut Lent<u8>, wanted: &Result<Read, u32>, room: usize) {
+        let mut values = Lent::<f64>::marked(room);
+        let (mut count, mut dimension) = (Lent::<usize>::marked(1), Lent::<usize>::marked(1));
+        let mut number = ffi::read_list(list.slice(), values.slice_mut(), count.one(), dimension.one());
+        let (number_wanted, written) = match wanted {
+            Ok(read) if room >= read.values.len() => (0, &read.values[..]),
+            Ok(_) => (2, &[][..]),
+            Err(number) => (*number, &[][..]),
         };
-        let lent = &mut self.values[..room + GUARD];
-        let rest = lent[written..].iter().all(|x| x.to_bits() == UNTOUCHED.to_bits());
-        lent.fill(UNTOUCHED);
-        self.reads.case(agrees && rest, || {
+        let head = [0, 1].map(|at| list.slice().get(at).map_or(0, |byte| *byte as usize));
+        faults::plant(READ_LIST, || Met {
+            number: &mut number,
+            // The reader's last question can be asked of a list with a count and a dimension.
+            also: if number_wanted >= 12 && room < head[0] * fields(head[1]) { vec![2] } else { vec![] },
+            reads: vec![list],
+            writes: vec![(&mut values, written.len()), (&mut count, 1), (&mut dimension, 1)],
+        });
+        let told = |at: usize| if number_wanted == 0 { &head[at..at + 1] } else { &[] };
+        let agrees = number == number_wanted
+            && values.begins_with(written)
+            && count.begins_with(told(0))
+            && dimension.begins_with(told(1))
+            && list.is_untouched();
+        self.reads.refused(number_wanted);
+        self.reads.case(agrees, || {
             format!(
-                "{list:02x?} into {room}: answers {number}, {count}, {dimension}; wanted {:?}",
-                wanted.as_ref().err()
+                "{:02x?} into {room}: answers {number}, {}, {}; wanted {number_wanted}, or other memory",
+                list.slice(),
+                count.slice()[0],
+                dimension.slice()[0],
             )
         });
     }
@@ -177,63 +232,81 @@ impl Compared {
         wanted: &Result<Vec<u8>, u32>,
         room: usize,
     ) {
-        let mut length = usize::MAX;
-        let number = ffi::write_list(count, dimension, values, &mut self.bytes[..room], &mut length);
-        if !matches!(wanted, Ok(list) if room >= list.len()) {
-            self.writes.refused();
-        }
-        let mut written = 0;
-        let agrees = match wanted {
-            Ok(list) if room >= list.len() => {
-                written = list.len();
-                number == 0 && length == list.len() && self.bytes[..written] == list[..]
-            }
-            _ => number == wanted.as_ref().err().copied().unwrap_or(20) && length == usize::MAX,
+        let mut lent = Lent::holding(values);
+        let (mut bytes, mut length) = (Lent::<u8>::marked(room), Lent::<usize>::marked(1));
+        let mut number = ffi::write_list(count, dimension, lent.slice(), bytes.slice_mut(), length.one());
+        let (number_wanted, written) = match wanted {
+            Ok(list) if room >= list.len() => (0, &list[..]),
+            Ok(_) => (20, &[][..]),
+            Err(number) => (*number, &[][..]),
         };
-        let lent = &mut self.bytes[..room + GUARD];
-        let rest = lent[written..].iter().all(|b| *b == 0xA5);
-        lent.fill(0xA5);
-        self.writes.case(agrees && rest, || {
+        faults::plant(WRITE_LIST, || Met {
+            number: &mut number,
+            also: unmet(count, dimension, values, room),
+            reads: vec![&mut lent],
+            writes: vec![(&mut bytes, written.len()), (&mut length, 1)],
+        });
+        let told = [written.len()];
+        let agrees = number == number_wanted
+            && bytes.begins_with(written)
+            && length.begins_with(if number_wanted == 0 { &told } else { &[] })
+            && lent.is_untouched();
+        self.writes.refused(number_wanted);
+        self.writes.case(agrees, || {
             format!(
-                "count {count}, dimension {dimension}, {values:?} into {room}: answers {number}, {length}; wanted {:?}",
-                wanted.as_ref().err()
+                "count {count}, dimension {dimension}, {values:?} into {room}: answers {number}, {}; wanted {number_wanted}, or other memory",
+                length.slice()[0],
             )
         });
     }
 
-    /// Asks for the record at an offset.
-    fn record_at(&mut self, list: &[u8], wanted: &Result<Read, u32>, offset: usize) {
-        let (mut start, mut length) = (usize::MAX, usize::MAX);
-        ffi::record(list, offset, &mut start, &mut length);
-        let part = record(list, wanted, offset);
-        let agrees = length == part.len() && (part.is_empty() || start == offset);
-        self.records
-            .case(agrees, || format!("{list:02x?} at {offset}: start {start}, length {length}, not {}", part.len()));
+    /// Asks for the record at an offset. The part starts there, an empty one too.
+    fn record_at(&mut self, list: &mut Lent<u8>, wanted: &Result<Read, u32>, offset: usize) {
+        let (mut start, mut length) = (Lent::<usize>::marked(1), Lent::<usize>::marked(1));
+        ffi::record(list.slice(), offset, start.one(), length.one());
+        let part = record(list.slice(), wanted, offset).len();
+        let mut number = 0;
+        faults::plant(RECORD, || Met {
+            number: &mut number,
+            also: vec![],
+            reads: vec![list],
+            writes: vec![(&mut start, 1), (&mut length, 1)],
+        });
+        let agrees = start.begins_with(&[offset]) && length.begins_with(&[part]) && list.is_untouched();
+        if part == 0 {
+            self.records.empty();
+        }
+        self.records.case(agrees, || {
+            let (start, length) = (start.slice()[0], length.slice()[0]);
+            format!("{:02x?} at {offset}: start {start}, length {length}, not {part}", list.slice())
+        });
     }
 
     /// A list of any kind: read into enough room, and its records at the first places and some others.
     fn any(&mut self, list: &[u8], rng: &mut Rng) {
         let wanted = read(list);
+        let mut lent = Lent::holding(list);
         let needed = wanted.as_ref().map_or_else(|_| rng.one_of(&[0, 2, 9, 60]), |read| read.values.len());
         let room = match rng.below(3) {
             0 => needed,
             1 => needed + 1 + rng.below(9) as usize,
             _ => needed.saturating_sub(1 + rng.below(3) as usize),
         };
-        self.read_into(list, &wanted, room);
-        self.record_at(list, &wanted, 2);
-        self.record_at(list, &wanted, rng.below(list.len() as u64 + 3) as usize);
+        self.read_into(&mut lent, &wanted, room);
+        self.record_at(&mut lent, &wanted, 2);
+        self.record_at(&mut lent, &wanted, rng.below(list.len() as u64 + 3) as usize);
     }
 
     /// A good list: read into one value less, exactly enough and more; written back into one byte less, exactly enough and
     /// more; and every record, with places where none starts.
     fn good(&mut self, list: &[u8]) {
         let wanted = read(list);
+        let mut lent = Lent::holding(list);
         let read = wanted.as_ref().expect("a good list");
         let count = list[0] as usize;
         let needed = read.values.len();
         for room in [needed.saturating_sub(1), needed, needed + 7] {
-            self.read_into(list, &wanted, room);
+            self.read_into(&mut lent, &wanted, room);
         }
         let written = write(count, read.dimension, &read.values);
         assert!(written.as_deref() == Ok(list), "the second writer does not give back what the second reader read");
@@ -242,17 +315,13 @@ impl Compared {
         }
         for start in &read.starts {
             for offset in [start - 1, *start, start + 1] {
-                self.record_at(list, &wanted, offset);
+                self.record_at(&mut lent, &wanted, offset);
             }
         }
         for offset in [0, 1, list.len() + 1, usize::MAX] {
-            self.record_at(list, &wanted, offset);
+            self.record_at(&mut lent, &wanted, offset);
         }
     }
-}
-
-fn all_bits(a: &[f64], b: &[f64]) -> bool {
-    a.iter().zip(b).all(|(x, y)| x.to_bits() == y.to_bits())
 }
 
 /// A finite field, often one that a list leaves out or nearly does.
@@ -292,9 +361,9 @@ fn random_bytes(rng: &mut Rng) -> Vec<u8> {
     list
 }
 
-/// Every list of up to 3 bytes.
-fn short_lists(compared: &mut Compared, rng: &mut Rng) {
-    for length in 0..=3u32 {
+/// Every list of up to so many bytes.
+fn short_lists(compared: &mut Compared, rng: &mut Rng, longest: u32) {
+    for length in 0..=longest {
         for number in 0..1u32 << (8 * length) {
             compared.any(&number.to_le_bytes()[..length as usize], rng);
         }
@@ -340,32 +409,57 @@ fn refused_writes(compared: &mut Compared, rng: &mut Rng) {
     compared.write_into(count, dimension, &values, &wanted, room);
 }
 
-/// Runs all of it, and answers the number of differences.
-pub fn run(long: bool) -> u64 {
+/// How much of each kind is run.
+pub struct Amount {
+    /// Good lists of each count and dimension.
+    pub each: usize,
+    pub damaged: usize,
+    pub random: usize,
+    pub refused_writes: usize,
+    /// Whether every list of up to 3 bytes is read, or up to 2.
+    pub all_short: bool,
+}
+
+pub fn amount(long: bool) -> Amount {
     let times = if long { 40 } else { 1 };
+    Amount {
+        each: 2 * times,
+        damaged: 300 * times,
+        random: 100_000 * times,
+        refused_writes: 100_000 * times,
+        all_short: true,
+    }
+}
+
+/// Runs all of it, and answers the number of differences.
+pub fn run(amount: &Amount) -> u64 {
     let mut rng = Rng::new(7);
     let mut compared = Compared::new();
-    short_lists(&mut compared, &mut rng);
     for dimension in 1..=DIMENSIONS {
         for count in 0..=COUNTS {
-            for _ in 0..2 * times {
+            for _ in 0..amount.each {
                 let values = tracks(&mut rng, count, dimension);
                 compared.good(&write(count, dimension, &values).unwrap());
             }
         }
+        compared.reads.done(dimension, DIMENSIONS);
     }
-    for _ in 0..300 * times {
+    for turn in 0..amount.damaged {
         let list = good_list(&mut rng);
         if list.len() < 600 {
             damaged(&mut compared, &mut rng, &list);
         }
+        compared.reads.done(turn + 1, amount.damaged);
     }
-    for _ in 0..100_000 * times {
+    for turn in 0..amount.random {
         let list = random_bytes(&mut rng);
         compared.any(&list, &mut rng);
+        compared.reads.done(turn + 1, amount.random);
     }
-    for _ in 0..100_000 * times {
+    for turn in 0..amount.refused_writes {
         refused_writes(&mut compared, &mut rng);
+        compared.writes.done(turn + 1, amount.refused_writes);
     }
+    short_lists(&mut compared, &mut rng, if amount.all_short { 3 } else { 2 });
     compared.reads.close() + compared.writes.close() + compared.records.close()
 }

@@ -1,37 +1,42 @@
-//! `oracle quick` or `oracle long`, with the topics `number`, `matrix`, `comparisons`, `lists`, `merge`, `dump` or the matrix calls to
-//! run, or all; `oracle vectors` writes the frozen answers.
-use oracle::{comparisons, dump, ffi, lists, matrix, number, vectors};
+//! `oracle quick` or `oracle long`, with the topics or the matrix calls to run, or all; `oracle selftest` plants faults and expects
+//! each to be found; `oracle vectors` writes the frozen answers, and `oracle vectors check` compares them with those that stand.
+use oracle::merge::{checks, program, run as merges};
+use oracle::{comparisons, dump, ffi, lists, matrix, number, selftest, source, tally, vectors};
 use std::process::ExitCode;
 
-fn main() -> ExitCode {
-    let words: Vec<String> = std::env::args().skip(1).collect();
-    let form = words.first().map(String::as_str);
-    let wanted = |topic: &str| words.len() < 2 || words[1..].iter().any(|word| word == topic);
-    let long = match form {
-        Some("quick") => false,
-        Some("long") => true,
-        Some("vectors") => {
-            vectors::write();
-            return ExitCode::SUCCESS;
-        }
-        _ => {
-            eprintln!("usage: oracle quick|long [number] [matrix] [comparisons] [lists] [merge] [dump] [CALL].., or oracle vectors");
-            return ExitCode::from(2);
-        }
-    };
-    let mut differences = 0;
+const TOPICS: [&str; 6] = ["number", "matrix", "comparisons", "lists", "merge", "dump"];
+
+fn usage(problem: &str) -> ExitCode {
+    let topics = TOPICS.map(|topic| format!("[{topic}]")).join(" ");
+    eprintln!("{problem}usage: oracle quick|long {topics} [CALL].., oracle selftest, or oracle vectors [check]");
+    ExitCode::from(2)
+}
+
+fn ended(differences: u64) -> ExitCode {
+    if differences == 0 {
+        ExitCode::SUCCESS
+    } else {
+        ExitCode::FAILURE
+    }
+}
+
+/// Compares what is wanted, and answers the number of differences.
+fn compare(long: bool, wanted: &dyn Fn(&str) -> bool) -> u64 {
+    let mut differences = source::differences();
     if wanted("number") {
         differences += number::run(if long { 200_000_000 } else { 20_000_000 });
     }
     differences += matrix::run(long, &|call| wanted("matrix") || wanted(call));
     if wanted("comparisons") {
-        differences += comparisons::run(long);
+        differences += comparisons::run(if long { 2_000 } else { 60 });
     }
     if wanted("lists") {
-        differences += lists::run(long);
+        differences += lists::run(&lists::amount(long));
     }
     if wanted("merge") {
-        differences += oracle::merge::run::run(long);
+        checks::run();
+        differences += merges::run(merges::amount(long), long);
+        differences += program::run(if long { 2_000 } else { 300 });
     }
     if wanted("dump") {
         differences += dump::run(long);
@@ -45,9 +50,29 @@ fn main() -> ExitCode {
         differences += 1;
     }
     println!("oracle: {differences} differences");
-    if differences == 0 {
-        ExitCode::SUCCESS
-    } else {
-        ExitCode::FAILURE
+    differences
+}
+
+fn main() -> ExitCode {
+    let words: Vec<String> = std::env::args().skip(1).collect();
+    let words: Vec<&str> = words.iter().map(String::as_str).collect();
+    match words[..] {
+        ["selftest"] => ended(selftest::run()),
+        ["vectors"] => {
+            vectors::write();
+            ExitCode::SUCCESS
+        }
+        ["vectors", "check"] => ended(source::differences() + vectors::check()),
+        [form @ ("quick" | "long"), ref topics @ ..] => {
+            let is_call = |word: &str| matrix::calls().any(|(_, call)| call.name == word);
+            if let Some(word) = topics.iter().find(|word| !TOPICS.contains(word) && !is_call(word)) {
+                return usage(&format!("{word} is no topic and no matrix call\n"));
+            }
+            if form == "long" {
+                tally::tell_progress();
+            }
+            ended(compare(form == "long", &|topic| topics.is_empty() || topics.contains(&topic)))
+        }
+        _ => usage(""),
     }
 }

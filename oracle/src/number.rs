@@ -1,4 +1,5 @@
 //! The number helpers beside Rust's own: `sqrt`, `abs`, `max`, and `value` and `constant` of the source's trait for f64.
+use crate::faults::{self, Kind, Shape};
 use crate::ffi;
 use crate::rng::Rng;
 use crate::tally::{same, Tally};
@@ -78,40 +79,66 @@ pub fn sample(rng: &mut Rng, turn: u64) -> f64 {
     }
 }
 
-/// Runs every call on the listed patterns and on `count` random ones, and answers the number of differences.
-pub fn run(count: u64) -> u64 {
-    let mut fixed = special();
-    fixed.extend(powers_of_two());
-    let mut differences = 0;
-    let one = |name: &'static str, ours: fn(f64) -> f64, theirs: fn(f64) -> f64| {
-        let mut tally = Tally::new(name);
-        let mut try_one = |x: f64| {
-            let (got, wanted) = (ours(x), theirs(black_box(x)));
-            tally.case(same(got, wanted), || {
-                format!("{:016x} gives {:016x}, not {:016x}", x.to_bits(), got.to_bits(), wanted.to_bits())
-            });
-        };
-        for x in &fixed {
-            try_one(*x);
-        }
-        let mut rng = Rng::new(2);
-        for turn in 0..count {
-            try_one(sample(&mut rng, turn));
-        }
-        tally.close()
+type Unary = (&'static str, fn(f64) -> f64, fn(f64) -> f64);
+
+/// The calls of one number, and the Rust's.
+const UNARY: &[Unary] = &[
+    ("sqrt", ffi::sqrt, f64::sqrt),
+    ("abs", ffi::abs, f64::abs),
+    ("value", ffi::value, |x| Differentiable::value(&x)),
+    ("constant", ffi::constant, <f64 as Differentiable>::constant),
+];
+
+/// A call of one number, on the listed patterns and on `count` random ones.
+fn unary(call: &Unary, count: u64) -> u64 {
+    let (name, ours, theirs) = *call;
+    let mut tally = Tally::new(name);
+    let try_one = |tally: &mut Tally, x: f64| {
+        let (got, wanted) = (faults::planted_in(name, ours(x)), theirs(black_box(x)));
+        tally.case(same(got, wanted), || {
+            format!("{:016x} gives {:016x}, not {:016x}", x.to_bits(), got.to_bits(), wanted.to_bits())
+        });
     };
-    differences += one("sqrt", ffi::sqrt, f64::sqrt);
-    differences += one("abs", ffi::abs, f64::abs);
-    differences += one("value", ffi::value, |x| Differentiable::value(&x));
-    differences += one("constant", ffi::constant, <f64 as Differentiable>::constant);
-    differences + maxima(count)
+    special().into_iter().chain(powers_of_two()).for_each(|x| try_one(&mut tally, x));
+    let mut rng = Rng::new(2);
+    for turn in 0..count {
+        try_one(&mut tally, sample(&mut rng, turn));
+        if turn % STEP == 0 {
+            tally.done((turn / STEP) as usize, (count / STEP) as usize);
+        }
+    }
+    tally.close()
+}
+
+/// So many cases are a step of the progress that is told.
+const STEP: u64 = 1 << 20;
+
+/// The calls' names, each with how it is run with so many random patterns.
+pub fn calls() -> Vec<(&'static str, Box<dyn Fn(u64) -> u64>)> {
+    let mut all: Vec<(&'static str, Box<dyn Fn(u64) -> u64>)> = Vec::new();
+    for call in UNARY {
+        all.push((call.0, Box::new(|count| unary(call, count))));
+    }
+    all.push(("max", Box::new(maxima)));
+    all
+}
+
+/// Runs every call, and answers the number of differences.
+pub fn run(count: u64) -> u64 {
+    calls().iter().map(|(_, run)| run(count)).sum()
+}
+
+/// What a call answers: one number, which is any.
+pub fn shape(name: &'static str) -> Shape {
+    let writes = vec![Kind::Doubles { slice: false, nan: true, zero: true }];
+    Shape { name, reads: 0, writes, partly: vec![], refuses: &[], orders: vec![], others: vec![] }
 }
 
 /// `max`: every pair of special numbers, and random pairs, some of them neighbours or equal.
 fn maxima(count: u64) -> u64 {
     let mut tally = Tally::new("max");
-    let mut try_pair = |a: f64, b: f64| {
-        let (got, wanted) = (ffi::max(a, b), black_box(a).max(black_box(b)));
+    let try_pair = |tally: &mut Tally, a: f64, b: f64| {
+        let (got, wanted) = (faults::planted_in("max", ffi::max(a, b)), black_box(a).max(black_box(b)));
         tally.case(same(got, wanted), || {
             format!(
                 "{:016x}, {:016x} gives {:016x}, not {:016x}",
@@ -125,7 +152,7 @@ fn maxima(count: u64) -> u64 {
     let special = special();
     for a in &special {
         for b in &special {
-            try_pair(*a, *b);
+            try_pair(&mut tally, *a, *b);
         }
     }
     let mut rng = Rng::new(3);
@@ -137,8 +164,11 @@ fn maxima(count: u64) -> u64 {
             2 => -a,
             _ => rng.one_of(&special),
         };
-        try_pair(a, b);
-        try_pair(b, a);
+        try_pair(&mut tally, a, b);
+        try_pair(&mut tally, b, a);
+        if turn % STEP == 0 {
+            tally.done((turn / STEP) as usize, (count / STEP) as usize);
+        }
     }
     tally.close()
 }

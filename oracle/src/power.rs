@@ -1,7 +1,7 @@
 //! The calls that iterate with powers of a matrix: how they are compared, and classes of matrices that they are sensitive to.
 use crate::classes::Named;
 use crate::ffi;
-use crate::matrix::{one_side, square, Call};
+use crate::matrix::{one_side, square, Call, Part::*};
 use crate::rng::Rng;
 use crate::symmetric::{covariance, mirrored};
 use nolan::flat::at;
@@ -12,49 +12,48 @@ pub const ITERATING: &[Call] = &[
         sides: one_side,
         reads: square,
         // The vector, and after it the eigenvalue.
-        writes: |s| s[0] + 1,
-        single: false,
+        writes: |s| vec![Slice(s[0]), Number],
         ours: |g, s, out| {
-            let mut none = 0.0;
-            let (vector, rest) = out.split_at_mut(out.len().saturating_sub(1));
-            let value = rest.first_mut().unwrap_or(&mut none);
-            ffi::mat_eigenvector_max(g.slices[0], s[0], g.max_iter, g.tol, vector, value)
+            let [vector, value] = out else { unreachable!("two parts") };
+            ffi::mat_eigenvector_max(g.slices[0], s[0], g.max_iter, g.tol, vector, &mut value[0])
         },
         theirs: at::mat_eigenvector_max,
+        refuses: &[1, 2],
+        never: &[],
     },
     Call {
         name: "mat_largest_singular_value",
         sides: one_side,
         reads: square,
-        writes: |_| 1,
-        single: true,
-        ours: |g, s, out| ffi::mat_largest_singular_value(g.slices[0], s[0], g.max_iter, g.tol, &mut out[0]),
+        writes: |_| vec![Number],
+        ours: |g, s, out| ffi::mat_largest_singular_value(g.slices[0], s[0], g.max_iter, g.tol, &mut out[0][0]),
         theirs: at::mat_largest_singular_value,
+        refuses: &[1, 2],
+        never: &[],
     },
     Call {
         name: "condition_number",
         sides: one_side,
         reads: square,
-        writes: |_| 1,
-        single: true,
-        ours: |g, s, out| ffi::condition_number(g.slices[0], s[0], &mut out[0]),
+        writes: |_| vec![Number],
+        ours: |g, s, out| ffi::condition_number(g.slices[0], s[0], &mut out[0][0]),
         theirs: at::condition_number,
+        refuses: &[1, 2],
+        never: &[],
     },
     Call {
         name: "tikhonov_with_report",
         sides: one_side,
         reads: square,
         // The matrix, and after it the condition numbers before and after.
-        writes: |s| s[0] * s[0] + 2,
-        single: false,
+        writes: |s| vec![Slice(s[0] * s[0]), Number, Number],
         ours: |g, s, out| {
-            let mut none = [0.0; 2];
-            let (matrix, rest) = out.split_at_mut(out.len().saturating_sub(2));
-            let told: &mut [f64; 2] = rest.try_into().unwrap_or(&mut none);
-            let [before, after] = told;
-            ffi::tikhonov_with_report(g.slices[0], g.number, s[0], matrix, (before, after))
+            let [matrix, before, after] = out else { unreachable!("three parts") };
+            ffi::tikhonov_with_report(g.slices[0], g.number, s[0], matrix, (&mut before[0], &mut after[0]))
         },
         theirs: at::tikhonov_with_report,
+        refuses: &[1, 2],
+        never: &[],
     },
 ];
 

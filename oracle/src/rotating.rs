@@ -1,7 +1,8 @@
 //! The calls that rotate, which are compared on symmetric matrices too, and the floors that repairs are given.
 use crate::classes::Class;
 use crate::ffi::{self, Report};
-use crate::matrix::{draw, one_side, square, Call};
+use crate::lent::Entry;
+use crate::matrix::{draw, one_side, square, Call, Part, Part::*};
 use crate::rng::Rng;
 use nolan::flat::{at, Given};
 
@@ -11,53 +12,59 @@ pub const ROTATING: &[Call] = &[
         sides: one_side,
         reads: square,
         // The eigenvalues, and after them the vectors.
-        writes: |s| s[0] + s[0] * s[0],
-        single: false,
+        writes: |s| vec![Slice(s[0]), Slice(s[0] * s[0])],
         ours: |g, s, out| {
-            let (values, vectors) = out.split_at_mut(s[0].min(out.len()));
+            let [values, vectors] = out else { unreachable!("two parts") };
             ffi::mat_symmetric_eigen(g.slices[0], s[0], values, vectors)
         },
         theirs: at::mat_symmetric_eigen,
+        refuses: &[1, 2, 4],
+        never: &[],
     },
     Call {
         name: "nearest_psd",
         sides: one_side,
         reads: square,
         writes: repaired,
-        single: false,
         ours: |g, s, out| repair(ffi::nearest_psd, g, s[0], out),
         theirs: at::nearest_psd,
+        refuses: &[1, 2, 3, 4],
+        never: &[],
     },
     Call {
         name: "eigenvalue_floor",
         sides: one_side,
         reads: square,
         writes: repaired,
-        single: false,
         ours: |g, s, out| repair(ffi::eigenvalue_floor, g, s[0], out),
         theirs: at::eigenvalue_floor,
+        refuses: &[1, 2, 3, 4],
+        never: &[],
     },
 ];
 
 /// The matrix, and after it the clip count, the largest clip and the mask as a number.
-fn repaired(s: &[usize]) -> usize {
-    s[0] * s[0] + 3
+fn repaired(s: &[usize]) -> Vec<Part> {
+    vec![Slice(s[0] * s[0]), Whole, Number, Whole]
 }
 
+/// The count and the mask are taken over as numbers where they were written.
 fn repair(
     call: fn(&[f64], f64, usize, &mut [f64], &mut Report) -> u32,
     given: &Given,
     n: usize,
-    out: &mut [f64],
+    out: &mut [&mut [f64]],
 ) -> u32 {
-    let (matrix, told) = out.split_at_mut(out.len().saturating_sub(3));
-    let before = Report { count: usize::MAX, clip: -1.0, mask: u32::MAX };
+    let [matrix, count, clip, mask] = out else { unreachable!("four parts") };
+    let before = Report { count: usize::mark(0), clip: clip[0], mask: u32::mark(0) };
     let mut report = before;
     let number = call(given.slices[0], given.number, n, matrix, &mut report);
-    if number == 0 {
-        told.copy_from_slice(&[report.count as f64, report.clip, f64::from(report.mask)]);
-    } else {
-        assert!(report == before, "a refusal wrote a report");
+    if report.count != before.count {
+        count[0] = report.count as f64;
+    }
+    clip[0] = report.clip;
+    if report.mask != before.mask {
+        mask[0] = f64::from(report.mask);
     }
     number
 }

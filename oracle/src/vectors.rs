@@ -3,7 +3,7 @@
 use crate::classes::CLASSES;
 use crate::lists;
 use crate::comparisons::{self, Kinds, Pair, BAD_FLOORS, BAD_GATES};
-use crate::matrix::{refused, Call, Group, GROUPS, ITERATED};
+use crate::matrix::{refused, Call, Group, Part, GROUPS, ITERATED};
 use crate::power::limits;
 use crate::number::{powers_of_two, sample, special};
 use crate::rng::Rng;
@@ -11,7 +11,7 @@ use nolan::flat::Given;
 use nolan::traits::Differentiable;
 use std::fs;
 use std::hint::black_box;
-use std::path::Path;
+use std::path::{Path, PathBuf};
 
 /// A program's input, and what it must write on it.
 struct Frozen {
@@ -34,11 +34,10 @@ impl Frozen {
         self.lines.push_str(&format!("{name} {cases} cases 0 differences\n"));
     }
 
-    fn write(&self, program: &str) {
+    /// The two files, and what is to stand in them.
+    fn files(&self, program: &str) -> [(PathBuf, &[u8]); 2] {
         let folder = Path::new(env!("CARGO_MANIFEST_DIR")).join("../crates").join(program);
-        fs::write(folder.join("stdin"), &self.bytes).unwrap();
-        fs::write(folder.join("stdout"), &self.lines).unwrap();
-        println!("{program}: {} bytes", self.bytes.len());
+        [(folder.join("stdin"), &self.bytes), (folder.join("stdout"), self.lines.as_bytes())]
     }
 }
 
@@ -50,7 +49,7 @@ fn unary(frozen: &mut Frozen, call: u64, name: &str, arguments: &[f64], answer: 
     frozen.line(name, arguments.len());
 }
 
-fn numbers() {
+fn numbers() -> Frozen {
     let mut rng = Rng::new(11);
     let mut samples = |count: u64| (0..count).map(|turn| sample(&mut rng, turn)).collect::<Vec<f64>>();
     let special = special();
@@ -66,7 +65,7 @@ fn numbers() {
     frozen.line("max", pairs.len());
     unary(&mut frozen, 3, "value", &special, |x| x.value());
     unary(&mut frozen, 4, "constant", &special, f64::constant);
-    frozen.write("number_vectors");
+    frozen
 }
 
 /// What stands in a slice before a call that writes it.
@@ -116,7 +115,9 @@ fn answers(frozen: &mut Frozen, place: usize, group: &Group, call: &Call, iterat
                 given = Given { slices: &slices, number: if tolerant { tol } else { number }, max_iter, tol };
                 sides_told = vec![0, max_iter as usize, sides[0]];
             }
-            let mut result = vec![BEFORE; (call.writes)(&sides)];
+            let parts: Vec<usize> = (call.writes)(&sides).iter().map(Part::length).collect();
+            sides_told = told_sides(call, sides_told, &parts);
+            let mut result = vec![BEFORE; parts.iter().sum()];
             let told = (call.theirs)(&sides)(&given, &mut result);
             record(frozen, place, &sides_told, &given, told, &result);
             cases += 1;
@@ -125,17 +126,29 @@ fn answers(frozen: &mut Frozen, place: usize, group: &Group, call: &Call, iterat
     let sides = &(call.sides)()[0];
     let sides: Vec<usize> = (0..sides.len()).map(|i| 2 + i).collect();
     for case in refused(call, &sides, &[0, 17]) {
-        let entries: Vec<f64> = (0..64).map(|_| rng.unit()).collect();
-        let slices: Vec<&[f64]> = case.lengths.iter().map(|n| &entries[..*n]).collect();
+        // Every other time no later question is met either.
+        let odd = cases % 2 == 1;
+        let entries: Vec<f64> = (0..64).map(|_| if odd { f64::NAN } else { rng.unit() }).collect();
+        let slices: Vec<&[f64]> = case.reads.iter().map(|n| &entries[..*n]).collect();
         let given = Given { slices: &slices, number: 1.0, ..Given::default() };
-        record(frozen, place, &case.sides, &given, case.number, &vec![BEFORE; case.length]);
+        let sides_told = told_sides(call, case.sides, &case.writes);
+        record(frozen, place, &sides_told, &given, case.number, &vec![BEFORE; case.writes.iter().sum()]);
         cases += 1;
     }
     frozen.line(call.name, cases);
 }
 
+/// A record of the eigensolver, which has two slices to write, has the first one's length as a side.
+fn told_sides(call: &Call, sides: Vec<usize>, parts: &[usize]) -> Vec<usize> {
+    if call.name == "mat_symmetric_eigen" {
+        vec![0, parts[0], sides[0]]
+    } else {
+        sides
+    }
+}
+
 /// The matrix calls, then comparisons, then the calls that iterate.
-fn matrices() {
+fn matrices() -> Frozen {
     let mut frozen = Frozen::new();
     let mut place = 0;
     for group in GROUPS {
@@ -148,7 +161,7 @@ fn matrices() {
     for (at, call) in ITERATED.calls.iter().enumerate() {
         answers(&mut frozen, place + 1 + at, &ITERATED, call, true);
     }
-    frozen.write("matrix_vectors");
+    frozen
 }
 
 /// A record of a comparison: the states and the gate are its first slice, the result is the kind and the squared distance.
@@ -249,7 +262,7 @@ fn write_record(frozen: &mut Frozen, count: usize, dimension: usize, values: &[f
 }
 
 /// Good lists and damaged ones, read and written back; their records, and which of them are equal.
-fn track_lists() {
+fn track_lists() -> Frozen {
     let mut rng = Rng::new(29);
     let mut frozen = Frozen::new();
     let mut good: Vec<(usize, usize, Vec<f64>, Vec<u8>)> = Vec::new();
@@ -320,11 +333,29 @@ fn track_lists() {
     }
     frozen.lines.push_str(&format!("{} records compared, 0 differences\n", compared));
     assert!(frozen.bytes.len() <= BLOCK, "{} bytes in one block", frozen.bytes.len());
-    frozen.write("tracks_vectors");
+    frozen
+}
+
+/// The programs, each with its frozen answers.
+fn all() -> [(&'static str, Frozen); 3] {
+    [("number_vectors", numbers()), ("kernel_vectors", matrices()), ("tracks_vectors", track_lists())]
 }
 
 pub fn write() {
-    numbers();
-    matrices();
-    track_lists();
+    for (program, frozen) in all() {
+        frozen.files(program).iter().for_each(|(path, bytes)| fs::write(path, bytes).unwrap());
+        println!("{program}: {} bytes", frozen.bytes.len());
+    }
+}
+
+/// Compares the frozen answers with those that stand, and answers how many files differ.
+pub fn check() -> u64 {
+    let mut differences = 0;
+    for (program, frozen) in all() {
+        let stand = |(path, bytes): &(PathBuf, &[u8])| fs::read(path).is_ok_and(|found| found == *bytes);
+        let differ = frozen.files(program).iter().filter(|file| !stand(file)).count();
+        println!("{program}: {differ} of the 2 files differ from what the Rust answers now");
+        differences += differ as u64;
+    }
+    differences
 }

@@ -1,7 +1,7 @@
 //! The compiled program `trackmerge`, run in folders of its own, beside the lines that the second merger gives.
 use super::cases::{draw, listed, Case, HERDS};
 use super::checks::{text, WITHIN};
-use super::damage::{fault, turn_bit, FIRST};
+use super::damage::{fault, turn_bit};
 use super::pairings::by_size;
 use super::reference::merge;
 use crate::lists::{COUNTS, DIMENSIONS, LONGEST};
@@ -13,8 +13,8 @@ use std::{env, fs, process};
 
 const NAMES: [&str; 3] = ["base.trk", "ours.trk", "theirs.trk"];
 
-/// The last question that can be asked of three files: floor, gate and rows are the program's own.
-const LAST: u32 = 17;
+/// The questions that can be asked of three files: floor, gate and rows are the program's own.
+const REFUSES: &[u32] = &[9, 10, 11, 12, 13, 14, 15, 16, 17];
 
 /// A folder's three files; one that is none is missing.
 type Files = [Option<Vec<u8>>; 3];
@@ -74,7 +74,7 @@ fn folder(rng: &mut Rng, turn: u32) -> Files {
         }
         1 => sized(rng, case),
         2 | 3 => {
-            fault(rng, &mut case, FIRST + turn / 10 % (LAST - FIRST + 1));
+            fault(rng, &mut case, REFUSES[turn as usize / 10 % REFUSES.len()]);
             files(case)
         }
         4 => {
@@ -118,28 +118,19 @@ pub fn run(folders: u32) -> u64 {
     let at = env::temp_dir().join(format!("oracle-trackmerge-{}", process::id()));
     fs::create_dir_all(&at).unwrap();
     let mut rng = Rng::new(41);
-    let mut tally = Tally::new("trackmerge");
-    let mut refused = [0; (LAST - FIRST + 1) as usize];
+    let mut tally = Tally::refusing("trackmerge", REFUSES, u64::from(folders / 100));
     for turn in 0..folders {
         let files = folder(&mut rng, turn);
         let [base, ours, theirs] = files.each_ref().map(|file| file.as_deref().unwrap_or_default());
         let answer = merge([base, ours, theirs], WITHIN, 4 * 3 * COUNTS, by_size);
-        if let Err(number) = answer {
-            tally.refused();
-            refused[(number - FIRST) as usize] += 1;
-        }
+        tally.refused(answer.as_ref().err().copied().unwrap_or(0));
         let (wanted, lines) = (text(&answer), printed(&program, &at, &files));
         tally.case(lines == wanted, || {
             let lengths = files.each_ref().map(|file| file.as_ref().map(Vec::len));
             format!("files of {lengths:?} bytes: prints\n{lines}and not\n{wanted}")
         });
+        tally.done(turn as usize + 1, folders as usize);
     }
     fs::remove_dir_all(&at).unwrap();
-    let numbers: Vec<String> = (FIRST..=LAST).zip(refused).map(|(q, n)| format!("{q}: {n}")).collect();
-    println!("trackmerge: refused {}", numbers.join(", "));
-    let missed = u64::from(refused.contains(&0));
-    if missed != 0 {
-        println!("trackmerge: a number was never met");
-    }
-    tally.close() + missed
+    tally.close()
 }

@@ -2,17 +2,63 @@
 use super::cases::{draw, draw_of, Case};
 use super::damage::{fault, turn_bit, FIRST, LAST};
 use super::pairings::by_size;
-use super::reference::{merge, winner, Merged};
-use super::{checks, program};
+use super::checks;
+use super::reference::{merge, winner, Merged, Within};
+use crate::faults::{self, End, Fault, Kind, Met, Shape};
 use crate::ffi;
-use crate::lists::{COUNTS, DIMENSIONS};
+use crate::lent::Lent;
+use crate::lists::{self, COUNTS, DIMENSIONS};
 use crate::rng::Rng;
-use crate::tally::Tally;
+use crate::tally::{self, Tally};
 
-/// What memory holds before a call, and how far around the lent part it is looked at.
-const BYTE: u8 = 0xA5;
-const NUMBER: usize = 0xDEAD_BEEF_DEAD_BEEF;
-const GUARD: usize = 16;
+const MERGE: &str = "merge";
+const WINNER: &str = "winner";
+
+/// The numbers of the lists' questions, and those of the merge.
+const REFUSES: &[u32] = &[9, 10, 11, 12, 13, 14, 15, 16, 17, 18, 19];
+
+/// What the two calls are lent, and the faults that only they can have.
+pub fn shapes() -> [Shape; 2] {
+    let ends = [End::First, End::Last].map(Fault::RowLeftOut);
+    let verdicts = (0..5).flat_map(|from| (0..5).filter(move |to| *to != from).map(move |to| Fault::Verdict(from, to)));
+    // A list is refused before the next one is read, also where that one's number is lower; the merge's own questions follow.
+    let among_lists = (9..=16).flat_map(|first| [9, 16].map(|later| (first, later)));
+    let after_lists = (9..=16).flat_map(|first| [17, 18, 19].map(|later| (first, later)));
+    let orders = among_lists.filter(|(first, later)| first != later).chain(after_lists);
+    [
+        Shape {
+            name: MERGE,
+            reads: 3,
+            writes: vec![Kind::Bytes, Kind::Whole, Kind::Whole, Kind::Whole],
+            partly: vec![0],
+            refuses: REFUSES,
+            orders: orders.chain([(17, 18), (17, 19), (18, 19)]).collect(),
+            others: [0, 1, 2].map(Fault::PairExchanged).into_iter().chain(ends).chain(verdicts).collect(),
+        },
+        Shape {
+            name: WINNER,
+            reads: 3,
+            writes: vec![Kind::Whole, Kind::Whole, Kind::Whole],
+            partly: vec![],
+            refuses: &[],
+            orders: vec![],
+            others: vec![],
+        },
+    ]
+}
+
+/// The questions that are not met, each asked by itself.
+fn unmet(case: &Case) -> Vec<u32> {
+    let byte = |at: usize| case.lists.iter().filter_map(move |list| list.get(at)).map(|byte| *byte as usize);
+    let Within { floor, gate } = case.within;
+    let questions = [
+        (17, byte(1).all(|d| Some(d) == byte(1).next())),
+        (18, floor.is_finite() && floor > 0.0 && gate.is_finite() && gate >= 0.0),
+        (19, case.room >= 4 * byte(0).sum::<usize>()),
+    ];
+    let lists = case.lists.iter().filter_map(|list| lists::read(list).err());
+    lists.chain(questions.iter().filter(|(_, met)| !met).map(|(question, _)| *question)).collect()
+}
 
 /// What the merges that were compared had in them.
 #[derive(Default)]
@@ -29,7 +75,6 @@ struct Seen {
     /// Pairings of some candidate, and those that were found by trying all.
     pairings: u64,
     tried: u64,
-    refused: [u64; (LAST - FIRST + 1) as usize],
 }
 
 impl Seen {
@@ -66,14 +111,11 @@ impl Seen {
             "merge: {} candidates, {} of them tied with another, in {} merges; {} pairings, {} found by trying all",
             self.candidates, self.tied, self.with_ties, self.pairings, self.tried
         );
-        let refused: Vec<String> = (FIRST..=LAST).zip(self.refused).map(|(q, n)| format!("{q}: {n}")).collect();
-        println!("merge: refused {}", refused.join(", "));
     }
 
-    /// Whether every verdict, every number of tracks, every refusal and some ties were there.
+    /// Whether every verdict, every number of tracks, every pairing and some ties were there.
     fn is_whole(&self) -> bool {
-        let counts =
-            [&self.verdicts[..], &self.rows, &self.pairs, &self.refused, &[self.with_ties, self.tried]].concat();
+        let counts = [&self.verdicts[..], &self.rows, &self.pairs, &[self.with_ties, self.tried]].concat();
         counts.iter().all(|n| *n > 0)
     }
 }
@@ -85,36 +127,43 @@ struct Compared {
 }
 
 impl Compared {
-    /// One merge: its answer, its rows and the memory around them. The lists are lent as given.
-    fn merge(&mut self, case: &Case, lent: [&[u8]; 3]) -> Result<Merged, u32> {
-        let wanted = merge(case.slices(), case.within, case.room, by_size);
-        let mut memory = vec![BYTE; case.room + 2 * GUARD];
-        let [mut full, mut half, mut single] = [NUMBER; 3];
-        let rows = &mut memory[GUARD..GUARD + case.room];
+    /// One merge: its answer, its rows and all other memory.
+    fn merge(&mut self, case: &Case) -> Result<Merged, u32> {
+        let [mut base, mut ours, mut theirs] = case.slices().map(Lent::holding);
+        let mut rows = Lent::<u8>::marked(case.room);
+        let [mut full, mut half, mut single] = [0; 3].map(|_| Lent::<usize>::marked(1));
+        let lists = [base.slice(), ours.slice(), theirs.slice()];
         let within = (case.within.floor, case.within.gate);
-        let number = ffi::merge(lent, within, rows, [&mut full, &mut half, &mut single]);
+        let mut number = ffi::merge(lists, within, rows.slice_mut(), [full.one(), half.one(), single.one()]);
 
-        let mut memory_wanted = vec![BYTE; memory.len()];
-        let answer_wanted = match &wanted {
-            Ok(merged) => {
-                checks::whole(merged, [0, 1, 2].map(|list| case.lists[list][0] as usize));
-                self.seen.answered(merged);
-                let rows = merged.rows.as_flattened();
-                memory_wanted[GUARD..GUARD + rows.len()].copy_from_slice(rows);
-                (0, merged.full, merged.half, merged.single)
-            }
-            Err(number) => {
-                self.merges.refused();
-                self.seen.refused[(*number - FIRST) as usize] += 1;
-                (*number, NUMBER, NUMBER, NUMBER)
-            }
+        let wanted = merge(case.slices(), case.within, case.room, by_size);
+        let (number_wanted, rows_wanted) = match &wanted {
+            Ok(merged) => (0, merged.rows.as_flattened()),
+            Err(number) => (*number, &[][..]),
         };
-        let answer = (number, full, half, single);
-        self.merges.case(answer == answer_wanted && memory == memory_wanted, || {
+        faults::plant(MERGE, || Met {
+            number: &mut number,
+            also: unmet(case),
+            reads: vec![&mut base, &mut ours, &mut theirs],
+            writes: vec![(&mut rows, rows_wanted.len()), (&mut full, 1), (&mut half, 1), (&mut single, 1)],
+        });
+        let counts: Vec<usize> = wanted.iter().flat_map(|merged| [merged.full, merged.half, merged.single]).collect();
+        let told = [&full, &half, &single].into_iter().enumerate();
+        let agrees = number == number_wanted
+            && rows.begins_with(rows_wanted)
+            && told.clone().all(|(at, count)| count.begins_with(counts.get(at..at + 1).unwrap_or_default()));
+        let kept = [&base, &ours, &theirs].into_iter().all(Lent::is_untouched);
+        if let Ok(merged) = &wanted {
+            checks::whole(merged, [0, 1, 2].map(|list| case.lists[list][0] as usize));
+            self.seen.answered(merged);
+        }
+        self.merges.refused(number_wanted);
+        self.merges.case(agrees && kept, || {
+            let counts_told: Vec<usize> = told.map(|(_, count)| count.slice()[0]).collect();
             format!(
-                "answers {answer:?}, rows {:?}, not {answer_wanted:?}, {:?}\n    {}",
-                &memory[GUARD..GUARD + case.room],
-                wanted.as_ref().map_or(&[][..], |merged| merged.rows.as_flattened()),
+                "answers {number}, {counts_told:?}, rows {:?}, not {number_wanted}, {counts:?}, {rows_wanted:?}, the lists {}\n    {}",
+                rows.slice(),
+                if kept { "stay" } else { "are changed" },
                 case.describe()
             )
         });
@@ -125,26 +174,47 @@ impl Compared {
     fn one_list(&mut self, mut case: Case) {
         case.lists = [0, 1, 2].map(|_| case.lists[0].clone());
         case.room = 4 * 3 * COUNTS;
-        let _ = self.merge(&case, [&case.lists[0]; 3]);
+        let (list, mut rows) = (Lent::holding(&case.lists[0]), Lent::<u8>::marked(case.room));
+        let [mut full, mut half, mut single] = [0; 3];
+        let within = (case.within.floor, case.within.gate);
+        let number = ffi::merge([list.slice(); 3], within, rows.slice_mut(), [&mut full, &mut half, &mut single]);
+        let wanted = merge(case.slices(), case.within, case.room, by_size).expect("a good list");
+        let agrees = (number, full, half, single) == (0, wanted.full, wanted.half, wanted.single)
+            && rows.begins_with(wanted.rows.as_flattened())
+            && list.is_untouched();
+        self.merges.refused(0);
+        self.merges.case(agrees, || format!("one list three times: {}", case.describe()));
     }
 
     /// The winner's place for a row.
     fn winner(&mut self, case: &Case, row: &[u8]) {
-        let (mut list, mut start, mut length) = (u32::MAX, NUMBER, NUMBER);
-        ffi::winner(&case.lists[1], &case.lists[2], row, &mut list, &mut start, &mut length);
+        let [mut ours, mut theirs, mut lent] = [&case.lists[1], &case.lists[2], row].map(Lent::holding);
+        let mut list = Lent::<u32>::marked(1);
+        let [mut start, mut length] = [0; 2].map(|_| Lent::<usize>::marked(1));
+        ffi::winner(ours.slice(), theirs.slice(), lent.slice(), list.one(), start.one(), length.one());
         let wanted = winner(&case.lists[1], &case.lists[2], row);
+        let mut number = 0;
+        faults::plant(WINNER, || Met {
+            number: &mut number,
+            also: vec![],
+            reads: vec![&mut ours, &mut theirs, &mut lent],
+            writes: vec![(&mut list, 1), (&mut start, 1), (&mut length, 1)],
+        });
         if wanted.0 == 0 {
-            self.winners.refused();
+            self.winners.empty();
         }
-        let answer = (list, start, length);
-        self.winners.case(answer == wanted, || {
-            format!("row {row:?}: answers {answer:?}, not {wanted:?}\n    {}", case.describe())
+        let agrees =
+            list.begins_with(&[wanted.0]) && start.begins_with(&[wanted.1]) && length.begins_with(&[wanted.2]);
+        let kept = [&ours, &theirs, &lent].into_iter().all(Lent::is_untouched);
+        self.winners.case(agrees && kept, || {
+            let answer = (list.slice()[0], start.slice()[0], length.slice()[0]);
+            format!("row {row:?}: answers {answer:?}, not {wanted:?}, or other memory\n    {}", case.describe())
         });
     }
 
     /// A merge, and the winners of some of its rows and of some other bytes.
     fn case(&mut self, rng: &mut Rng, case: &Case) {
-        let merged = self.merge(case, case.slices());
+        let merged = self.merge(case);
         let rows = merged.map_or(Vec::new(), |merged| merged.rows);
         for _ in 0..rows.len().min(4) {
             self.winner(case, &rng.one_of(&rows));
@@ -157,21 +227,34 @@ impl Compared {
     }
 }
 
-/// Runs all of it, and answers the number of differences.
-pub fn run(long: bool) -> u64 {
-    checks::run();
-    let mut compared = Compared { merges: Tally::new("merge"), winners: Tally::new("winner"), seen: Seen::default() };
+/// So many merges are drawn in the quick form, and in the long one.
+pub fn amount(long: bool) -> u32 {
+    if long {
+        300_000
+    } else {
+        5_000
+    }
+}
+
+/// Merges of every count and dimension, or of some, then so many of all kinds; answers the number of differences.
+pub fn run(amount: u32, every: bool) -> u64 {
+    let mut compared = Compared {
+        merges: Tally::refusing(MERGE, REFUSES, u64::from(amount / 200)),
+        winners: Tally::new(WINNER),
+        seen: Seen::default(),
+    };
     let mut rng = Rng::new(37);
     for d in 1..=DIMENSIONS {
         // Large merges of a high dimension take milliseconds.
-        let step = if long || d <= 3 { 1 } else { 8 };
+        let step = if every || d <= 3 { 1 } else { 8 };
         for n in (0..=COUNTS).step_by(step) {
             let case = draw_of(&mut rng, d, n);
             compared.case(&mut rng, &case);
             compared.one_list(case);
         }
+        compared.merges.done(d, DIMENSIONS);
     }
-    for turn in 0..if long { 300_000 } else { 5_000 } {
+    for turn in 0..amount {
         let mut case = draw(&mut rng);
         match turn % 8 {
             0 => turn_bit(&mut rng, &mut case),
@@ -186,11 +269,15 @@ pub fn run(long: bool) -> u64 {
             _ => {}
         }
         compared.case(&mut rng, &case);
+        compared.merges.done(turn as usize + 1, amount as usize);
+    }
+    if tally::is_quiet() {
+        return 0;
     }
     compared.seen.print();
     let missed = u64::from(!compared.seen.is_whole());
     if missed != 0 {
-        println!("merge: a verdict, a pairing, a tie or a refusal was never met");
+        println!("merge: a verdict, a pairing or a tie was never met");
     }
-    compared.merges.close() + compared.winners.close() + missed + program::run(if long { 2_000 } else { 300 })
+    compared.merges.close() + compared.winners.close() + missed
 }
