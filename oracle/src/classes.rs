@@ -28,6 +28,7 @@ pub const CLASSES: &[Named] = &[
     ("permuted triangular", permuted_triangular),
     ("hilbert", hilbert),
     ("at the least scale", least_scale),
+    ("rows at both ends", rows_at_both_ends),
 ];
 
 fn each(m: &mut [f64], mut entry: impl FnMut() -> f64) {
@@ -194,6 +195,24 @@ fn least_scale(rng: &mut Rng, _: usize, m: &mut [f64]) {
         1 => 1e-151 * sign,
         _ => f64::from_bits(1e-150f64.to_bits() + rng.below(5) - 2) * sign,
     });
+}
+
+/// Rows about the least scale that counts and about the greatest number: quotients overflow. At times the first pivots stand alone,
+/// so that their product has vanished when a later one is infinite.
+fn rows_at_both_ends(rng: &mut Rng, cols: usize, m: &mut [f64]) {
+    each(m, || rng.one_of(&[0.0, 1.0, 1.0, -1.0, 0.5]));
+    let rows = m.len() / cols;
+    let alone = if rng.below(2) == 0 { rows.min(cols).saturating_sub(2) } else { 0 };
+    for (i, row) in m.chunks_mut(cols).enumerate() {
+        let scale = rng.one_of(&[1e-150, 1e-149, 1e-100, 1e300, 1e308]);
+        if i < alone {
+            row.fill(0.0);
+            row[i] = 1e-150;
+        } else {
+            row[..alone].fill(0.0);
+            each_of(row, |x| x * scale);
+        }
+    }
 }
 
 fn each_of(row: &mut [f64], to: impl Fn(f64) -> f64) {

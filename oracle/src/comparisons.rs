@@ -4,7 +4,7 @@ use crate::faults::{self, Kind, Met, Shape};
 use crate::ffi;
 use crate::lent::Lent;
 use crate::rng::Rng;
-use crate::symmetric::SYMMETRIC;
+use crate::symmetric::{mirrored, SYMMETRIC};
 use crate::tally::{self, Tally};
 use nolan::flat::{at, Given};
 
@@ -137,15 +137,28 @@ pub fn draw(rng: &mut Rng, class: &Named, n: usize) -> (Pair, f64) {
 }
 
 /// An indefinite joint covariance with rows and columns of different sizes, and a floor that is lost beside its greatest entry: the
-/// repair is singular but for its rounding, so that squared distances below 0 are found, too.
+/// repair is singular but for its rounding, so that squared distances below 0 are found, too. Those are most frequent at side 3 with
+/// zeros on the diagonal; so at times such a block stands among tracks' entries that do not differ.
 fn thin(rng: &mut Rng, n: usize) -> (Pair, f64) {
+    let block = n >= 3 && rng.below(3) != 0;
+    let (from, to) = if block {
+        let from = rng.below(n as u64 - 2) as usize;
+        (from, from + 3)
+    } else {
+        (0, n)
+    };
+    let within = |i: usize| (from..to).contains(&i);
     let scales: Vec<f64> = (0..n).map(|_| f64::powi(10.0, rng.below(7) as i32 - 3)).collect();
     let mut p_i = vec![0.0; n * n];
-    (SYMMETRIC[0].1)(rng, n, &mut p_i);
-    p_i.iter_mut().enumerate().for_each(|(at, x)| *x *= scales[at / n] * scales[at % n]);
+    mirrored(&mut p_i, n, |i, j| match (within(i) && within(j), i == j) {
+        (true, true) if block => 0.0,
+        (true, _) => rng.unit() * scales[i] * scales[j],
+        (false, true) => 1.0,
+        _ => 0.0,
+    });
     let greatest = p_i.iter().fold(0.0, |g: f64, x| g.max(x.abs()));
-    let floor = rng.one_of(&[1e-18, 1e-16, 1e-15]) * greatest;
-    let x = (0..n).map(|_| rng.unit()).collect();
+    let floor = rng.one_of(if block { &[1e-20, 1e-18] } else { &[1e-18, 1e-16] }) * greatest;
+    let x = (0..n).map(|i| if within(i) { rng.unit() } else { 0.0 }).collect();
     (Pair { mu: vec![0.0; n], x, p_i, p_j: vec![0.0; n * n] }, floor)
 }
 
@@ -250,15 +263,16 @@ pub fn run(count: usize) -> u64 {
         tally.done(n, 16);
     }
     let Kinds { near, far, refused, repair, inverse, infinite, negative } = kinds;
+    if tally::is_quiet() {
+        return tally.close();
+    }
     let rare = [near, far, repair, inverse, infinite, negative].iter().any(|met| *met < LEAST);
-    if !tally::is_quiet() {
-        println!(
-            "compare: {near} near, {far} far, {} without a distance ({repair} no repair, {inverse} no inverse, {infinite} not finite, {negative} below 0), {refused} refused",
-            repair + inverse + infinite + negative
-        );
-        if rare {
-            println!("compare: a kind of answer was met fewer than {LEAST} times");
-        }
+    println!(
+        "compare: {near} near, {far} far, {} without a distance ({repair} no repair, {inverse} no inverse, {infinite} not finite, {negative} below 0), {refused} refused",
+        repair + inverse + infinite + negative
+    );
+    if rare {
+        println!("compare: a kind of answer was met fewer than {LEAST} times");
     }
     tally.close() + u64::from(rare)
 }

@@ -126,7 +126,10 @@ pub fn run(long: bool) -> u64 {
         let mut case = draw(&mut rng);
         match turn % 4 {
             0 => turn_bit(&mut rng, &mut case),
-            1 | 2 => fault(&mut rng, &mut case, REFUSES[turn as usize / 4 % REFUSES.len()]),
+            1 | 2 => {
+                let list = rng.below(3) as usize;
+                fault(&mut rng, &mut case, list, REFUSES[turn as usize / 4 % REFUSES.len()]);
+            }
             _ => {}
         }
         case.lists[0].resize(

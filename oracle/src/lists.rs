@@ -134,7 +134,8 @@ const LEAST: u64 = 100;
 /// What the three calls are lent. The values of a list are finite.
 pub fn shapes() -> [Shape; 3] {
     let values = Kind::Doubles { slice: true, nan: false, zero: true };
-    let none = Shape { name: "", reads: 1, writes: vec![], partly: vec![], refuses: &[], orders: vec![], others: vec![] };
+    let none =
+        Shape { name: "", reads: 1, writes: vec![], partly: vec![], refuses: &[], orders: vec![], others: vec![] };
     [
         Shape {
             name: READ_LIST,
@@ -435,22 +436,6 @@ pub fn amount(long: bool) -> Amount {
 pub fn run(amount: &Amount) -> u64 {
     let mut rng = Rng::new(7);
     let mut compared = Compared::new();
-    for dimension in 1..=DIMENSIONS {
-        for count in 0..=COUNTS {
-            for _ in 0..amount.each {
-                let values = tracks(&mut rng, count, dimension);
-                compared.good(&write(count, dimension, &values).unwrap());
-            }
-        }
-        compared.reads.done(dimension, DIMENSIONS);
-    }
-    for turn in 0..amount.damaged {
-        let list = good_list(&mut rng);
-        if list.len() < 600 {
-            damaged(&mut compared, &mut rng, &list);
-        }
-        compared.reads.done(turn + 1, amount.damaged);
-    }
     for turn in 0..amount.random {
         let list = random_bytes(&mut rng);
         compared.any(&list, &mut rng);
@@ -459,6 +444,22 @@ pub fn run(amount: &Amount) -> u64 {
     for turn in 0..amount.refused_writes {
         refused_writes(&mut compared, &mut rng);
         compared.writes.done(turn + 1, amount.refused_writes);
+    }
+    for turn in 0..amount.damaged {
+        let list = good_list(&mut rng);
+        if list.len() < 600 {
+            damaged(&mut compared, &mut rng, &list);
+        }
+        compared.reads.done(turn + 1, amount.damaged);
+    }
+    for dimension in 1..=DIMENSIONS {
+        for count in 0..=COUNTS {
+            for _ in 0..amount.each {
+                let values = tracks(&mut rng, count, dimension);
+                compared.good(&write(count, dimension, &values).unwrap());
+            }
+        }
+        compared.reads.done(dimension, DIMENSIONS);
     }
     short_lists(&mut compared, &mut rng, if amount.all_short { 3 } else { 2 });
     compared.reads.close() + compared.writes.close() + compared.records.close()

@@ -220,7 +220,7 @@ const CALLS: &[Call] = &[
         ours: |g, s, out| ffi::mat_cholesky(g.slices[0], s[0], out[0]),
         theirs: at::mat_cholesky,
         refuses: &[1, 2, 7],
-        never: &[],
+        never: &[Never::Nan(0)],
     },
     Call {
         name: "tikhonov",
@@ -270,7 +270,7 @@ const CALLS: &[Call] = &[
         ours: |g, s, out| ffi::row_inf_norms(g.slices[0], s[0], out[0]),
         theirs: at::row_inf_norms,
         refuses: &[1, 2],
-        never: &[],
+        never: &[Never::Nan(0)],
     },
     Call {
         name: "mat_solve",
@@ -307,7 +307,9 @@ const CALLS: &[Call] = &[
         sides: one_side,
         reads: |s| vec![(1, s[0]), (1, s[0]), (s[0], s[0])],
         writes: |_| vec![Number],
-        ours: |g, s, out| ffi::mahalanobis_distance_squared(g.slices[0], g.slices[1], g.slices[2], s[0], &mut out[0][0]),
+        ours: |g, s, out| {
+            ffi::mahalanobis_distance_squared(g.slices[0], g.slices[1], g.slices[2], s[0], &mut out[0][0])
+        },
         theirs: at::mahalanobis_distance_squared,
         refuses: &[1, 2, 5, 6],
         never: &[],
@@ -450,7 +452,11 @@ fn answers(group: &Group, call: &Call, tally: &mut Tally, rng: &mut Rng, sides: 
             }
             let wanted = (wanted, &result[..]);
             let slices = &slices;
-            compare(call, tally, &Case { sides, slices, number, limits, lengths: &lengths, wanted, also: &also, class });
+            compare(
+                call,
+                tally,
+                &Case { sides, slices, number, limits, lengths: &lengths, wanted, also: &also, class },
+            );
         }
     }
 }
@@ -595,11 +601,9 @@ pub fn shape(call: &Call) -> Shape {
         let can = |never: Never| !call.never.contains(&never);
         match part {
             Whole => Kind::Whole,
-            _ => Kind::Doubles {
-                slice: matches!(part, Slice(_)),
-                nan: can(Never::Nan(at)),
-                zero: can(Never::Zero(at)),
-            },
+            _ => {
+                Kind::Doubles { slice: matches!(part, Slice(_)), nan: can(Never::Nan(at)), zero: can(Never::Zero(at)) }
+            }
         }
     };
     let pairs = call.refuses.iter().flat_map(|first| call.refuses.iter().map(move |later| (*first, *later)));

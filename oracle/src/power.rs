@@ -1,7 +1,7 @@
 //! The calls that iterate with powers of a matrix: how they are compared, and classes of matrices that they are sensitive to.
 use crate::classes::Named;
 use crate::ffi;
-use crate::matrix::{one_side, square, Call, Part::*};
+use crate::matrix::{one_side, square, Call, Never, Part::*};
 use crate::rng::Rng;
 use crate::symmetric::{covariance, mirrored};
 use nolan::flat::at;
@@ -39,7 +39,7 @@ pub const ITERATING: &[Call] = &[
         ours: |g, s, out| ffi::condition_number(g.slices[0], s[0], &mut out[0][0]),
         theirs: at::condition_number,
         refuses: &[1, 2],
-        never: &[],
+        never: &[Never::Nan(0), Never::Zero(0)],
     },
     Call {
         name: "tikhonov_with_report",
@@ -53,7 +53,7 @@ pub const ITERATING: &[Call] = &[
         },
         theirs: at::tikhonov_with_report,
         refuses: &[1, 2],
-        never: &[],
+        never: &[Never::Nan(1), Never::Zero(1), Never::Nan(2), Never::Zero(2)],
     },
 ];
 

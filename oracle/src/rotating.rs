@@ -2,7 +2,7 @@
 use crate::classes::Class;
 use crate::ffi::{self, Report};
 use crate::lent::Entry;
-use crate::matrix::{draw, one_side, square, Call, Part, Part::*};
+use crate::matrix::{draw, one_side, square, Call, Never, Part, Part::*};
 use crate::rng::Rng;
 use nolan::flat::{at, Given};
 
@@ -19,7 +19,7 @@ pub const ROTATING: &[Call] = &[
         },
         theirs: at::mat_symmetric_eigen,
         refuses: &[1, 2, 4],
-        never: &[],
+        never: &[Never::Nan(0), Never::Nan(1)],
     },
     Call {
         name: "nearest_psd",
@@ -29,7 +29,7 @@ pub const ROTATING: &[Call] = &[
         ours: |g, s, out| repair(ffi::nearest_psd, g, s[0], out),
         theirs: at::nearest_psd,
         refuses: &[1, 2, 3, 4],
-        never: &[],
+        never: &[Never::Nan(2)],
     },
     Call {
         name: "eigenvalue_floor",
@@ -39,7 +39,7 @@ pub const ROTATING: &[Call] = &[
         ours: |g, s, out| repair(ffi::eigenvalue_floor, g, s[0], out),
         theirs: at::eigenvalue_floor,
         refuses: &[1, 2, 3, 4],
-        never: &[],
+        never: &[Never::Nan(2)],
     },
 ];
 

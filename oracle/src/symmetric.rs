@@ -14,7 +14,9 @@ pub const SYMMETRIC: &[Named] = &[
     ("squares underflow", |rng, n, m| scaled(rng, n, m, &[1e-160, 1e-161, 1e-162, 1e-170])),
     ("steep angles", steep),
     ("nearly symmetric", nearly_symmetric),
-    ("sums overflow", |rng, n, m| mirrored(m, n, |_, _| rng.one_of(&[1.0, 1.0, -1.0]) * (1.0 + rng.unit().abs() * 0.7) * 1e308)),
+    ("sums overflow", |rng, n, m| {
+        mirrored(m, n, |_, _| rng.one_of(&[1.0, 1.0, -1.0]) * (1.0 + rng.unit().abs() * 0.7) * 1e308)
+    }),
 ];
 
 /// Fills a square matrix from its entries on and below the diagonal.

@@ -1,11 +1,11 @@
 //! Writes the frozen answers that the programs `*_vectors` replay: a program's input, and the lines that it must write.
 //! Every answer is the Rust's; the library is not asked.
 use crate::classes::CLASSES;
-use crate::lists;
 use crate::comparisons::{self, Kinds, Pair, BAD_FLOORS, BAD_GATES};
+use crate::lists;
 use crate::matrix::{refused, Call, Group, Part, GROUPS, ITERATED};
-use crate::power::limits;
 use crate::number::{powers_of_two, sample, special};
+use crate::power::limits;
 use crate::rng::Rng;
 use nolan::flat::Given;
 use nolan::traits::Differentiable;

@@ -6,9 +6,9 @@ use crate::rng::Rng;
 const BAD_FLOORS: &[f64] = &[0.0, -0.0, -5e-324, -1.0, f64::INFINITY, f64::NEG_INFINITY, f64::NAN];
 const BAD_GATES: &[f64] = &[-5e-324, -1.0, f64::INFINITY, f64::NEG_INFINITY, f64::NAN];
 
-/// The first and the last question that a merge can fail.
+/// The first question that a merge can fail, and how many there are.
 pub const FIRST: u32 = 9;
-pub const LAST: u32 = 19;
+pub const QUESTIONS: u32 = 11;
 
 /// Where a record of a good list starts, and its map's length; none where it has no track.
 fn some_record(rng: &mut Rng, list: &[u8]) -> Option<(usize, usize)> {
@@ -65,9 +65,9 @@ fn other_dimension(rng: &mut Rng, list: &[u8]) -> Vec<u8> {
     listed(&tracks, d)
 }
 
-/// One fault more in a merge that may have one already.
-pub fn fault(rng: &mut Rng, case: &mut Case, question: u32) {
-    let list = &mut case.lists[rng.below(3) as usize];
+/// One fault more in a merge that may have one already, in this list where it is a list's.
+pub fn fault(rng: &mut Rng, case: &mut Case, list: usize, question: u32) {
+    let list = &mut case.lists[list];
     match question {
         9..=16 if list.len() >= 2 => spoil(rng, list, question),
         9..=16 => {}

@@ -74,7 +74,8 @@ fn folder(rng: &mut Rng, turn: u32) -> Files {
         }
         1 => sized(rng, case),
         2 | 3 => {
-            fault(rng, &mut case, REFUSES[turn as usize / 10 % REFUSES.len()]);
+            let list = rng.below(3) as usize;
+            fault(rng, &mut case, list, REFUSES[turn as usize / 10 % REFUSES.len()]);
             files(case)
         }
         4 => {

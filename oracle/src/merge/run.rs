@@ -1,8 +1,8 @@
 //! The library's merge and winner beside the second merger.
 use super::cases::{draw, draw_of, Case};
-use super::damage::{fault, turn_bit, FIRST, LAST};
-use super::pairings::by_size;
 use super::checks;
+use super::damage::{fault, turn_bit, FIRST, QUESTIONS};
+use super::pairings::by_size;
 use super::reference::{merge, winner, Merged, Within};
 use crate::faults::{self, End, Fault, Kind, Met, Shape};
 use crate::ffi;
@@ -203,8 +203,7 @@ impl Compared {
         if wanted.0 == 0 {
             self.winners.empty();
         }
-        let agrees =
-            list.begins_with(&[wanted.0]) && start.begins_with(&[wanted.1]) && length.begins_with(&[wanted.2]);
+        let agrees = list.begins_with(&[wanted.0]) && start.begins_with(&[wanted.1]) && length.begins_with(&[wanted.2]);
         let kept = [&ours, &theirs, &lent].into_iter().all(Lent::is_untouched);
         self.winners.case(agrees && kept, || {
             let answer = (list.slice()[0], start.slice()[0], length.slice()[0]);
@@ -236,7 +235,7 @@ pub fn amount(long: bool) -> u32 {
     }
 }
 
-/// Merges of every count and dimension, or of some, then so many of all kinds; answers the number of differences.
+/// So many merges of all kinds, and then those of every count and dimension, or of some; answers the number of differences.
 pub fn run(amount: u32, every: bool) -> u64 {
     let mut compared = Compared {
         merges: Tally::refusing(MERGE, REFUSES, u64::from(amount / 200)),
@@ -244,6 +243,26 @@ pub fn run(amount: u32, every: bool) -> u64 {
         seen: Seen::default(),
     };
     let mut rng = Rng::new(37);
+    let question = |turn: u32| FIRST + turn % QUESTIONS;
+    for turn in 0..amount {
+        let mut case = draw(&mut rng);
+        match turn % 8 {
+            0 => turn_bit(&mut rng, &mut case),
+            1 => {
+                let list = rng.below(3) as usize;
+                fault(&mut rng, &mut case, list, question(turn / 8));
+            }
+            2 | 3 => {
+                let list = rng.below(3) as usize;
+                fault(&mut rng, &mut case, list, question(turn / 8));
+                let other = (list + 1 + rng.below(2) as usize) % 3;
+                fault(&mut rng, &mut case, other, question(turn / 8 / QUESTIONS));
+            }
+            _ => {}
+        }
+        compared.case(&mut rng, &case);
+        compared.merges.done(turn as usize + 1, amount as usize);
+    }
     for d in 1..=DIMENSIONS {
         // Large merges of a high dimension take milliseconds.
         let step = if every || d <= 3 { 1 } else { 8 };
@@ -253,23 +272,6 @@ pub fn run(amount: u32, every: bool) -> u64 {
             compared.one_list(case);
         }
         compared.merges.done(d, DIMENSIONS);
-    }
-    for turn in 0..amount {
-        let mut case = draw(&mut rng);
-        match turn % 8 {
-            0 => turn_bit(&mut rng, &mut case),
-            1 | 2 => {
-                let question = FIRST + (turn / 8 % (LAST - FIRST + 1));
-                fault(&mut rng, &mut case, question);
-                if turn % 8 == 2 {
-                    let other = FIRST + rng.below(u64::from(LAST - FIRST + 1)) as u32;
-                    fault(&mut rng, &mut case, other);
-                }
-            }
-            _ => {}
-        }
-        compared.case(&mut rng, &case);
-        compared.merges.done(turn as usize + 1, amount as usize);
     }
     if tally::is_quiet() {
         return 0;
