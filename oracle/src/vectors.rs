@@ -4,6 +4,10 @@ use crate::classes::CLASSES;
 use crate::comparisons::{self, Kinds, Pair, BAD_FLOORS, BAD_GATES};
 use crate::lists;
 use crate::matrix::{refused, Call, Group, Part, GROUPS, ITERATED};
+use crate::merge::cases::{draw_of, Case};
+use crate::merge::damage::{fault, FIRST, QUESTIONS};
+use crate::merge::pairings::by_size;
+use crate::merge::reference::{merge, winner, Merged};
 use crate::number::{powers_of_two, sample, special};
 use crate::power::limits;
 use crate::rng::Rng;
@@ -28,6 +32,14 @@ impl Frozen {
         for word in words {
             self.bytes.extend(word.to_le_bytes());
         }
+    }
+
+    /// The length of a record of so many numbers, this one included, in a block that holds all of it.
+    fn begin(&mut self, numbers: usize) {
+        if self.bytes.len() % BLOCK + 8 * numbers > BLOCK {
+            self.bytes.resize(self.bytes.len().next_multiple_of(BLOCK), 0);
+        }
+        self.words(&[numbers as u64]);
     }
 
     fn line(&mut self, name: &str, cases: usize) {
@@ -86,11 +98,7 @@ fn record(frozen: &mut Frozen, call: usize, sides: &[usize], given: &Given, numb
     let lengths = [length(0), length(1), length(2), result.len(), number as usize].map(|n| n as u64);
     let entries = given.slices.iter().copied().flatten().chain(result).map(|x| x.to_bits());
     let words: Vec<u64> = head.chain(lengths).chain(entries).collect();
-    let size = 8 * (words.len() + 1);
-    if frozen.bytes.len() % BLOCK + size > BLOCK {
-        frozen.bytes.resize(frozen.bytes.len().next_multiple_of(BLOCK), 0);
-    }
-    frozen.words(&[words.len() as u64 + 1]);
+    frozen.begin(words.len() + 1);
     frozen.words(&words);
 }
 
@@ -215,17 +223,23 @@ fn frozen_sides(call: &Call) -> Vec<Vec<usize>> {
 /// What stands in a buffer before a list is written.
 const BYTE_BEFORE: u8 = 0xA5;
 
-/// A record of the lists' program: its kind, six numbers at most, and its data, in parts that are filled up to whole words.
-fn list_record(frozen: &mut Frozen, kind: u64, named: &[usize], data: &[&[u8]]) {
+/// A record of lists: its kind, so many numbers more, those that are not given 0, and its data, in parts that are filled up to whole
+/// words.
+fn data_record(frozen: &mut Frozen, kind: u64, numbers: usize, given: &[u64], data: &[&[u8]]) {
     let parts = data.iter().map(|part| part.len().div_ceil(8)).sum::<usize>();
-    frozen.words(&[8 + parts as u64, kind]);
-    let mut six = [0; 6];
-    six[..named.len()].copy_from_slice(&named.iter().map(|n| *n as u64).collect::<Vec<u64>>());
-    frozen.words(&six);
+    frozen.begin(2 + numbers + parts);
+    let mut head = vec![0; numbers];
+    head[..given.len()].copy_from_slice(given);
+    frozen.words(&[kind]);
+    frozen.words(&head);
     for part in data {
         frozen.bytes.extend(*part);
         frozen.bytes.resize(frozen.bytes.len().next_multiple_of(8), 0);
     }
+}
+
+fn list_record(frozen: &mut Frozen, kind: u64, named: &[usize], data: &[&[u8]]) {
+    data_record(frozen, kind, 6, &named.iter().map(|n| *n as u64).collect::<Vec<u64>>(), data);
 }
 
 fn patterns(values: &[f64]) -> Vec<u8> {
@@ -288,12 +302,35 @@ fn track_lists() -> Frozen {
             listed.push(other);
         }
     }
+    // A stored field that is infinite, a NaN, or +0.0, in the first track and in the last.
+    for (_, _, _, list) in good.iter().filter(|(count, _, values, _)| *count > 0 && values.iter().all(|x| *x != 0.0)) {
+        for (at, pattern) in
+            [(list.len() - 8, 0x7FF0_0000_0000_0000u64), (list.len() - 8, 0xFFF8_0000_0000_0001), (list.len() - 8, 0)]
+        {
+            let mut other = list.clone();
+            other[at..at + 8].copy_from_slice(&pattern.to_le_bytes());
+            listed.push(other);
+        }
+    }
+    let told: Vec<u32> = listed.iter().filter_map(|list| lists::read(list).err()).collect();
+    assert!((9..=16).all(|question| told.contains(&question)), "a question that no frozen list fails");
+    let most: Vec<Vec<u8>> = (0..2)
+        .map(|turn| {
+            let values = if turn == 0 { vec![1.0; 64] } else { lists::tracks(&mut rng, 32, 1) };
+            lists::write(32, 1, &values).unwrap()
+        })
+        .collect();
+    for list in &most {
+        read_record(&mut frozen, list, 64);
+        read_record(&mut frozen, &list[..list.len() - 1], 64);
+        read_record(&mut frozen, list, 63);
+    }
     for list in &listed {
         let needed = lists::read(list).map_or(3, |read| read.values.len());
         let room = rng.one_of(&[needed, needed, needed + 1, needed.saturating_sub(1)]);
         read_record(&mut frozen, list, room);
     }
-    frozen.lines.push_str(&format!("{} lists read, 0 differences\n", listed.len()));
+    frozen.lines.push_str(&format!("{} lists read, 0 differences\n", listed.len() + 3 * most.len()));
 
     let mut writes = 0;
     for (count, dimension, values, list) in &good {
@@ -301,6 +338,10 @@ fn track_lists() -> Frozen {
             write_record(&mut frozen, *count, *dimension, values, room);
             writes += 1;
         }
+    }
+    for list in &most {
+        write_record(&mut frozen, 32, 1, &lists::read(list).unwrap().values, list.len() + 1);
+        writes += 1;
     }
     let infinite = [f64::NEG_INFINITY, 1.0];
     for (count, dimension, values) in
@@ -322,6 +363,15 @@ fn track_lists() -> Frozen {
             records += 1;
         }
     }
+    for list in &most {
+        let read = lists::read(list);
+        let starts = read.as_ref().unwrap().starts.clone();
+        for offset in [starts[0], starts[31], starts[32], starts[31] + 1] {
+            let part = lists::record(list, &read, offset);
+            list_record(&mut frozen, 2, &[list.len(), offset, part.len()], &[list]);
+            records += 1;
+        }
+    }
     frozen.lines.push_str(&format!("{} records handed out, 0 differences\n", records));
 
     let mut compared = 0;
@@ -336,9 +386,106 @@ fn track_lists() -> Frozen {
     frozen
 }
 
+/// A merge with its rows, counts and untouched bytes.
+fn merge_record(frozen: &mut Frozen, case: &Case, answer: &Result<Merged, u32>) {
+    let mut rows = vec![BYTE_BEFORE; case.room];
+    let (told, full, half, single) = match answer {
+        Ok(merged) => {
+            let written = merged.rows.as_flattened();
+            rows[..written.len()].copy_from_slice(written);
+            (0, merged.full, merged.half, merged.single)
+        }
+        Err(number) => (*number, 0, 0, 0),
+    };
+    let [base, ours, theirs] = case.slices();
+    let lengths = [base.len(), ours.len(), theirs.len()].map(|n| n as u64);
+    let within = [case.within.floor.to_bits(), case.within.gate.to_bits(), case.room as u64, u64::from(told)];
+    let given = [&lengths[..], &within, &[full, half, single].map(|n| n as u64)].concat();
+    data_record(frozen, 0, 10, &given, &[base, ours, theirs, &rows]);
+}
+
+/// The winner of a row.
+fn winner_record(frozen: &mut Frozen, case: &Case, row: [u8; 4]) {
+    let [_, ours, theirs] = case.slices();
+    let (list, start, length) = winner(ours, theirs, &row);
+    let row = u64::from(u32::from_le_bytes(row));
+    let given = [ours.len() as u64, theirs.len() as u64, row, u64::from(list), start as u64, length as u64];
+    data_record(frozen, 1, 10, &given, &[ours, theirs]);
+}
+
+/// The longest row buffer that a frozen merge is lent.
+const MOST_ROOM: usize = 400;
+
+/// Merges of every dimension, of few tracks and of up to 32; each refusal; two faults at once.
+fn merge_cases(rng: &mut Rng) -> Vec<Case> {
+    let mut cases = Vec::new();
+    for d in 1..=lists::DIMENSIONS {
+        for n in [0, 1, 1, 1, 2, 2, 2, 3, 3] {
+            cases.push(draw_of(rng, d, n));
+        }
+    }
+    for n in [5, 8, 12, 16, 24, 31, 32, 32, 32] {
+        cases.push(draw_of(rng, 1, n));
+    }
+    cases.push(draw_of(rng, 2, 32));
+    cases.push(draw_of(rng, 3, 32));
+    for turn in 0..10 * QUESTIONS {
+        let (d, n) = (1 + turn as usize % 3, 1 + rng.below(2) as usize);
+        let mut case = draw_of(rng, d, n);
+        fault(rng, &mut case, turn as usize / 11 % 3, FIRST + turn % QUESTIONS);
+        if turn >= 7 * QUESTIONS {
+            let other = FIRST + rng.below(u64::from(QUESTIONS)) as u32;
+            let list = rng.below(3) as usize;
+            fault(rng, &mut case, list, other);
+        }
+        cases.push(case);
+    }
+    for case in &mut cases {
+        case.room = case.room.min(MOST_ROOM);
+    }
+    cases
+}
+
+/// Frozen merges, and the winners of some rows. Every verdict, every refusal and some ties are there.
+fn merging() -> Frozen {
+    let mut rng = Rng::new(59);
+    let mut frozen = Frozen::new();
+    let cases = merge_cases(&mut rng);
+    let answers: Vec<Result<Merged, u32>> =
+        cases.iter().map(|case| merge(case.slices(), case.within, case.room, by_size)).collect();
+    let mut winners = Vec::new();
+    for (case, answer) in cases.iter().zip(&answers) {
+        merge_record(&mut frozen, case, answer);
+        let small = case.lists.iter().map(Vec::len).sum::<usize>() < 400;
+        let rows = answer.as_ref().map_or(&[][..], |merged| &merged.rows);
+        let other =
+            [rng.one_of(&[0, 255]), rng.one_of(&[0, 1, 32, 255]), rng.one_of(&[0, 1, 32]), rng.one_of(&[1, 2, 5])];
+        if small {
+            winners.extend(rows.iter().take(2).chain([&other]).map(|row| (case, *row)));
+        }
+    }
+    for (case, row) in &winners {
+        winner_record(&mut frozen, case, *row);
+    }
+    let answered = || answers.iter().filter_map(|answer| answer.as_ref().ok());
+    let verdicts: Vec<u8> = answered().flat_map(|merged| merged.rows.iter().map(|row| row[3])).collect();
+    let refused: Vec<u32> = answers.iter().filter_map(|answer| answer.as_ref().err().copied()).collect();
+    assert!((0..5).all(|verdict| verdicts.contains(&verdict)), "a verdict that no frozen merge has");
+    assert!((0..QUESTIONS).all(|at| refused.contains(&(FIRST + at))), "a question that no frozen merge fails");
+    assert!(answered().any(|merged| merged.pairings.iter().any(|pairing| pairing.ties() > 0)), "no tie");
+    frozen.lines.push_str(&format!("{} merges, 0 differences\n", cases.len()));
+    frozen.lines.push_str(&format!("{} winners, 0 differences\n", winners.len()));
+    frozen
+}
+
 /// The programs, each with its frozen answers.
-fn all() -> [(&'static str, Frozen); 3] {
-    [("number_vectors", numbers()), ("kernel_vectors", matrices()), ("tracks_vectors", track_lists())]
+fn all() -> [(&'static str, Frozen); 4] {
+    [
+        ("number_vectors", numbers()),
+        ("kernel_vectors", matrices()),
+        ("tracks_vectors", track_lists()),
+        ("merge_vectors", merging()),
+    ]
 }
 
 pub fn write() {

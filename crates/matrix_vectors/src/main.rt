@@ -80,7 +80,7 @@ fn answer(s: &[u8], call: usize, a: &[f64], b: &[f64], c: &[f64], out: &mut [f64
         return comparison::compared(a, b, c, n, x, out);
     }
     if SPECTRAL <= call {
-        return spectral::answer(call, n, x, a, out);
+        return spectral::answer(call, k, n, x, a, out);
     }
     if SOLVING <= call {
         return solving::answer(call, a, b, c, n, out);

@@ -42,13 +42,13 @@ fn lesser(a: usize, b: usize) -> usize
     b
 }
 
-// The eigenvalues, and after them the vectors, into out, which no record has longer than ENTRIES.
-fn eigenpairs(a: &[f64], n: usize, out: &mut [f64]) -> u64 {
+// The eigenvalues, and after them the vectors, into out, which no record has longer than ENTRIES: so many of it are lent for the values.
+fn eigenpairs(a: &[f64], n: usize, lent: usize, out: &mut [f64]) -> u64 {
     let size = out.len();
     if ENTRIES < size {
         return u64::MAX;
     }
-    let front = lesser(n, size);
+    let front = lesser(lent, size);
     let rest = size - front;
     let mut values = [BEFORE; ENTRIES];
     let mut vectors = [BEFORE; ENTRIES];
@@ -114,11 +114,11 @@ fn reported(repaired: Repaired, to: &mut [f64]) -> u64 {
     }
 }
 
-// The answer's number: 0, or the question that is not met.
-pub(crate) fn answer(call: usize, n: usize, x: f64, a: &[f64], out: &mut [f64]) -> u64 {
+// The answer's number: 0, or the question that is not met. Side k is the length of the eigensolver's values.
+pub(crate) fn answer(call: usize, k: usize, n: usize, x: f64, a: &[f64], out: &mut [f64]) -> u64 {
     let part = matrix_part(out.len());
     match call {
-        22 => eigenpairs(a, n, out),
+        22 => eigenpairs(a, n, k, out),
         23 => {
             let repaired = regularize::nearest_psd(a, x, n, &mut out[..part]);
             reported(repaired, &mut out[part..])

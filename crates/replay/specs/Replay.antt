@@ -1,10 +1,10 @@
--- Doubles by their bit patterns.
+-- Doubles by their bit patterns, and bytes that are compared with frozen ones.
 use Prim.Native.Nat.{ℕ, _+_}
 use mathlib.Core.Bool.{Bool, true, cond, _&&_}
 use mathlib.Core.List.{List, [], _∷_}
 use lib.Dec.{eqb, leb}
 use lib.Ieee.{Float, binary64, isNan, nanBits, toBits}
-use lib.ListN.{length}
+use lib.ListN.{length, getD}
 use Rattle.kernel.specs.Bytes.{word}
 
 -- Whether x is the double with the bit pattern p: any NaN is any NaN.
@@ -22,3 +22,13 @@ sameFrom s at (x ∷ values) = leb (at + 8) (length s) && (same x (word s at) &&
 unfoldable pub allSame : List Float → List ℕ → Bool
 unfolding sameFrom
 allSame values s = sameFrom s 0 values
+
+-- Whether these bytes are those of b from an index on.
+unfoldable pub bytesFrom : List ℕ → ℕ → List ℕ → Bool
+bytesFrom b i [] = true
+bytesFrom b i (x ∷ a) = eqb x (getD b i 0) && bytesFrom b (i + 1) a
+
+-- Whether a and b have one length and the same bytes.
+unfoldable pub equalBytes : List ℕ → List ℕ → Bool
+unfolding bytesFrom
+equalBytes a b = eqb (length a) (length b) && bytesFrom b 0 a

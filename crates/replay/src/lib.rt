@@ -1,8 +1,8 @@
-// What the programs that replay frozen answers share: doubles by their bit patterns, and a count.
+// What the programs that replay frozen answers share: doubles by their bit patterns, bytes, and a count.
 ghost use mathlib.Core.Path.{_≡_};
 ghost use Prim.Native.Nat.{_+_, _%_, _^_};
 ghost use lib.Ieee.{binary64, ofBits};
-ghost use Rattle.replay.specs.Replay.{same, allSame};
+ghost use Rattle.replay.specs.Replay.{same, allSame, equalBytes};
 use kernel::bytes;
 use kernel::constants;
 
@@ -39,6 +39,21 @@ pub fn are_same(values: &[f64], s: &[u8]) -> bool
             return false;
         }
         at += 8;
+    }
+    true
+}
+
+// Whether a and b are the same bytes.
+pub fn same_bytes(a: &[u8], b: &[u8]) -> bool
+    ensures { λ r. ⌜ r ≡ equalBytes (now (a .entry)) (now (b .entry)) ⌝ }
+{
+    if a.len() != b.len() {
+        return false;
+    }
+    for i in 0..a.len() {
+        if a[i] != b[i] {
+            return false;
+        }
     }
     true
 }

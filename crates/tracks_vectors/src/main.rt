@@ -119,7 +119,7 @@ fn is_written(
             }
         }
     }
-    record::same_record(left, out)
+    replay::same_bytes(left, out)
 }
 
 // How many values, or bytes, a record lends.
@@ -181,7 +181,7 @@ fn hands_out(s: &[u8]) -> bool {
     if given.len() as u64 != named(s, 4) {
         return false;
     }
-    record::same_record(wanted, given)
+    replay::same_bytes(wanted, given)
 }
 
 // Kind 3, whether two records are equal: their lengths, and 1 for yes; the two.
