@@ -8,6 +8,9 @@ pub type Class = fn(&mut Rng, usize, &mut [f64]);
 /// A class with its name.
 pub type Named = (&'static str, Class);
 
+/// The sign and the fraction: the bits of a subnormal number.
+pub const SUBNORMAL: u64 = (1 << 63) | ((1 << 52) - 1);
+
 pub const CLASSES: &[Named] = &[
     ("random", random),
     ("whole", whole),
@@ -86,15 +89,15 @@ fn ill_conditioned(rng: &mut Rng, cols: usize, m: &mut [f64]) {
 
 /// Any exponent that keeps the entry finite and normal.
 fn tiny_and_huge(rng: &mut Rng, _: usize, m: &mut [f64]) {
-    each(m, || f64::from_bits(rng.bits() & (1 << 63 | (1 << 52) - 1) | (1 + rng.below(2046)) << 52));
+    each(m, || f64::from_bits((rng.bits() & SUBNORMAL) | (1 + rng.below(2046)) << 52));
 }
 
 fn subnormal(rng: &mut Rng, _: usize, m: &mut [f64]) {
     each(m, || match rng.below(4) {
         0 => rng.unit() * 1e-150,
-        1 => f64::from_bits(rng.bits() & (1 << 63 | (1 << rng.below(53)) - 1)),
+        1 => f64::from_bits(rng.bits() & ((1 << 63) | ((1 << rng.below(53)) - 1))),
         2 => rng.unit() * f64::MIN_POSITIVE,
-        _ => f64::from_bits(rng.bits() & (1 << 63 | (1 << 52) - 1)),
+        _ => f64::from_bits(rng.bits() & SUBNORMAL),
     });
 }
 

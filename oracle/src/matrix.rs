@@ -316,11 +316,14 @@ const CALLS: &[Call] = &[
     },
 ];
 
+/// The slices and the number of a case of a class, given the slices' rows and columns.
+pub type Draw = fn(&mut Rng, Class, &[(usize, usize)]) -> (Vec<Vec<f64>>, f64);
+
 /// Calls that are compared alike. Frozen answers name a call by its place among the calls of all groups, in this order.
 pub struct Group {
     pub calls: &'static [Call],
     pub classes: fn() -> Vec<Named>,
-    pub draw: fn(&mut Rng, Class, &[(usize, usize)]) -> (Vec<Vec<f64>>, f64),
+    pub draw: Draw,
     /// How many matrices of a class there are at each of so many sides, in the long form or not.
     pub count: fn(bool, usize) -> usize,
 }

@@ -113,9 +113,12 @@ fn unary(call: &Unary, count: u64) -> u64 {
 /// So many cases are a step of the progress that is told.
 const STEP: u64 = 1 << 20;
 
+/// A run with so many random patterns; it answers the number of differences.
+pub type Run = Box<dyn Fn(u64) -> u64>;
+
 /// The calls' names, each with how it is run with so many random patterns.
-pub fn calls() -> Vec<(&'static str, Box<dyn Fn(u64) -> u64>)> {
-    let mut all: Vec<(&'static str, Box<dyn Fn(u64) -> u64>)> = Vec::new();
+pub fn calls() -> Vec<(&'static str, Run)> {
+    let mut all: Vec<(&'static str, Run)> = Vec::new();
     for call in UNARY {
         all.push((call.0, Box::new(|count| unary(call, count))));
     }

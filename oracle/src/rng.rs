@@ -17,7 +17,7 @@ impl Rng {
 
     /// A number below `n`.
     pub fn below(&mut self, n: u64) -> u64 {
-        (self.bits() as u128 * n as u128 >> 64) as u64
+        ((self.bits() as u128 * n as u128) >> 64) as u64
     }
 
     /// A double from -1 to 1.

@@ -1,5 +1,5 @@
 //! The calls that rotate, which are compared on symmetric matrices too, and the floors that repairs are given.
-use crate::classes::Class;
+use crate::classes::{Class, SUBNORMAL};
 use crate::ffi::{self, Report};
 use crate::lent::Entry;
 use crate::matrix::{draw, one_side, square, Call, Never, Part, Part::*};
@@ -85,7 +85,7 @@ pub fn draw_floor(rng: &mut Rng, fill: Class, shapes: &[(usize, usize)]) -> (Vec
             eigenvalue(rng, shapes[0].1, &slices[0]).map_or(number, beside)
         }
         3 => rng.one_of(&[f64::NAN, f64::INFINITY, f64::NEG_INFINITY, 0.0, -0.0]),
-        4 => f64::from_bits(rng.bits() & (1 << 63 | (1 << 52) - 1)),
+        4 => f64::from_bits(rng.bits() & SUBNORMAL),
         5 => -rng.unit().abs() * rng.one_of(&[1.0, 1e-8, 1e3]),
         _ => number,
     };

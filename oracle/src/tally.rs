@@ -113,13 +113,13 @@ impl Tally {
             return self.differences;
         }
         let met = self.refused;
-        for number in 1..=LAST_QUESTION {
+        for (number, times) in met.into_iter().enumerate().skip(1) {
             let required = self.required.contains(&(number as u32));
-            if required && met[number] < self.least {
-                let least = self.least;
-                self.differs(|| format!("refused with {number} {} times, and should be {least} times", met[number]));
+            let least = self.least;
+            if required && times < least {
+                self.differs(|| format!("refused with {number} {times} times, and should be {least} times"));
             }
-            if !required && met[number] > 0 {
+            if !required && times > 0 {
                 self.differs(|| format!("refused with {number}, which document 01 does not ask"));
             }
         }

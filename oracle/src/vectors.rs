@@ -482,7 +482,7 @@ fn merging() -> Frozen {
 fn all() -> [(&'static str, Frozen); 4] {
     [
         ("number_vectors", numbers()),
-        ("kernel_vectors", matrices()),
+        ("matrix_vectors", matrices()),
         ("tracks_vectors", track_lists()),
         ("merge_vectors", merging()),
     ]

@@ -93,6 +93,10 @@ fn the_other_calls() {
     assert_eq!(out, [4.5, 2.0, 2.0, 3.5]);
     let (before, after) = kernel::tikhonov_with_report(&a, 0.0, 2, &mut out).unwrap();
     assert_eq!((before, out), (after, a));
+    // Eigenvalues 9 and 1 become 12 and 4: the condition number falls from 9 to 3.
+    let (before, after) = kernel::tikhonov_with_report(&[5.0, 4.0, 4.0, 5.0], 3.0, 2, &mut out).unwrap();
+    assert_eq!(out, [8.0, 4.0, 4.0, 8.0]);
+    assert!((before - 9.0).abs() < 1e-9 && (after - 3.0).abs() < 1e-9, "{before} and {after}");
     let lambda = kernel::mat_eigenvector_max(&[2.0, 0.0, 0.0, 2.0], 2, 0, 1e-9, &mut out[..2]).unwrap();
     assert!((lambda - 2.0).abs() < 1e-12);
     let three = [2.0, 0.0, 0.0, 0.0, 4.0, 0.0, 0.0, 0.0, 8.0];
@@ -118,6 +122,12 @@ fn numbers() {
     assert_eq!(kernel::vec_norm(&[3.0, 4.0], 2).unwrap(), 5.0);
     assert_eq!(kernel::mat_largest_singular_value(&[3.0], 1, 10, 1e-9).unwrap(), 3.0);
     assert_eq!(kernel::condition_number(&[5.0], 1).unwrap(), f64::INFINITY);
+    let condition = kernel::condition_number(&[5.0, 4.0, 4.0, 5.0], 2).unwrap();
+    assert!((condition - 9.0).abs() < 1e-9, "{condition}");
+    let diagonal = [1.0, 0.0, 0.0, 0.0, 2.0, 0.0, 0.0, 0.0, 8.0];
+    let condition = kernel::condition_number(&diagonal, 3).unwrap();
+    assert!((condition - 8.0).abs() < 1e-6, "{condition}");
+    assert_eq!(kernel::condition_number(&[1.0, 2.0, 2.0, 4.0], 2).unwrap(), f64::INFINITY);
     assert_eq!(kernel::max(f64::NAN, 1.0), 1.0);
     assert_eq!((kernel::abs(-2.0), kernel::value(-2.0), kernel::constant(0.5)), (2.0, -2.0, 0.5));
 }

@@ -6,22 +6,79 @@ fn number<T: std::fmt::Debug>(answer: Result<T, Refusal>) -> u32 {
     answer.unwrap_err().number()
 }
 
+/// The call refuses with this number, and leaves what it was lent alone.
+fn refuses<T: std::fmt::Debug>(wanted: u32, length: usize, call: impl FnOnce(&mut [f64]) -> Result<T, Refusal>) {
+    let mut out = vec![7.0; length];
+    assert_eq!(number(call(&mut out)), wanted);
+    assert_eq!(out, vec![7.0; length], "a refusal with {wanted} wrote");
+}
+
+/// A call on a square matrix of side n, and on a vector where it takes one, that writes so many entries at side 2.
+type Writing = (usize, fn(&[f64], usize, &mut [f64]) -> Result<(), Refusal>);
+
+const X: &[f64] = &[1.0, 2.0];
+
+const WRITING: &[Writing] = &[
+    (4, |a, n, out| kernel::mat_mul(a, a, n, n, n, out)),
+    (4, |a, n, out| kernel::mat_transpose(a, n, n, out)),
+    (4, |a, n, out| kernel::mat_ata(a, n, n, out)),
+    (4, |a, n, out| kernel::mat_symmetrize(a, n, out)),
+    (2, |a, n, out| kernel::mat_vec_mul(a, X, n, out)),
+    (4, |a, n, out| kernel::mat_cholesky(a, n, out)),
+    (4, |a, n, out| kernel::tikhonov(a, 0.5, n, out)),
+    (2, |a, n, out| kernel::row_inf_norms(a, n, out)),
+    (2, |a, n, out| kernel::mat_solve(a, X, n, out)),
+    (4, |a, n, out| kernel::mat_inv(a, n, out)),
+    (4, |a, n, out| kernel::nearest_psd(a, 0.0, n, out).map(|_| ())),
+    (4, |a, n, out| kernel::eigenvalue_floor(a, 0.0, n, out).map(|_| ())),
+    (2, |a, n, out| kernel::mat_eigenvector_max(a, n, 7, 1e-9, out).map(|_| ())),
+    (4, |a, n, out| kernel::tikhonov_with_report(a, 0.5, n, out).map(|_| ())),
+];
+
 #[test]
-fn of_the_kernel() {
-    let (a, mut out) = ([4.0, 2.0, 2.0, 3.0], [7.0; 4]);
-    assert_eq!(number(kernel::mat_mul(&a, &a, 2, 2, 17, &mut out)), 1);
-    assert_eq!(number(kernel::mat_mul(&a, &a, 0, 2, 2, &mut out)), 1);
-    assert_eq!(number(kernel::mat_mul(&a, &a[..3], 2, 2, 2, &mut out)), 2);
+fn of_sides_and_lengths() {
+    let a = [4.0, 2.0, 2.0, 3.0];
+    for (length, call) in WRITING {
+        assert!(call(&a, 2, &mut vec![7.0; *length]).is_ok());
+        for side in [0, 17, usize::MAX] {
+            refuses(1, *length, |out| call(&a, side, out));
+        }
+        for wrong in [&[][..], &a[..3], &[1.0; 5]] {
+            refuses(2, *length, |out| call(wrong, 2, out));
+        }
+        for wrong in [0, length - 1, length + 1] {
+            refuses(2, wrong, |out| call(&a, 2, out));
+        }
+    }
+    // The eigensolver writes two slices: each may be the wrong one.
+    for (values, vectors, wanted) in [(1, 4, 2), (3, 4, 2), (2, 3, 2), (2, 5, 2)] {
+        let (mut first, mut second) = (vec![7.0; values], vec![7.0; vectors]);
+        assert_eq!(number(kernel::mat_symmetric_eigen(&a, 2, &mut first, &mut second)), wanted);
+        assert_eq!((first, second), (vec![7.0; values], vec![7.0; vectors]));
+    }
     assert_eq!(number(kernel::mat_trace(&[], 2)), 2);
-    assert_eq!(number(kernel::nearest_psd(&[1.0, f64::NAN, 0.0, 1.0], 0.0, 2, &mut out)), 3);
-    assert_eq!(number(kernel::nearest_psd(&[f64::MAX; 4], 0.0, 2, &mut out)), 4);
-    assert_eq!(number(kernel::mat_inv(&[1e-151, 0.0, 0.0, 1e-151], 2, &mut out)), 5);
-    assert_eq!(number(kernel::mat_inv(&[1.0, 2.0, 2.0, 4.0], 2, &mut out)), 6);
-    assert_eq!(number(kernel::mat_cholesky(&[-1.0, 0.0, 0.0, 1.0], 2, &mut out)), 7);
-    assert_eq!(out, [7.0; 4]);
-    let mut nine = [7.0; 9];
-    assert_eq!(number(kernel::mat3_inv(&[1.0; 9], &mut nine)), 8);
-    assert_eq!(nine, [7.0; 9]);
+}
+
+#[test]
+fn of_entries() {
+    let nan = [1.0, f64::NAN, 0.0, 1.0];
+    refuses(3, 4, |out| kernel::nearest_psd(&nan, 0.0, 2, out));
+    refuses(3, 4, |out| kernel::eigenvalue_floor(&nan, 0.0, 2, out));
+    refuses(4, 4, |out| kernel::nearest_psd(&[f64::MAX; 4], 0.0, 2, out));
+    refuses(4, 4, |out| kernel::eigenvalue_floor(&[f64::MAX; 4], 0.0, 2, out));
+    refuses(4, 6, |out| {
+        let (values, vectors) = out.split_at_mut(2);
+        kernel::mat_symmetric_eigen(&nan, 2, values, vectors)
+    });
+    let (small, singular) = ([1e-151, 0.0, 0.0, 1e-151], [1.0, 2.0, 2.0, 4.0]);
+    for (matrix, wanted) in [(small, 5), (singular, 6)] {
+        refuses(wanted, 4, |out| kernel::mat_inv(&matrix, 2, out));
+        refuses(wanted, 2, |out| kernel::mat_solve(&matrix, X, 2, out));
+        assert_eq!(number(kernel::mahalanobis_distance_squared(X, X, &matrix, 2)), wanted);
+    }
+    refuses(7, 4, |out| kernel::mat_cholesky(&[-1.0, 0.0, 0.0, 1.0], 2, out));
+    refuses(8, 9, |out| kernel::mat3_inv(&[1.0; 9], out));
+    refuses(8, 3, |out| kernel::mat3_solve(&[1.0; 9], &[1.0; 3], out));
     let compare = |floor, gate| kernel::compare([&[1.0], &[1.0]], [&[1.0], &[1.0]], 1, floor, gate);
     assert_eq!(number(compare(0.0, 16.0)), 18);
     assert_eq!(number(compare(1.0, -1.0)), 18);

@@ -144,7 +144,12 @@ fn wins(s: &[u8]) -> bool {
     let after_ours = rest(data, whole(named(s, 2)));
     let theirs = part(after_ours, 0, named(s, 3));
     let number = named(s, 4);
-    let row = [byte(number, 0), byte(number, 1), byte(number, 2), byte(number, 3)];
+    let row = [
+        byte(number, 0),
+        byte(number, 1),
+        byte(number, 2),
+        byte(number, 3),
+    ];
     let won = winner::winner(ours, theirs, row);
     let list = if named(s, 5) == 2 { theirs } else { ours };
     let wanted = part(list, named(s, 6), named(s, 7));
@@ -153,7 +158,8 @@ fn wins(s: &[u8]) -> bool {
         named(s, 5),
         named(s, 6),
         named(s, 7),
-    ) && replay::same_bytes(wanted, won)
+    )
+        && replay::same_bytes(wanted, won)
 }
 
 // Whether the record at the start of s is answered as it says.

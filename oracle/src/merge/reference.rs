@@ -23,15 +23,11 @@ pub struct Within {
 
 /// The state of a track, and its whole covariance: the upper triangle mirrors the lower.
 fn state_and_covariance<const N: usize>(fields: &[f64]) -> ([f64; N], [[f64; N]; N]) {
-    let (state, mut triangle) = fields.split_at(N);
+    let (state, triangle) = fields.split_at(N);
     let mut covariance = [[0.0; N]; N];
-    for i in 0..N {
-        let (row, rest) = triangle.split_at(i + 1);
-        triangle = rest;
-        for (j, x) in row.iter().enumerate() {
-            covariance[i][j] = *x;
-            covariance[j][i] = *x;
-        }
+    for ((i, j), x) in (0..N).flat_map(|i| (0..=i).map(move |j| (i, j))).zip(triangle) {
+        covariance[i][j] = *x;
+        covariance[j][i] = *x;
     }
     (state.try_into().unwrap(), covariance)
 }

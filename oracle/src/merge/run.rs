@@ -148,10 +148,10 @@ impl Compared {
             writes: vec![(&mut rows, rows_wanted.len()), (&mut full, 1), (&mut half, 1), (&mut single, 1)],
         });
         let counts: Vec<usize> = wanted.iter().flat_map(|merged| [merged.full, merged.half, merged.single]).collect();
-        let told = [&full, &half, &single].into_iter().enumerate();
+        let told = [&full, &half, &single];
         let agrees = number == number_wanted
             && rows.begins_with(rows_wanted)
-            && told.clone().all(|(at, count)| count.begins_with(counts.get(at..at + 1).unwrap_or_default()));
+            && (0..3).all(|at| told[at].begins_with(counts.get(at..at + 1).unwrap_or_default()));
         let kept = [&base, &ours, &theirs].into_iter().all(Lent::is_untouched);
         if let Ok(merged) = &wanted {
             checks::whole(merged, [0, 1, 2].map(|list| case.lists[list][0] as usize));
@@ -159,7 +159,7 @@ impl Compared {
         }
         self.merges.refused(number_wanted);
         self.merges.case(agrees && kept, || {
-            let counts_told: Vec<usize> = told.map(|(_, count)| count.slice()[0]).collect();
+            let counts_told: Vec<usize> = told.iter().map(|count| count.slice()[0]).collect();
             format!(
                 "answers {number}, {counts_told:?}, rows {:?}, not {number_wanted}, {counts:?}, {rows_wanted:?}, the lists {}\n    {}",
                 rows.slice(),
