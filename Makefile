@@ -3,7 +3,8 @@
 #   make demo      proves and builds the two programs, and shows a merge of three small lists
 #   make test      the gate: the layout, `rt ci`, then, from what it proved, the static library, the quick differential run where cargo
 #                  and the Rust source are at hand, the Rust and C checks where there is cargo and a C compiler, the demonstration,
-#                  and an installation into a temporary folder. The last line is that of `rt ci`, only if all of it succeeded
+#                  and an installation into a temporary folder. The last line is that of `rt ci`, only if all of it succeeded, and
+#                  before it stands what was left out. With WHOLE=yes, as `.ci/run` has it, nothing may be left out
 #   make install   the programs, the library, the header and a pkg-config file, below PREFIX; DESTDIR stands before it
 #   make uninstall takes these files away again
 #   make oracle    the long differential run
@@ -31,7 +32,7 @@ again = $(MAKE) --no-print-directory
 # What `rt` says of crates that it proves now, without those that are proved already.
 progress = awk '/^rt:/ && !/unchanged/ { print; fflush() }'
 
-.PHONY: demo test beside differential rust c c-with shown installed install put uninstall oracle vectors bench capi programs
+.PHONY: demo test missing beside differential tidy rust c c-with shown installed install put uninstall oracle vectors bench capi programs
 
 demo: programs
 	@demo/run
@@ -43,28 +44,48 @@ programs:
 
 test:
 	@log=$$(mktemp); trap 'rm -f "$$log"' EXIT; \
+	missing=$$($(again) missing); \
+	if [ -n "$(WHOLE)" ] && [ -n "$$missing" ]; then echo "$$missing"; exit 1; fi; \
 	rt fmt --check; \
 	rt ci | tee "$$log"; \
 	$(again) beside; \
+	[ -z "$$missing" ] || echo "$$missing"; \
 	tail -n 1 "$$log"
+
+# Tells what the parts beside the proofs need and is not at hand, a line for each.
+missing:
+	@command -v cargo >/dev/null || echo "left out: the differential run and the Rust checks, there is no cargo"
+	@[ -d "$(NOLAN_SRC)/src/linalg" ] || echo "left out: the differential run, there is no Rust source, and NOLAN_SRC is $(NOLAN_SRC)"
+	@command -v $(CC) >/dev/null || echo "left out: the C checks, there is no $(CC)"
 
 # What follows the proofs, each part where it can be run.
 beside: capi programs
-	@if command -v cargo >/dev/null && [ -d "$(NOLAN_SRC)/src/linalg" ]; then \
-	    $(again) differential; \
-	else \
-	    echo "no differential run: it needs cargo and the Rust source, and NOLAN_SRC is $(NOLAN_SRC)"; \
-	fi
-	@if command -v cargo >/dev/null; then $(again) rust; else echo "no Rust checks: there is no cargo"; fi
-	@if command -v $(CC) >/dev/null; then $(again) c; else echo "no C checks: there is no $(CC)"; fi
+	@if command -v cargo >/dev/null && [ -d "$(NOLAN_SRC)/src/linalg" ]; then $(again) differential; fi
+	@if command -v cargo >/dev/null; then $(again) rust; fi
+	@if command -v $(CC) >/dev/null; then $(again) c; fi
 	@$(again) shown installed
 
 # The five parts take the library and the programs as they stand.
+#
+# The run is first shown to find faults; the frozen answers are those that the Rust gives now.
 differential:
+	@for project in oracle bench; do $(again) tidy project=$$project; done
+	$(cargo) oracle/Cargo.toml -- selftest
+	$(cargo) oracle/Cargo.toml -- vectors check
 	$(cargo) oracle/Cargo.toml -- quick
+
+# The layout of a cargo project and the lints, where cargo has them.
+tidy:
+	@if cargo fmt --version >/dev/null 2>&1; then cargo fmt --check --manifest-path $(project)/Cargo.toml; else echo "$(project): no cargo fmt"; fi
+	@if cargo clippy --version >/dev/null 2>&1; then \
+	    cargo clippy --offline --quiet --release --all-targets --manifest-path $(project)/Cargo.toml -- -D warnings; \
+	else \
+	    echo "$(project): no cargo clippy"; \
+	fi
 
 # The crate's tests and documents, and its example on the lists of the demonstration.
 rust:
+	@$(again) tidy project=bindings/rust
 	cargo test $(bound)
 	RUSTDOCFLAGS="-D warnings" cargo doc --no-deps $(bound)
 	cd demo && cargo run --offline --quiet --manifest-path ../bindings/rust/Cargo.toml --example merge -- base.trk ours.trk theirs.trk \
@@ -81,6 +102,11 @@ c-with:
 	for name in example empty; do $(CC) $(strict) $(CFLAGS) bindings/c/$$name.c -o "$$folder/$$name" $(flags); done; \
 	"$$folder/example" | diff bindings/c/example.out -; \
 	"$$folder/empty"; \
+	if command -v valgrind >/dev/null; then \
+	    valgrind --quiet --leak-check=full --error-exitcode=1 "$$folder/example" | diff bindings/c/example.out -; \
+	else \
+	    echo "C: no valgrind"; \
+	fi; \
 	sed -nE 's/^(uint32_t|void) (pel_[a-z0-9_]+)\(.*/\2/p' include/pelosumba.h | while read -r name; do \
 	    grep -q "$$name(" bindings/c/empty.c || { echo "$$name: not tried with empty slices"; exit 1; }; \
 	done

@@ -27,7 +27,7 @@ fn theirs<const N: usize>(c: &Case<N>) -> Comparison {
         return Comparison::NoDistance;
     };
     match generic::mahalanobis_distance_squared(&c.y, &c.x, &repaired.cov) {
-        Some(d2) if d2.is_finite() && d2 >= 0.0 && d2 <= GATE => Comparison::Near(d2),
+        Some(d2) if d2.is_finite() && (0.0..=GATE).contains(&d2) => Comparison::Near(d2),
         Some(d2) if d2.is_finite() && d2 >= 0.0 => Comparison::Far(d2),
         _ => Comparison::NoDistance,
     }

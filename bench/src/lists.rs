@@ -37,7 +37,7 @@ fn walk(list: &[u8], mut each: impl FnMut(usize, u64)) -> Result<(usize, usize),
         }
         let (map, after) = rest.split_at(map_len);
         rest = after;
-        if f % 8 != 0 && map[map_len - 1] >> (f % 8) != 0 {
+        if !f.is_multiple_of(8) && map[map_len - 1] >> (f % 8) != 0 {
             return Err(13);
         }
         for k in 0..f {

@@ -1,4 +1,7 @@
 //! Times of the library's calls beside the Rust's, in one run: the ratio is what counts. A word names a topic to run alone.
+// Matrices are indexed as on paper.
+#![allow(clippy::needless_range_loop)]
+
 mod comparisons;
 mod lists;
 mod matrix;
