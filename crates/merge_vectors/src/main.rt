@@ -67,11 +67,11 @@ fn size(s: &[u8]) -> usize
 // Whether a merge answers as the record s tells, with its counts.
 fn is_told(answer: Merged, s: &[u8]) -> bool {
     match answer {
-        Merged::Counts { full, half, single } => {
+        Merged::Counts(counts) => {
             named(s, 8) == 0
-                && full as u64 == named(s, 9)
-                && half as u64 == named(s, 10)
-                && single as u64 == named(s, 11)
+                && counts.full as u64 == named(s, 9)
+                && counts.half as u64 == named(s, 10)
+                && counts.single as u64 == named(s, 11)
         }
         Merged::Refused(question) => named(s, 8) == question as u64,
     }
