@@ -133,7 +133,7 @@ solution-column a b n r j h = sym (by-entries n _ _ (length-matrix n 1 one-colum
 
 -- Column j of the solution against b, n by r, is the solution against column j of b; and both are refused alike.
 pub solved-column : (a b : List Float) (n r j : ℕ) → j < r → through (λ v. columnOf v n r j) (solved a b n r) ≡ solved a (columnOf b n r j) n 1
-unfolding solved
+unfolding solved solution
 solved-column a b n r j h = rw pivots (go (someScale n (rowNorms a n)) (pivoted n (n + 1) (reduced n (n + 1) (start a (columnOf b n r j) n 1)) n))
   where
     pivots : pivoted n (n + r) (reduced n (n + r) (start a b n r)) n ≡ pivoted n (n + 1) (reduced n (n + 1) (start a (columnOf b n r j) n 1)) n

@@ -1,6 +1,7 @@
 pub mod Ratios
 pub mod Pivots
 pub mod Stages
+pub mod Started
 pub mod Columns
 pub mod Inverse
 pub mod Determinants

@@ -52,11 +52,11 @@ pub record System (n r : ℕ) (a b out : List Float) : Type 0 where
   pub sides : length b ≡ n * r
   pub solution : length out ≡ n * r
 
--- the same with room for its elimination, w columns wide
-pub record SystemIn (n r w : ℕ) (a b m s x out : List Float) : Type 0 where
-  pub width : w ≡ n + r
+-- the same with room for its elimination
+pub record SystemIn (n r : ℕ) (a b m s x out : List Float) : Type 0 where
+  pub narrow : n + r ≤ 32
   pub system : System n r a b out
-  pub room : Elimination n w m s x
+  pub room : Elimination n (n + r) m s x
 
 -- the same with few rows and right sides
 pub record SystemTo (most n r : ℕ) (a b out : List Float) : Type 0 where

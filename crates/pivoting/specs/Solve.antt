@@ -51,18 +51,26 @@ augmented a b n r = matrix n (n + r) (augmentedEntry a b n r)
 abbrev pub start : List Float → List Float → ℕ → ℕ → Stage
 start a b n r = stage (augmented a b n r) (rowNorms a n)
 
+-- the right part of a stage of n rows and n + r columns, n by r
+abbrev pub rightOf : ℕ → ℕ → Stage → List Float
+rightOf n r t = matrix n r (λ i j. at (t .rows) (n + r) i (n + j))
+
 -- the right part of [a | b] when every column of a is reduced: the n by r matrix x with a x = b
 unfoldable pub solution : List Float → List Float → ℕ → ℕ → List Float
 unfolding augmented reduced matrix maxAbs rowOf
-solution a b n r = let m = reduced n (n + r) (start a b n r) n .rows in matrix n r (λ i j. at m (n + r) i (n + j))
+solution a b n r = rightOf n r (reduced n (n + r) (start a b n r) n)
+
+-- questions 5 and 6 of a stage of n rows and n + r columns, and then its right part when the first n columns are reduced
+abbrev pub solvedFrom : ℕ → ℕ → Stage → Outcome (List Float)
+solvedFrom n r t =
+    ask 5 (someScale n (t .norms))
+    (ask 6 (pivoted n (n + r) (reduced n (n + r) t) n)
+    (answered (rightOf n r (reduced n (n + r) t n))))
 
 -- questions 5 and 6, and then the solution
 unfoldable pub solved : List Float → List Float → ℕ → ℕ → Outcome (List Float)
-unfolding someScale pivoted solution
-solved a b n r =
-    ask 5 (someScale n (rowNorms a n))
-    (ask 6 (pivoted n (n + r) (reduced n (n + r) (start a b n r)) n)
-    (answered (solution a b n r)))
+unfolding someScale pivoted augmented reduced matrix maxAbs rowOf
+solved a b n r = solvedFrom n r (start a b n r)
 
 -- `mat_solve`: the vector x with a x = b, for a n by n
 unfoldable pub matSolve : List Float → List Float → ℕ → List Float → Outcome (List Float)

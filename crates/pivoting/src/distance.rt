@@ -6,7 +6,7 @@ ghost use Rattle.dense.specs.Answer.{given};
 ghost use Rattle.linalg.specs.Sums.{difference, quadraticForm};
 ghost use Rattle.pivoting.specs.Solve.{distance};
 ghost use Rattle.pivoting.specs.Private.{following, Under};
-use crate::invert::inverse_in;
+use crate::invert::inverse;
 use dense::Number;
 use dense::Written;
 use linalg::generic::mahalanobis_distance_squared_with_inv;
@@ -22,20 +22,12 @@ fn distance_under(answer: Written, x: &[f64], mu: &[f64], inv: &[f64], n: usize)
     }
 }
 
-// Questions 5 and 6, and then the quadratic form of x - mu under the inverse of cov, n by n. The slices e and inv are room for
-// the identity and the inverse.
-fn distance_in(
-    x: &[f64],
-    mu: &[f64],
-    cov: &[f64],
-    n: usize,
-    e: &mut [f64],
-    inv: &mut [f64],
-) -> Number
-    requires { ⌜ Under (now x) (now mu) (now cov) n × (n ≤ 16) × (length (now e) ≡ n * n) × (length (now inv) ≡ n * n) ⌝ }
+// Questions 5 and 6, and then the quadratic form of x - mu under the inverse of cov, n by n. The slice inv is room for the inverse.
+fn distance_in(x: &[f64], mu: &[f64], cov: &[f64], n: usize, inv: &mut [f64]) -> Number
+    requires { ⌜ Under (now x) (now mu) (now cov) n × (n ≤ 16) × (length (now inv) ≡ n * n) ⌝ }
     ensures { λ q. ⌜ q ≡ given (distance (now (x .entry)) (now (mu .entry)) (now (cov .entry)) n) ⌝ }
 {
-    let answer = inverse_in(cov, n, e, inv);
+    let answer = inverse(cov, n, inv);
     distance_under(answer, x, mu, inv, n)
 }
 
@@ -44,10 +36,9 @@ pub(crate) fn small_distance(x: &[f64], mu: &[f64], cov: &[f64], n: usize) -> Nu
     requires { ⌜ Under (now x) (now mu) (now cov) n × (n ≤ 4) ⌝ }
     ensures { λ q. ⌜ q ≡ given (distance (now (x .entry)) (now (mu .entry)) (now (cov .entry)) n) ⌝ }
 {
-    let mut e = [0.0f64; 16];
     let mut inv = [0.0f64; 16];
     let size = n * n;
-    distance_in(x, mu, cov, n, &mut e[..size], &mut inv[..size])
+    distance_in(x, mu, cov, n, &mut inv[..size])
 }
 
 // The same with room for orders to 16.
@@ -55,8 +46,7 @@ pub(crate) fn large_distance(x: &[f64], mu: &[f64], cov: &[f64], n: usize) -> Nu
     requires { ⌜ Under (now x) (now mu) (now cov) n × (n ≤ 16) ⌝ }
     ensures { λ q. ⌜ q ≡ given (distance (now (x .entry)) (now (mu .entry)) (now (cov .entry)) n) ⌝ }
 {
-    let mut e = [0.0f64; 256];
     let mut inv = [0.0f64; 256];
     let size = n * n;
-    distance_in(x, mu, cov, n, &mut e[..size], &mut inv[..size])
+    distance_in(x, mu, cov, n, &mut inv[..size])
 }

@@ -5,8 +5,9 @@ ghost use lib.ListN.{length};
 ghost use Rattle.kernel.specs.Lists.{tabulate};
 ghost use Rattle.dense.specs.Answer.{Leaves};
 ghost use Rattle.dense.specs.Matrix.{at, matrix};
-ghost use Rattle.pivoting.specs.Solve.{augmentedEntry, augmented, solved};
-ghost use Rattle.pivoting.specs.Private.{System, SystemIn, SystemTo};
+ghost use Rattle.pivoting.specs.Pivot.{stage};
+ghost use Rattle.pivoting.specs.Solve.{augmentedEntry, augmented, solvedFrom, solved};
+ghost use Rattle.pivoting.specs.Private.{Elimination, System, SystemIn, SystemTo};
 use crate::norms::row_norms;
 use crate::norms::some_scale;
 use crate::reduce::reduce;
@@ -68,6 +69,30 @@ fn right_part(m: &[f64], n: usize, r: usize, w: usize, out: &mut [f64])
     }
 }
 
+// Questions 5 and 6 of m, n by w with r right sides, and s, the norms of its rows, and then what the right sides become into out. x is room
+// for a row.
+pub(crate) fn eliminate(
+    m: &mut [f64],
+    s: &mut [f64],
+    x: &mut [f64],
+    n: usize,
+    r: usize,
+    w: usize,
+    out: &mut [f64],
+) -> Written
+    requires { ⌜ (w ≡ n + r) × Elimination n w (now m) (now s) (now x) × (length (now out) ≡ n * r) ⌝ }
+    ensures { λ q. ⌜ Leaves (solvedFrom n r (stage (now (m .entry)) (now (s .entry)))) (now (out .entry)) q (now (out .exit)) ⌝ }
+{
+    if !some_scale(s, n) {
+        return Written::Refused(ROW_NORM);
+    }
+    if !reduce(m, s, x, n, w) {
+        return Written::Refused(PIVOT_RATIO);
+    }
+    right_part(m, n, r, w, out);
+    Written::Done
+}
+
 // Questions 5 and 6, and then the x with a x = b, for a n by n and b n by r, into out. The slices m, s and x are room for
 // the augmented matrix, the norms and one row.
 fn solve_in(
@@ -75,25 +100,18 @@ fn solve_in(
     b: &[f64],
     n: usize,
     r: usize,
-    w: usize,
     m: &mut [f64],
     s: &mut [f64],
     x: &mut [f64],
     out: &mut [f64],
 ) -> Written
-    requires { ⌜ SystemIn n r w (now a) (now b) (now m) (now s) (now x) (now out) ⌝ }
+    requires { ⌜ SystemIn n r (now a) (now b) (now m) (now s) (now x) (now out) ⌝ }
     ensures { λ q. ⌜ Leaves (solved (now (a .entry)) (now (b .entry)) n r) (now (out .entry)) q (now (out .exit)) ⌝ }
 {
+    let w = n + r;
     row_norms(a, n, s);
-    if !some_scale(s, n) {
-        return Written::Refused(ROW_NORM);
-    }
     augment(a, b, n, r, w, m);
-    if !reduce(m, s, x, n, w) {
-        return Written::Refused(PIVOT_RATIO);
-    }
-    right_part(m, n, r, w, out);
-    Written::Done
+    eliminate(m, s, x, n, r, w, out)
 }
 
 // The same with room for orders to 4.
@@ -106,7 +124,7 @@ fn small_solve(a: &[f64], b: &[f64], n: usize, r: usize, out: &mut [f64]) -> Wri
     let mut x = [0.0f64; 8];
     let w = n + r;
     let size = n * w;
-    solve_in(a, b, n, r, w, &mut m[..size], &mut s[..n], &mut x[..w], out)
+    solve_in(a, b, n, r, &mut m[..size], &mut s[..n], &mut x[..w], out)
 }
 
 // The same with room for orders to 16.
@@ -119,7 +137,7 @@ fn large_solve(a: &[f64], b: &[f64], n: usize, r: usize, out: &mut [f64]) -> Wri
     let mut x = [0.0f64; 32];
     let w = n + r;
     let size = n * w;
-    solve_in(a, b, n, r, w, &mut m[..size], &mut s[..n], &mut x[..w], out)
+    solve_in(a, b, n, r, &mut m[..size], &mut s[..n], &mut x[..w], out)
 }
 
 // The same with the room that the order needs.

@@ -18,7 +18,7 @@ use Rattle.dense.proofs.Tests.{never}
 use Rattle.linalg.specs.Products.{matVecMul, matAta, times, gram}
 use Rattle.linalg.specs.Regularize.{damped, tikhonov}
 use Rattle.pivoting.specs.Pivot.{rowNorms, someScale, pivoted}
-use Rattle.pivoting.specs.Solve.{start, reduced, matSolve, solved}
+use Rattle.pivoting.specs.Solve.{start, reduced, solution, matSolve, solved}
 use Rattle.power.specs.Condition.{solutionOf, isRefused}
 use Rattle.power.specs.Private.{Matrices, Vectors}
 
@@ -73,7 +73,7 @@ module _ {n : ℕ} {a x old : List Float} (m : Vectors n a x old) where
   solve-refused e l = (rw (sym asked, refused-by (matSolve a x n old) old (rw e at l)), λ t. never t)
 
   pub solve-done : {r : Written} {new : List Float} → r ≡ Done → Leaves (matSolve a x n old) old r new → Solves a n x true new
-  unfolding solved
+  unfolding solved solution
   solve-done {new = new} e l =
       let o : solved a x n 1 ≡ answered new = sym asked ∙ answered-by (matSolve a x n old) old (rw e at l) in
       (rw o, λ t. sym (value-of 5 6 (someScale n (rowNorms a n)) (pivoted n (n + 1) (reduced n (n + 1) (start a x n 1)) n) (solutionOf a n x) o))

@@ -20,10 +20,10 @@ followed f (answered v) old new q e = ap (λ (z : Written × List Float). follow
 returns : tie.Need-returns
 unfolding distance
 returns c =
-    let inverted = c .before .before .before .before .before .before in
-    let x = inverted .before .before .before .before .before .before .before .before .args in
+    let inverted = c .before .before .before .before in
+    let x = inverted .before .before .before .before .before .before .args in
     c .distance-under .ensures
-    ∙ followed (λ z. quadraticForm (difference (x .x .now) (x .mu .now) (x .n)) z (x .n)) (inverse (x .cov .now) (x .n)) (x .inv .now) _ _ (inverted .inverse-in .ensures)
+    ∙ followed (λ z. quadraticForm (difference (x .x .now) (x .mu .now) (x .n)) z (x .n)) (inverse (x .cov .now) (x .n)) (x .inv .now) _ _ (inverted .inverse .ensures)
 
 pub distance-in-spec : {M : Type 1} → statement M
-distance-in-spec = tie.close (tie.spec (λ c κs. search needs) (λ c κs. search needs) (λ c. search needs) (λ c. search needs) returns)
+distance-in-spec = tie.close (tie.spec (λ c κs. search needs) (λ c κs. search needs) (λ c. search needs) returns)

@@ -1,4 +1,4 @@
--- `large_distance` meets its contract: the local arrays have room for the work.
+-- `large_distance` meets its contract: the local array has room for the inverse.
 use Prim.Native.Nat.{_*_, _≤_}
 use mathlib.Core.Path.{sym}
 use lib.Seq.{length-take-le}
@@ -16,12 +16,9 @@ size c = square-room 16 (entered c .args .n) (entered c .pre .1)
 
 distance-in-requires : tie.Need-distance-in-requires
 distance-in-requires c κs =
-    let known = c .before .before in
+    let known = c .before in
     let pre = entered known .pre in
-    (pre .0, omega (arith, pre .1), length-take-le _ _ (size known), length-take-le _ _ (size known))
+    (pre .0, omega (arith, pre .1), length-take-le _ _ (size known))
 
 pub large-distance-spec : {M : Type 1} → statement M
-large-distance-spec =
-    tie.close
-    (tie.spec (λ c. search needs) size (λ c. sym (length-take-le _ _ (size (c .before)))) (λ c. size (c .before))
-    (λ c. sym (length-take-le _ _ (size (c .before .before)))) distance-in-requires (λ c. search needs))
+large-distance-spec = tie.close (tie.spec (λ c. search needs) size (λ c. sym (length-take-le _ _ (size (c .before)))) distance-in-requires (λ c. search needs))

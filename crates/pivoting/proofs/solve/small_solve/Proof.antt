@@ -1,7 +1,7 @@
 -- `small_solve` meets its contract: the local arrays have room for the work.
 use Prim.Native.Nat.{_+_, _*_, _≤_}
 use native.Mathlib.Omega.{arith}
-use mathlib.Core.Path.{refl, sym}
+use mathlib.Core.Path.{sym}
 use lib.Seq.{length-take-le}
 use Rattle.pivoting.proofs.Rooms.{augmented-room, elimination-room}
 use Rattle.pivoting.proofs.solve.small_solve.Statement.{statement}
@@ -20,7 +20,7 @@ size c = augmented-room 4 (c .args .n) (c .args .r) (c .pre .order) (c .pre .few
 solve-in-requires : tie.Need-solve-in-requires
 solve-in-requires c κs =
     let x = c .before .before .before .before .before .before .before in
-    record { width = refl; system = x .pre .system; room = elimination-room _ _ _ _ _ (size x) (order x) (width x) }
+    record { narrow = omega (arith, width x); system = x .pre .system; room = elimination-room _ _ _ _ _ (size x) (order x) (width x) }
 
 pub small-solve-spec : {M : Type 1} → statement M
 small-solve-spec =
@@ -29,4 +29,4 @@ small-solve-spec =
     (λ c. sym (length-take-le _ _ (size (c .before .before .before .before)))) (λ c. order (c .before .before .before .before))
     (λ c. sym (length-take-le _ _ (order (c .before .before .before .before .before)))) (λ c. width (c .before .before .before .before .before))
     (λ c. sym (length-take-le _ _ (width (c .before .before .before .before .before .before)))) solve-in-requires
-    (λ c. c .before .before .before .before .before .solve-in .kept .1 .1 .1 .1 .1 .1 .1 .1 .0) (λ c. c .before .before .before .before .before .solve-in .ensures))
+    (λ c. c .before .before .before .before .before .solve-in .kept .1 .1 .1 .1 .1 .1 .1 .0) (λ c. c .before .before .before .before .before .solve-in .ensures))
