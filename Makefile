@@ -1,10 +1,11 @@
 # The gate and its parts.
 #
 #   make demo      proves and builds the two programs, and shows a merge of three small lists
-#   make test      the gate: the layout, `rt ci`, then, from what it proved, the static library, the quick differential run where cargo
-#                  and the Rust source are at hand, the Rust and C checks where there is cargo and a C compiler, the demonstration,
-#                  and an installation into a temporary folder. The last line is that of `rt ci`, only if all of it succeeded, and
-#                  before it stands what was left out. With WHOLE=yes, as `.ci/run` has it, nothing may be left out
+#   make test      the gate: the layout, `rt ci`, then, from what it proved, the static library, the checks of documents and form where
+#                  there is python3, the quick differential run where cargo and the Rust source are at hand, the Rust and C checks where
+#                  there is cargo and a C compiler, the demonstration, and an installation into a temporary folder. The last line is that
+#                  of `rt ci`, only if all of it succeeded, and before it stands what was left out. With WHOLE=yes, as `.ci/run` has it,
+#                  nothing may be left out
 #   make install   the programs, the library, the header and a pkg-config file, below PREFIX; DESTDIR stands before it
 #   make uninstall takes these files away again
 #   make oracle    the long differential run
@@ -21,6 +22,8 @@ VERSION = 0.1.0
 
 CC ?= cc
 CFLAGS ?= -O2
+CXX ?= c++
+CXXFLAGS ?= -O2
 strict = -std=c99 -Wall -Wextra -Werror
 
 SHELL = bash
@@ -32,7 +35,7 @@ again = $(MAKE) --no-print-directory
 # What `rt` says of crates that it proves now, without those that are proved already.
 progress = awk '/^rt:/ && !/unchanged/ { print; fflush() }'
 
-.PHONY: demo test missing beside differential tidy rust c c-with shown installed install put uninstall oracle vectors bench capi programs
+.PHONY: demo test missing beside documents differential tidy rust c c-with shown installed install put uninstall oracle vectors bench capi programs
 
 demo: programs
 	@demo/run
@@ -57,16 +60,21 @@ missing:
 	@command -v cargo >/dev/null || echo "left out: the differential run and the Rust checks, there is no cargo"
 	@[ -d "$(NOLAN_SRC)/src/linalg" ] || echo "left out: the differential run, there is no Rust source, and NOLAN_SRC is $(NOLAN_SRC)"
 	@command -v $(CC) >/dev/null || echo "left out: the C checks, there is no $(CC)"
+	@command -v python3 >/dev/null || echo "left out: the checks of documents and form, there is no python3"
 
 # What follows the proofs, each part where it can be run.
 beside: capi programs
+	@if command -v python3 >/dev/null; then $(again) documents; fi
 	@if command -v cargo >/dev/null && [ -d "$(NOLAN_SRC)/src/linalg" ]; then $(again) differential; fi
 	@if command -v cargo >/dev/null; then $(again) rust; fi
 	@if command -v $(CC) >/dev/null; then $(again) c; fi
 	@$(again) shown installed
 
-# The five parts take the library and the programs as they stand.
-#
+# The six parts take the library and the programs as they stand. The first needs neither: what disagrees in documents, header and form.
+documents:
+	tools/test-audit
+	tools/audit
+
 # The run is first shown to find faults; the frozen answers are those that the Rust gives now.
 differential:
 	@for project in oracle bench; do $(again) tidy project=$$project; done
@@ -90,25 +98,36 @@ rust:
 	RUSTDOCFLAGS="-D warnings" cargo doc --no-deps $(bound)
 	cd demo && cargo run --offline --quiet --manifest-path ../bindings/rust/Cargo.toml --example merge -- base.trk ours.trk theirs.trk \
 	    | diff ../bindings/rust/examples/merge.out -
+	cargo run $(bound) --example readme | diff bindings/rust/examples/readme.out -
 	@echo "Rust: tests, documents and the example are as they should be"
 
 c:
 	@$(again) c-with flags="-I include target/staticlib/libcapi.a"
-	@echo "C: the example and the empty slices are as they should be"
+	@echo "C: the examples, the empty slices and the header's numbers are as they should be"
+	@tools/figures
+	@tools/test-figures
 
-# Compiles the C programs with these flags, runs them, and tells a call of the header that is not tried with empty slices.
+# Compiles the C programs with these flags, the header's numbers as C++ too, runs them, under valgrind where it is at hand, and tells a
+# call of the header that is not tried with empty slices or whose stack is not measured.
 c-with:
 	@folder=$$(mktemp -d); trap 'rm -rf "$$folder"' EXIT; \
-	for name in example empty; do $(CC) $(strict) $(CFLAGS) bindings/c/$$name.c -o "$$folder/$$name" $(flags); done; \
-	"$$folder/example" | diff bindings/c/example.out -; \
+	for name in example readme constants empty; do $(CC) $(strict) $(CFLAGS) bindings/c/$$name.c -o "$$folder/$$name" $(flags); done; \
+	for name in example readme; do "$$folder/$$name" | diff bindings/c/$$name.out -; done; \
+	"$$folder/constants"; \
 	"$$folder/empty"; \
 	if command -v valgrind >/dev/null; then \
-	    valgrind --quiet --leak-check=full --error-exitcode=1 "$$folder/example" | diff bindings/c/example.out -; \
+	    for name in example constants empty; do valgrind -q --error-exitcode=1 "$$folder/$$name" >/dev/null; done; \
 	else \
-	    echo "C: no valgrind"; \
+	    echo "the C programs did not run under valgrind: there is none"; \
+	fi; \
+	if command -v $(CXX) >/dev/null; then \
+	    $(CXX) -x c++ $(strict:c99=c++11) $(CXXFLAGS) bindings/c/constants.c -x none -o "$$folder/as-c++" $(flags); "$$folder/as-c++" >/dev/null; \
+	else \
+	    echo "the header was not tried as C++: there is no $(CXX)"; \
 	fi; \
 	sed -nE 's/^(uint32_t|void) (pel_[a-z0-9_]+)\(.*/\2/p' include/pelosumba.h | while read -r name; do \
 	    grep -q "$$name(" bindings/c/empty.c || { echo "$$name: not tried with empty slices"; exit 1; }; \
+	    grep -q "$$name(" bindings/c/stack.c || { echo "$$name: its stack is not measured"; exit 1; }; \
 	done
 
 # The demonstration's text.

@@ -1,13 +1,16 @@
-/* Case k of document 01 from C: three lists are written, merged and shown, and the winning records' places are told.
+/* A merge from C: three lists are written, merged and shown, and the winning records' places are told.
  *
  *     cc -Wall -Wextra -Werror -I include bindings/c/example.c target/staticlib/libcapi.a -o example && ./example
  */
 #include <pelosumba.h>
 #include <stdio.h>
 
-enum { ROOM = 14050, TRACKS = 3, ROWS = 4 * 96 };
+enum { TRACKS = 3 };
 
-static const char *const VERDICTS[] = {"keep", "take ours", "take theirs", "deleted", "conflict"};
+static const char *const VERDICTS[] = {
+    [PEL_KEEP] = "keep",       [PEL_TAKE_OURS] = "take ours", [PEL_TAKE_THEIRS] = "take theirs",
+    [PEL_DELETED] = "deleted", [PEL_CONFLICT] = "conflict",
+};
 
 /* A list of dimension 1 with variances of 1, and its length. */
 static size_t write_list(const double *states, size_t count, uint8_t *list)
@@ -18,8 +21,8 @@ static size_t write_list(const double *states, size_t count, uint8_t *list)
         values[2 * i] = states[i];
         values[2 * i + 1] = 1.0;
     }
-    uint32_t question = pel_write_list(count, 1, values, 2 * count, list, ROOM, &length);
-    if (question != 0) {
+    uint32_t question = pel_write_list(count, 1, values, 2 * count, list, PEL_MAX_LIST_BYTES, &length);
+    if (question != PEL_ANSWERED) {
         printf("no %u\n", (unsigned)question);
     }
     return length;
@@ -27,7 +30,7 @@ static size_t write_list(const double *states, size_t count, uint8_t *list)
 
 static void show_index(uint8_t index)
 {
-    if (index == 255) {
+    if (index == PEL_NO_TRACK) {
         printf("  -");
     } else {
         printf("%3u", (unsigned)index);
@@ -36,16 +39,16 @@ static void show_index(uint8_t index)
 
 int main(void)
 {
-    static uint8_t base[ROOM], ours[ROOM], theirs[ROOM];
+    static uint8_t base[PEL_MAX_LIST_BYTES], ours[PEL_MAX_LIST_BYTES], theirs[PEL_MAX_LIST_BYTES];
     const size_t base_len = write_list((const double[]){10.0, 20.0, 30.0}, 3, base);
     const size_t ours_len = write_list((const double[]){10.0, 30.0}, 2, ours);
     const size_t theirs_len = write_list((const double[]){10.0, 20.0, 30.5}, 3, theirs);
 
-    uint8_t rows[ROWS];
+    uint8_t rows[PEL_MAX_ROW_BYTES];
     size_t full, half, single;
     const uint32_t question = pel_merge(base, base_len, ours, ours_len, theirs, theirs_len, 1.0, 16.0, rows, sizeof rows,
                                         &full, &half, &single);
-    if (question != 0) {
+    if (question != PEL_ANSWERED) {
         printf("no %u\n", (unsigned)question);
         return 1;
     }
@@ -58,8 +61,8 @@ int main(void)
         show_index(row[1]);
         show_index(row[2]);
         printf("  %s", VERDICTS[row[3]]);
-        if (list != 0) {
-            printf(", %zu bytes of %s from %zu on", length, list == 1 ? "ours" : "theirs", start);
+        if (list != PEL_NOBODY) {
+            printf(", %zu bytes of %s from %zu on", length, list == PEL_OURS ? "ours" : "theirs", start);
         }
         printf("\n");
     }

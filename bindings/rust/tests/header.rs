@@ -1,4 +1,4 @@
-//! The crate has every call that the header declares, and no other.
+//! The crate has every call that the header declares, and no other, and the header's version.
 
 /// The names `pel_..` that stand before a parenthesis or a `;` of a list, each once.
 fn names(text: &str) -> Vec<&str> {
@@ -16,4 +16,10 @@ fn every_call() {
     let declared = names(include_str!("../../../include/pelosumba.h"));
     assert_eq!(declared, names(include_str!("../src/ffi.rs")));
     assert_eq!(declared.len(), 40);
+}
+
+#[test]
+fn one_version() {
+    let line = format!("#define PEL_VERSION \"{}\"\n", env!("CARGO_PKG_VERSION"));
+    assert!(include_str!("../../../include/pelosumba.h").contains(&line), "{line}");
 }
