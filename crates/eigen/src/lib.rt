@@ -3,7 +3,7 @@ mod angle;
 pub mod generic;
 pub mod inside;
 mod order;
-pub mod planes;
+mod planes;
 mod rotate;
 mod start;
 mod sweep;

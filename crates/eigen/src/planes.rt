@@ -3,12 +3,13 @@ ghost use mathlib.Core.Path.{_≡_};
 ghost use mathlib.Core.List.{[], _∷_};
 ghost use lib.ListN.{length};
 ghost use Rattle.eigen.specs.Eigen.{begun, tolerance, swept, eigenpairs, afterPairs};
-ghost use Rattle.eigen.specs.Private.{planeState, turnedPlane, descended, eigenPlane, planePairs, Lent};
+ghost use Rattle.eigen.specs.Private.{planeState, turnedPlane, descended, planePairs, Lent};
 ghost use Rattle.eigen.specs.Rotation.{rotated};
 use crate::Plane;
 use crate::Rotation;
 use crate::angle::is_negligible;
 use crate::angle::rotation;
+use crate::inside::eigenplane;
 use crate::sweep::SWEEPS;
 use dense::Written;
 use dense::vector::is_finite;
@@ -18,7 +19,7 @@ use kernel::number::max;
 use kernel::question::FINITE_EIGENVALUES;
 
 // The plane of the rows w, x and y, z, made symmetric, with the unit vectors.
-fn begin(w: f64, x: f64, y: f64, z: f64) -> Plane
+pub(crate) fn begin(w: f64, x: f64, y: f64, z: f64) -> Plane
     ensures { λ r. ⌜ planeState r ≡ begun (w ∷ x ∷ y ∷ z ∷ []) 2 ⌝ }
 {
     Plane {
@@ -33,7 +34,7 @@ fn begin(w: f64, x: f64, y: f64, z: f64) -> Plane
 }
 
 // What the square of apq has to fall below.
-fn plane_tolerance(s: Plane) -> f64
+pub(crate) fn plane_tolerance(s: Plane) -> f64
     ensures { λ r. ⌜ r ≡ tolerance (planeState s .entries) 2 ⌝ }
 {
     let squares = 0.0 + s.app * s.app + s.apq * s.apq + s.apq * s.apq + s.aqq * s.aqq;
@@ -67,7 +68,7 @@ fn turn(s: Plane) -> Plane
 }
 
 // Sweeps until the square of apq falls below tol, and 64 times at most.
-fn sweep_plane(s: Plane, tol: f64) -> Plane
+pub(crate) fn sweep_plane(s: Plane, tol: f64) -> Plane
     ensures { λ r. ⌜ planeState r ≡ swept 2 tol (planeState s) ⌝ }
 {
     let mut p = s;
@@ -81,7 +82,7 @@ fn sweep_plane(s: Plane, tol: f64) -> Plane
 }
 
 // The plane with the greater eigenvalue, and its vector, first.
-fn descend(s: Plane) -> Plane
+pub(crate) fn descend(s: Plane) -> Plane
     ensures { λ r. ⌜ r ≡ descended s ⌝ }
 {
     if s.app < s.aqq {
@@ -96,18 +97,6 @@ fn descend(s: Plane) -> Plane
         };
     }
     s
-}
-
-// What the sweeps leave of the matrix with the rows w, x and y, z. It shows the eigenpairs, or by an app or aqq that is not finite that
-// question 4 is not met.
-pub fn eigenplane(w: f64, x: f64, y: f64, z: f64) -> Plane
-    ensures { λ r. ⌜ r ≡ eigenPlane w x y z ⌝ }
-    ensures { λ r. ⌜ planePairs r ≡ eigenpairs (w ∷ x ∷ y ∷ z ∷ []) 2 ⌝ }
-{
-    let s = begin(w, x, y, z);
-    let tol = plane_tolerance(s);
-    let p = sweep_plane(s, tol);
-    descend(p)
 }
 
 // Question 4, and then the eigenpairs that a plane shows.

@@ -20,7 +20,7 @@ use crate::rebuild::share;
 use dense::shape::are_matrices;
 use dense::vector::is_finite;
 use eigen::Plane;
-use eigen::planes::eigenplane;
+use eigen::inside::eigenplane;
 use kernel::question::FINITE_EIGENVALUES;
 use kernel::question::FINITE_ENTRIES;
 use kernel::question::LENGTH;

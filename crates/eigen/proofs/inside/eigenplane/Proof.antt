@@ -5,8 +5,8 @@ use lib.Ieee.{Float}
 use Rattle.eigen.specs.Eigen.{tolerance, swept}
 use Rattle.eigen.specs.Private.{planeState, planePairs}
 use Rattle.eigen.proofs.PlaneSteps.{plane-swept, plane-answers}
-use Rattle.eigen.proofs.planes.eigenplane.Statement.{statement}
-use Rattle.eigen.proofs.planes.eigenplane.Tie as tie
+use Rattle.eigen.proofs.inside.eigenplane.Statement.{statement}
+use Rattle.eigen.proofs.inside.eigenplane.Tie as tie
 
 -- the place where the plane begins, and what is left of it
 abbrev begins : tie.After-descend → tie.After-begin
