@@ -9,7 +9,8 @@ ghost use Rattle.dense.specs.Answer.{Leaves};
 ghost use Rattle.dense.specs.Matrix.{hasLength};
 ghost use Rattle.tracks.specs.Layout.{fields};
 ghost use Rattle.compare.specs.Fields.{lowerField, covarianceEntry, trackCovariance, wholeCovariance};
-ghost use Rattle.compare.specs.Private.{HasFields, RowRoom, CovarianceRoom};
+ghost use Rattle.compare.specs.Private.{HasFields, RowRoom};
+use crate::inside::track_covariance;
 use dense::Written;
 use dense::shape::is_matrix;
 use dense::shape::is_side;
@@ -38,23 +39,12 @@ fn covariance_entry(v: &[f64], d: usize, i: usize, j: usize) -> f64
 }
 
 // Writes row i of that covariance.
-fn covariance_row(v: &[f64], d: usize, i: usize, y: &mut [f64])
+pub(crate) fn covariance_row(v: &[f64], d: usize, i: usize, y: &mut [f64])
     requires { ⌜ RowRoom d i (now v) (now y) ⌝ }
     ensures { λ _. ⌜ now (y .exit) ≡ tabulate d (covarianceEntry d (now (v .entry)) i) ⌝ }
 {
     for j in 0..d {
         y[j] = covariance_entry(v, d, i, j);
-    }
-}
-
-// Writes that covariance.
-fn mirror(v: &[f64], d: usize, out: &mut [f64])
-    requires { ⌜ CovarianceRoom d (now v) (now out) ⌝ }
-    ensures { λ _. ⌜ now (out .exit) ≡ trackCovariance d (now (v .entry)) ⌝ }
-{
-    for i in 0..d {
-        let start = i * d;
-        covariance_row(v, d, i, &mut out[start..start + d]);
     }
 }
 
@@ -79,6 +69,6 @@ pub fn whole_covariance(v: &[f64], d: usize, out: &mut [f64]) -> Written
     if !is_track(v, d, out) {
         return Written::Refused(LENGTH);
     }
-    mirror(v, d, out);
+    track_covariance(v, d, out);
     Written::Done
 }

@@ -1,4 +1,4 @@
-// The comparison of two tracks for a caller that knows their lengths: what the project's own crates call, and no user does.
+// The comparison of two tracks, and the covariance of one, for a caller that knows the lengths: what the project's own crates call, and no user does.
 ghost use mathlib.Core.Path.{_≡_};
 ghost use mathlib.Core.List.{[], _∷_};
 ghost use Prim.Native.Nat.{_*_, _≤_};
@@ -7,8 +7,10 @@ ghost use Rattle.kernel.specs.Lists.{tabulate};
 ghost use Rattle.kernel.specs.Number.{add};
 ghost use Rattle.dense.specs.Matrix.{nth};
 ghost use Rattle.compare.specs.Distance.{comparedWithReport};
-ghost use Rattle.compare.specs.Private.{TwoTracks};
+ghost use Rattle.compare.specs.Fields.{trackCovariance};
+ghost use Rattle.compare.specs.Private.{TwoTracks, CovarianceRoom};
 use crate::ComparisonReport;
+use crate::fields::covariance_row;
 use crate::gate::compared_after;
 use crate::gate::single_after;
 use repair::inside::repair;
@@ -128,4 +130,15 @@ pub fn compare_tracks(
         return small(mu, x, p_i, p_j, n, terms);
     }
     large(mu, x, p_i, p_j, n, terms)
+}
+
+// Writes the covariance of the track of dimension d whose fields stand first in v, as a whole matrix.
+pub fn track_covariance(v: &[f64], d: usize, out: &mut [f64])
+    requires { ⌜ CovarianceRoom d (now v) (now out) ⌝ }
+    ensures { λ _. ⌜ now (out .exit) ≡ trackCovariance d (now (v .entry)) ⌝ }
+{
+    for i in 0..d {
+        let start = i * d;
+        covariance_row(v, d, i, &mut out[start..start + d]);
+    }
 }

@@ -1,4 +1,4 @@
--- `whole_covariance` meets its contract: each question is put by its own function, and `mirror` has the answer.
+-- `whole_covariance` meets its contract: each question is put by its own function, and `track_covariance` has the answer.
 use Prim.Native.Nat.{_*_}
 use mathlib.Core.Bool.{true, _&&_}
 use mathlib.Core.Path.{_≡_}
@@ -32,8 +32,8 @@ returns-2 : tie.Need-returns-2
 unfolding wholeCovariance
 returns-2 c = rw (sided (c .before .before .before), unmet (c .before .is-track .ensures) (c .if2 .taken))
 
-mirror-requires : tie.Need-mirror-requires
-mirror-requires c κs =
+track-covariance-requires : tie.Need-track-covariance-requires
+track-covariance-requires c κs =
     let two = c .before in
     let x = start-of two .args in
     record {
@@ -49,10 +49,10 @@ unfolding wholeCovariance
 returns-3 c =
     let mirrored = c .before .before in
     let two = mirrored .before .before in
-    rw (sided (two .before .before .before), shaped two) (done (mirrored .mirror .ensures))
+    rw (sided (two .before .before .before), shaped two) (done (mirrored .track-covariance .ensures))
 
 pub whole-covariance-spec : {M : Type 1} → statement M
 whole-covariance-spec =
     tie.close
-    (tie.spec (λ c κs. search needs) returns (λ c κs. side-high _ (sided (c .before))) (λ c. search needs) returns-2 mirror-requires
-    (λ c. c .before .before .mirror .kept .1 .1 .0) returns-3)
+    (tie.spec (λ c κs. search needs) returns (λ c κs. side-high _ (sided (c .before))) (λ c. search needs) returns-2 track-covariance-requires
+    (λ c. c .before .before .track-covariance .kept .1 .1 .0) returns-3)

@@ -1,10 +1,10 @@
--- `mirror` meets its contract: before turn i the rows above row i are written.
+-- `track_covariance` meets its contract: before turn i the rows above row i are written.
 use Prim.Native.Nat.{_-_}
 use native.Mathlib.Omega.{arith}
 use Rattle.dense.proofs.Rows.{RowByRow, RowFits, no-row, row-fits, row-lent, row-written, every-row}
 use Rattle.compare.specs.Fields.{covarianceEntry, trackCovariance}
-use Rattle.compare.proofs.fields.mirror.Statement.{statement}
-use Rattle.compare.proofs.fields.mirror.Tie as tie
+use Rattle.compare.proofs.inside.track_covariance.Statement.{statement}
+use Rattle.compare.proofs.inside.track_covariance.Tie as tie
 
 abbrev Inv-loop : tie.InvT-loop
 Inv-loop v d out₀ i₀ out i = RowByRow (covarianceEntry d v) d d out₀ i out
@@ -28,8 +28,8 @@ returns : tie.Need-returns Inv-loop μ-loop
 unfolding trackCovariance
 returns c = every-row (c .before .loop .inv) (c .loop-test .left)
 
-pub mirror-spec : {M : Type 1} → statement M
-mirror-spec =
+pub track-covariance-spec : {M : Type 1} → statement M
+track-covariance-spec =
     tie.close
     (tie.spec Inv-loop μ-loop (λ c. no-row (c .before .before .pre .room)) (λ c. omega (arith, fits c)) (λ c. omega (arith, fits c)) (λ c. omega (arith, fits c)) (λ c. omega arith)
     (λ c. omega arith) (λ c. omega (arith, fits c)) covariance-row-requires (λ c. omega arith) (λ c. omega arith) loop-again (λ c. c .before .loop .inv .rows .size) returns)
