@@ -12,8 +12,8 @@ ghost use Rattle.merge.specs.Candidates.{candidacyOf, rank};
 ghost use Rattle.merge.specs.Private.{OneKey, SomeKeys, KeyRow, TwoValues, KeysInFront, keyFrom, keyAmong, keysFrom, keysBetween};
 use crate::pairings::both_free;
 use compare::Comparison;
-use compare::fields::whole_covariance;
 use compare::inside::compare_tracks;
+use compare::inside::track_covariance;
 use dense::shape::row;
 
 // What tracks are compared by: their dimension and number of fields, the floor and the gate.
@@ -48,7 +48,7 @@ fn key(mu: &[f64], p: &[f64], v: &[f64], terms: Terms, q: &mut [f64]) -> f64
     ensures { λ r. ⌜ r ≡ keyFrom terms (now (mu .entry)) (now (p .entry)) (now (v .entry)) ⌝ }
 {
     let d = terms.d;
-    whole_covariance(v, d, q);
+    track_covariance(v, d, q);
     let c = compare_tracks(mu, &v[..d], p, q, d, terms.floor, terms.gate);
     let comparison = c.comparison;
     rank(comparison)
@@ -97,7 +97,7 @@ fn key_row(
     let mut q = [0.0f64; 81];
     let d = terms.d;
     let size = d * d;
-    whole_covariance(u, d, &mut p[..size]);
+    track_covariance(u, d, &mut p[..size]);
     put_keys(
         &u[..d],
         &p[..size],

@@ -1,5 +1,4 @@
--- What a track's state and covariance are in a merge, for a comparison: `side-met`, `length-state`, `length-covariance` and `covariance-entries` on their lengths, `covariance-left` on what
--- `whole_covariance` leaves.
+-- What a track's state and covariance are in a merge, for a comparison: `side-met`, `length-state`, `length-covariance`, `covariance-entries` and `covariance-room` on their lengths.
 use Prim.Native.Nat.{ℕ, _*_, _≤_}
 use native.Mathlib.Omega.{arith}
 use native.Mathlib.Nat.{mul-le-mul}
@@ -13,10 +12,8 @@ use lib.Seq.{length-take-le}
 use Rattle.dense.specs.Matrix.{isSide}
 use Rattle.dense.proofs.Laws.{length-matrix}
 use Rattle.tracks.specs.Layout.{fields}
-use Rattle.compare.specs.Fields.{trackState, trackCovariance, wholeCovariance}
-use Rattle.compare.proofs.Covariance.{whole-met}
-use Rattle.dense.specs.Answer.{Leaves}
-use Rattle.dense.specs.declared.Written.{Written}
+use Rattle.compare.specs.Fields.{trackState, trackCovariance}
+use Rattle.compare.specs.Private.{CovarianceRoom}
 use Rattle.merge.specs.Private.{Compares}
 use Rattle.merge.specs.declared.keys.Terms.{Terms}
 
@@ -38,8 +35,6 @@ module _ (t : Terms) (h : Compares t) where
   unfolding fields
   length-state v e = length-take-le (t .d) v (omega (arith, h .number))
 
-  -- what `whole_covariance` leaves where the lengths are known
-  pub covariance-left : (v out : List Float) {r : Written} {new : List Float} → length v ≡ t .f → length out ≡ t .d * t .d
-      → Leaves (wholeCovariance v (t .d) out) out r new → new ≡ trackCovariance (t .d) v
-  unfolding fields
-  covariance-left v out e f l = whole-met v out (t .d) (side-met h) (omega (arith, h .number)) f l .1
+  -- there is room for the covariance of a track
+  pub covariance-room : (v out : List Float) → length v ≡ t .f → length out ≡ t .d * t .d → CovarianceRoom (t .d) v out
+  covariance-room v out e f = record { track = record { few = omega (arith, h .few); enough = omega (arith, h .number) }; room = f }

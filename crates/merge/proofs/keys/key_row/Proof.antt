@@ -12,7 +12,7 @@ use Rattle.dense.proofs.Laws.{front}
 use Rattle.compare.specs.Fields.{trackState, trackCovariance}
 use Rattle.pairing.specs.Keys.{nobody}
 use Rattle.merge.specs.Private.{keysFrom}
-use Rattle.merge.proofs.Matching.Covariances.{covariance-entries, length-covariance, length-state, covariance-left}
+use Rattle.merge.proofs.Matching.Covariances.{covariance-entries, length-covariance, length-state, covariance-room}
 use Rattle.merge.proofs.keys.key_row.Statement.{statement}
 use Rattle.merge.proofs.keys.key_row.Tie as tie
 
@@ -20,10 +20,10 @@ use Rattle.merge.proofs.keys.key_row.Tie as tie
 abbrev entered : tie.After-slice-known → tie.Start
 entered c = c .before .before .before
 
-abbrev written : tie.After-put-keys-arg → tie.After-whole-covariance
+abbrev written : tie.After-put-keys-arg → tie.After-track-covariance
 written c = c .before .before
 
-abbrev start-of : tie.After-whole-covariance → tie.Start
+abbrev start-of : tie.After-track-covariance → tie.Start
 start-of c = entered (c .before .before)
 
 -- the square of the dimension
@@ -37,25 +37,28 @@ state c = length-state (c .args .terms) (c .pre .compares) (c .args .u .now) (c 
 abbrev covariance : tie.Start → List Float
 covariance c = trackCovariance (c .args .terms .d) (c .args .u .now)
 
-left : (c : tie.After-whole-covariance) → c .whole-covariance .last .1 .1 .0 ≡ covariance (start-of c)
-left c =
-    let start = start-of c in
-    covariance-left (start .args .terms) (start .pre .compares) (start .args .u .now) _ (start .pre .track) (length-take-le _ _ (size start)) (c .whole-covariance .ensures)
+left : (c : tie.After-track-covariance) → c .track-covariance .last .1 .1 .0 ≡ covariance (start-of c)
+left c = c .track-covariance .ensures
 
 array-share-prefix-p : tie.Need-array-share-prefix-p
 array-share-prefix-p c =
     let d = start-of (written c) .args .terms .d in
-    let whole = written c .whole-covariance in
+    let whole = written c .track-covariance in
     omega (arith, size (start-of (written c)), length-front _ (whole .last .1 .1 .0) (d * d) (whole .kept .1 .1 .0))
 
-in-front : (c : tie.After-whole-covariance) (rest : List Float)
+room-requires : tie.Need-track-covariance-requires
+room-requires c κs =
+    let s = entered (c .before) in
+    covariance-room (s .args .terms) (s .pre .compares) (s .args .u .now) _ (s .pre .track) (length-take-le _ _ (size s))
+
+in-front : (c : tie.After-track-covariance) (rest : List Float)
     → let d = start-of c .args .terms .d in
-    take (d * d) (c .whole-covariance .last .1 .1 .0 ++ rest) ≡ covariance (start-of c)
+    take (d * d) (c .track-covariance .last .1 .1 .0 ++ rest) ≡ covariance (start-of c)
 in-front c rest = let x = start-of c .args in front rest (length-covariance (x .terms .d) (x .u .now)) (left c)
 
-length-in-front : (c : tie.After-whole-covariance) (rest : List Float)
+length-in-front : (c : tie.After-track-covariance) (rest : List Float)
     → let d = start-of c .args .terms .d in
-    length (take (d * d) (c .whole-covariance .last .1 .1 .0 ++ rest)) ≡ d * d
+    length (take (d * d) (c .track-covariance .last .1 .1 .0 ++ rest)) ≡ d * d
 length-in-front c rest = let x = start-of c .args in ap length (in-front c rest) ∙ length-covariance (x .terms .d) (x .u .now)
 
 put-keys-requires : tie.Need-put-keys-requires
@@ -80,6 +83,6 @@ returns c =
 pub key-row-spec : {M : Type 1} → statement M
 key-row-spec =
     tie.close
-    (tie.spec (λ c. omega (arith, size (entered c))) (λ c. size (entered c)) (λ c. sym (length-take-le _ _ (size (entered (c .before))))) (λ c κs. search needs)
+    (tie.spec (λ c. omega (arith, size (entered c))) (λ c. size (entered c)) (λ c. sym (length-take-le _ _ (size (entered (c .before))))) room-requires
     (λ c. sym (state (start-of (written c)))) array-share-prefix-p (λ c. sym (length-in-front (written (c .before)) _)) (λ c. size (start-of (written (c .before))))
     (λ c. sym (length-take-le _ _ (size (start-of (written (c .before .before)))))) put-keys-requires (λ c. search needs) returns)
