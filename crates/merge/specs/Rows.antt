@@ -126,6 +126,6 @@ module _ (verdictOf : ℕ → ℕ → ℕ → ℕ) where
     abbrev pub theirsRow : ℕ → Row
     theirsRow k = rowAt nobody nobody k
 
-    -- Base tracks, then ours without base, then the remaining theirs, each of the three groups by rising index: of m, n and l tracks.
+    -- The rows of m base tracks, then of those of n tracks of ours without base, then of those of l tracks of theirs that remain; the index rises in each group.
     unfoldable pub rowsOf : ℕ → ℕ → ℕ → List Row
     rowsOf m n l = tabulate m baseRow ++ (selected n (withoutBase p) oursRow ++ selected l (remaining p) theirsRow)

@@ -28,7 +28,7 @@ use Rattle.merge.specs.declared.Merged.the-variants.{Counts}
 abbrev double : ℕ → Float
 double bits = ofBits binary64 bits
 
--- -2, 3, 4, 5, 9, 1048576 and 1048578
+-- -2, 3, 4, 5 and 9
 abbrev minusTwo : Float
 minusTwo = double 0xC000000000000000
 
@@ -58,48 +58,48 @@ room4 = matrix2 nought nought nought nought
 abbrev seen : Repair → List Float × (ℕ × (Float × List Bool))
 seen r = (r .rebuilt, (r .report .«n_clipped», (r .report .«max_clip_magnitude», take 2 (r .report .«clipped_indices»))))
 
--- Root of 2.0 is 3FF6A09E667F3BCD (hexadecimal); of the largest finite double 5FEFFFFFFFFFFFFF.
+-- The roots of 2.0 and of the largest finite double, by their bits.
 abbrev pub A : Type 0
 A = (toBits binary64 (sqrt two) ≡ 0x3FF6A09E667F3BCD) × (toBits binary64 (sqrt (double 0x7FEFFFFFFFFFFFFF)) ≡ 0x5FEFFFFFFFFFFFFF)
 
--- Root of -0.0 is -0.0.
+-- -0.0 is its own root.
 abbrev pub B : Type 0
 B = toBits binary64 (sqrt (double 0x8000000000000000)) ≡ 0x8000000000000000
 
--- [[2,1],[1,2]]: eigenvalues 3, 1.
+-- The eigenvalues of the matrix with 2 on its diagonal and 1 beside it, the greater first.
 abbrev pub C : Type 0
 C = through (λ (e : Eigenpairs). e .values) (matSymmetricEigen (matrix2 two one one two) 2 room2 room4) ≡ answered (three ∷ one ∷ [])
 
--- Repair of diag(1,-2), floor 0: diag(1,0), one clip, 2.0; floor -2: none, 0.0.
+-- An eigenvalue below the floor 0 is raised by 2.0; by the floor -2, which it meets, none is.
 abbrev pub D : Type 0
 D =
     (through seen (nearestPsd (matrix2 one nought nought minusTwo) nought 2 room4) ≡ answered (matrix2 one nought nought nought, (1, (two, false ∷ true ∷ []))))
     × (through seen (nearestPsd (matrix2 one nought nought minusTwo) minusTwo 2 room4) ≡ answered (matrix2 one nought nought minusTwo, (0, (nought, false ∷ false ∷ []))))
 
--- diag(-3,5), floor 1: diag(1,5), mask false, true, 4.0.
+-- The mask goes by eigenvalues in their descending order, not by rows: 5 is kept, and -3 is raised to 1.
 abbrev pub E : Type 0
 E = through seen (nearestPsd (matrix2 (double 0xC008000000000000) nought nought five) one 2 room4) ≡ answered (matrix2 one nought nought five, (1, (four, false ∷ true ∷ [])))
 
--- [[0,1],[2,0]] with b (3,4): x (2,3); det -2.
+-- Rows change places, since the first has a zero in front: the solution, and a determinant with the other sign.
 abbrev pub F : Type 0
 F = (matSolve (matrix2 nought one two nought) (three ∷ four ∷ []) 2 room2 ≡ answered (two ∷ three ∷ [])) × (matDet (matrix2 nought one two nought) 2 ≡ answered minusTwo)
 
 abbrev matrix-g : List Float
 matrix-g = matrix2 two (double 0x4130000000000000) one one
 
--- [[2,1048576],[1,1]] with b (1048578,2): row 1 is pivot, x (1,1).
+-- The greater entry is in row 0, the greater ratio to its row's norm in row 1, which becomes the pivot.
 abbrev pub G : Type 0
 G = (pivotAt 2 2 0 (stage matrix-g (rowNorms matrix-g 2)) .row ≡ 1) × (matSolve matrix-g (double 0x4130000200000000 ∷ two ∷ []) 2 room2 ≡ answered (one ∷ one ∷ []))
 
--- [[1,2],[2,4]]: 6, det 0.0; the 1 by 1 [1e-151]: 5.
+-- Rows that depend on each other: question 6, and the determinant 0.0. One entry of 1e-151: question 5.
 abbrev pub H : Type 0
 H = (matInv (matrix2 one two two four) 2 room4 ≡ refused 6) × (matDet (matrix2 one two two four) 2 ≡ answered nought) × (matInv (double 0x2094F31F8832DD2A ∷ []) 1 (nought ∷ []) ≡ refused 5)
 
--- [[4,9],[2,5]]: Cholesky [[2,0],[1,2]]; [[0]]: 7.
+-- The factor leaves the 9 above the diagonal unread; a pivot of 0 is question 7.
 abbrev pub I : Type 0
 I = (matCholesky (matrix2 four nine two five) 2 room4 ≡ answered (matrix2 two nought one two)) × (matCholesky (nought ∷ []) 1 (nought ∷ []) ≡ refused 7)
 
--- `01 01 06`: 13. And the list of one track, d = 1, state 0, variance 1, is `01 01 02 00 00 00 00 00 00 F0 3F`, read and written.
+-- A spare bit of a map stands: question 13. And a list of one track with state 0 and variance 1, read and written.
 abbrev pub J : Type 0
 J =
     (contents (0x01 ∷ 0x01 ∷ 0x06 ∷ []) ≡ refused 13)
@@ -107,7 +107,7 @@ J =
     × (contents oneTrack ≡ answered (record { dimension = 1; tracks = trackOf zeroAndOne ∷ [] }))
     × (written 1 1 zeroAndOne 11 ≡ answered oneTrack)
 
--- d = 1, all variances 1, base 10, 20, 30; ours 10, 30; theirs 10, 20, 30.5; floor 1, gate 16: rows `0 0 0 0`, `1 - 1 3`, `2 1 2 2` and counts `2 1 0`.
+-- A merge: the second track is deleted in ours, the third is moved in theirs. Two rows have three tracks, one has two.
 abbrev pub K : Type 0
 K =
     afterMerge (merging base-k ours-k theirs-k one gate-k 33) (replicate 33 7)

@@ -10,7 +10,7 @@ pub struct Candidate {
 }
 
 impl Candidate {
-    /// By d², then first index, then second; +0 and -0 are equal.
+    /// The nearer pair comes first, a zero's sign aside; of two that are as near, the one with the lower indices.
     fn order(&self, other: &Candidate) -> Ordering {
         let by_distance = self.d2.partial_cmp(&other.d2).expect("a candidate's d² is a number");
         by_distance.then(self.first.cmp(&other.first)).then(self.second.cmp(&other.second))

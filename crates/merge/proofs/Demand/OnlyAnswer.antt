@@ -11,7 +11,6 @@ use lib.Ieee.{Float}
 use lib.ListN.{length, getD}
 use lib.Seq.{ext-getD}
 use Rattle.kernel.proofs.Answers.{answered-inj}
-use Rattle.tracks.specs.Read.{TrackList}
 use Rattle.pairing.specs.Pairing.{Pairs, Candidates, Ordered, paired, freeSecond}
 use Rattle.pairing.proofs.Stable.{only-stable}
 use Rattle.merge.specs.Tracks.{ThreeLists, trackCount}
@@ -35,20 +34,20 @@ one-unblocked : (g : Candidates) → Ordered g → (s : Pairs) → OnlyUnblocked
 one-unblocked g o s w = only-stable g o s (record { pairing = record { candidates = w .candidates; apart = w .apart }; unblocked = w .unblocked })
 
 -- the candidates between tracks that are free of base
-abbrev free : Float → Float → TrackList → TrackList → TrackList → Pairs → Pairs → Candidates
-free floor gate b o t bo bt = among (candidatesOf o t floor gate) (freeSecond (candidatesOf b o floor gate) bo) (freeSecond (candidatesOf b t floor gate) bt)
+abbrev free : Float → Float → ThreeLists → Pairs → Pairs → Candidates
+free floor gate lists bo bt =
+    among (candidatesOf (lists .ours) (lists .theirs) floor gate)
+    (freeSecond (candidatesOf (lists .base) (lists .ours) floor gate) bo)
+    (freeSecond (candidatesOf (lists .base) (lists .theirs) floor gate) bt)
 
 -- ---- the pairs of one answer
 
 module _ {lists : ThreeLists} {floor gate : Float} {rows : ℕ} {new : List ℕ} (d : MergeRows lists floor gate rows new) where
-  abbrev b : TrackList
-  b = lists .base
+  abbrev base-ours-candidates : Candidates
+  base-ours-candidates = candidatesOf (lists .base) (lists .ours) floor gate
 
-  abbrev o : TrackList
-  o = lists .ours
-
-  abbrev t : TrackList
-  t = lists .theirs
+  abbrev base-theirs-candidates : Candidates
+  base-theirs-candidates = candidatesOf (lists .base) (lists .theirs) floor gate
 
   abbrev bo : Pairs
   bo = baseWithOurs new rows
@@ -59,16 +58,16 @@ module _ {lists : ThreeLists} {floor gate : Float} {rows : ℕ} {new : List ℕ}
   abbrev ot : Pairs
   ot = oursWithTheirs new rows
 
-  one-base-ours : bo ≡ paired (candidatesOf b o floor gate)
-  one-base-ours = one-unblocked (candidatesOf b o floor gate) (candidates-ordered b o floor gate) bo (d .base-ours)
+  one-base-ours : bo ≡ paired base-ours-candidates
+  one-base-ours = one-unblocked base-ours-candidates (candidates-ordered (lists .base) (lists .ours) floor gate) bo (d .base-ours)
 
-  one-base-theirs : bt ≡ paired (candidatesOf b t floor gate)
-  one-base-theirs = one-unblocked (candidatesOf b t floor gate) (candidates-ordered b t floor gate) bt (d .base-theirs)
+  one-base-theirs : bt ≡ paired base-theirs-candidates
+  one-base-theirs = one-unblocked base-theirs-candidates (candidates-ordered (lists .base) (lists .theirs) floor gate) bt (d .base-theirs)
 
-  one-ours-theirs : ot ≡ paired (free floor gate b o t bo bt)
+  one-ours-theirs : ot ≡ paired (free floor gate lists bo bt)
   one-ours-theirs =
-      one-unblocked (free floor gate b o t bo bt)
-      (among-ordered o t floor gate (freeSecond (candidatesOf b o floor gate) bo) (freeSecond (candidatesOf b t floor gate) bt)) ot (d .ours-theirs)
+      one-unblocked (free floor gate lists bo bt)
+      (among-ordered (lists .ours) (lists .theirs) floor gate (freeSecond base-ours-candidates bo) (freeSecond base-theirs-candidates bt)) ot (d .ours-theirs)
 
 -- ---- two buffers with the rows of one merge
 
@@ -81,7 +80,7 @@ module _ {lists : ThreeLists} {floor gate : Float} {rows rows' : ℕ} {new new' 
   base-theirs = one-base-theirs d ∙ sym (one-base-theirs e)
 
   ours-theirs : ot d ≡ ot e
-  ours-theirs = one-ours-theirs d ∙ (λ x. paired (free floor gate (lists .base) (lists .ours) (lists .theirs) (base-ours x) (base-theirs x))) ∙ sym (one-ours-theirs e)
+  ours-theirs = one-ours-theirs d ∙ (λ x. paired (free floor gate lists (base-ours x) (base-theirs x))) ∙ sym (one-ours-theirs e)
 
   -- ---- the same rows
 

@@ -60,27 +60,18 @@ module _ (a b : TrackList) (terms : Terms) (us vs : List Float) (e : terms .d �
 
 module _ (lists : ThreeLists) (terms : Terms) (us vs ws : List Float) (e : terms .d ≡ lists .base .dimension) (g : terms .d ≡ lists .ours .dimension)
     (hu : Holds (lists .base) us (terms .f)) (hv : Holds (lists .ours) vs (terms .f)) (hw : Holds (lists .theirs) ws (terms .f)) where
-  abbrev b : TrackList
-  b = lists .base
-
-  abbrev o : TrackList
-  o = lists .ours
-
-  abbrev t : TrackList
-  t = lists .theirs
-
   abbrev sizes-with : ℕ → ℕ → ℕ → Sizes
   sizes-with m n l = record { base = m; ours = n; theirs = l; dimension = terms .d }
 
-  counted : pairedValues terms us vs ws (sizes-with (trackCount b) (trackCount o) (trackCount t)) ≡ pairingsOf lists (terms .floor) (terms .gate)
+  counted : pairedValues terms us vs ws (sizes-with (trackCount (lists .base)) (trackCount (lists .ours)) (trackCount (lists .theirs))) ≡ pairingsOf lists (terms .floor) (terms .gate)
   unfolding pairingsOf
   counted =
-      let third : Partners → Partners → Partners = λ x y. partnersBetween terms vs (x .seconds) (trackCount o) ws (y .seconds) (trackCount t) in
-      let p = partners-all b o terms us vs e hu hv in
-      let q = partners-all b t terms us ws e hu hw in
-      let bo = partnersIn (candidatesOf b o (terms .floor) (terms .gate)) in
-      let bt = partnersIn (candidatesOf b t (terms .floor) (terms .gate)) in
-      let r = (λ x. third (p x) (q x)) ∙ partners-among o t terms vs ws g hv hw (bo .seconds) (bt .seconds) in
+      let third : Partners → Partners → Partners = λ x y. partnersBetween terms vs (x .seconds) (trackCount (lists .ours)) ws (y .seconds) (trackCount (lists .theirs)) in
+      let p = partners-all (lists .base) (lists .ours) terms us vs e hu hv in
+      let q = partners-all (lists .base) (lists .theirs) terms us ws e hu hw in
+      let bo = partnersIn (candidatesOf (lists .base) (lists .ours) (terms .floor) (terms .gate)) in
+      let bt = partnersIn (candidatesOf (lists .base) (lists .theirs) (terms .floor) (terms .gate)) in
+      let r = (λ x. third (p x) (q x)) ∙ partners-among (lists .ours) (lists .theirs) terms vs ws g hv hw (bo .seconds) (bt .seconds) in
       λ x. record { baseOurs = p x; baseTheirs = q x; oursTheirs = r x }
 
   pub paired-values : (sizes : Sizes) → SizesOf lists sizes → pairedValues terms us vs ws sizes ≡ pairingsOf lists (terms .floor) (terms .gate)

@@ -1,5 +1,5 @@
--- The questions of a merge of accepted lists: `asked-18`, `asked-19` and `asked-rows` say what is answered, and `lists-merged` and `lists-refused` that this is the merge's answer. `counts-written`: rows in a buffer are counted; `rows-fit`: there are no more
--- rows than tracks.
+-- The questions of a merge of accepted lists: `asked-18`, `asked-19` and `asked-rows` say what is answered, and `lists-merged` and `lists-refused` that this is the merge's answer.
+-- `counts-written`: rows in a buffer are counted; `rows-fit`: there are no more rows than tracks.
 use Prim.Native.Nat.{ℕ, _+_, _*_, _<_, _≤_}
 use native.Mathlib.Omega.{arith}
 use mathlib.Core.Path.{_≡_, refl, sym, ap, _∙_}
