@@ -246,7 +246,7 @@ fn patterns(values: &[f64]) -> Vec<u8> {
     values.iter().flat_map(|x| x.to_le_bytes()).collect()
 }
 
-/// A list that is read into `room` values.
+/// A list that is read into `room` values, and how many records a reader finds in it.
 fn read_record(frozen: &mut Frozen, list: &[u8], room: usize) {
     let mut values = vec![BEFORE; room];
     let read = lists::read(list);
@@ -258,7 +258,8 @@ fn read_record(frozen: &mut Frozen, list: &[u8], room: usize) {
         Ok(_) => (2, 0, 0),
         Err(number) => (*number as usize, 0, 0),
     };
-    list_record(frozen, 0, &[list.len(), room, told, count, dimension], &[list, &patterns(&values)]);
+    let records = read.map_or(0, |read| read.starts.len() - 1);
+    list_record(frozen, 0, &[list.len(), room, told, count, dimension, records], &[list, &patterns(&values)]);
 }
 
 /// Values that are written as a list into `room` bytes.

@@ -1,6 +1,8 @@
 // Replays frozen answers of the track lists: one block of 65,536 bytes, some records and then zeros. All numbers have eight
 // bytes, low byte first, values stand by their bit patterns, and bytes are filled up with zeros to a whole number. A record
 // has its length in numbers, its kind and six numbers more, which each kind below names in their order, and then its data.
+mod reader;
+
 use kernel::bytes;
 use tracks::read;
 use tracks::read::ReadList;
@@ -17,6 +19,9 @@ const VALUES: usize = 128;
 const BYTES: usize = 1100;
 
 const KINDS: usize = 4;
+
+// The most records of a list.
+const MOST_RECORDS: usize = 32;
 
 // What stands in lent memory before a call.
 const VALUE_BEFORE: f64 = 7.0;
@@ -135,8 +140,32 @@ fn bytes_lent(n: u64) -> usize
     (n % 1101) as usize
 }
 
-// Kind 0, a list that is read: the list's length, the values that are lent, the answer's number, the count and the
-// dimension; the list, and the values afterwards.
+// Whether a reader goes from its start through so many records, one after the other, to the list's end.
+fn is_walked(list: &[u8], records: u64) -> bool {
+    let mut at = reader::first_at(list);
+    let mut met = 0u64;
+    for _ in 0..MOST_RECORDS {
+        if !reader::ended_at(list, at) {
+            at = reader::next_at(list, at);
+            met = replay::one_more(met);
+        }
+    }
+    reader::ended_at(list, at) && met == records && (records == 0 || at == list.len())
+}
+
+// Whether a reader at an offset finds this part there, has ended where it is empty, and goes on after it.
+fn is_found(list: &[u8], at: usize, wanted: &[u8]) -> bool {
+    let after = std::num::wrapping_add_u64(at as u64, wanted.len() as u64);
+    let given = reader::here_at(list, at);
+    let ended = reader::ended_at(list, at);
+    if ended && 0 < wanted.len() || !ended && wanted.len() == 0 {
+        return false;
+    }
+    replay::same_bytes(wanted, given) && reader::next_at(list, at) as u64 == after
+}
+
+// Kind 0, a list that is read: the list's length, the values that are lent, the answer's number, the
+// count, the dimension and the records that a reader finds; the list, and the values afterwards.
 fn reads(s: &[u8]) -> bool {
     let data = rest(s, HEAD);
     let list = part(data, 0, named(s, 2));
@@ -151,6 +180,12 @@ fn reads(s: &[u8]) -> bool {
         named(s, 6),
         left,
     )
+}
+
+// The same list, walked through by a reader.
+fn walks(s: &[u8]) -> bool {
+    let list = part(rest(s, HEAD), 0, named(s, 2));
+    is_walked(list, named(s, 7))
 }
 
 // Kind 1, a list that is written: the count, the dimension, the values' number, the bytes that are lent, the answer's number
@@ -173,7 +208,7 @@ fn writes(s: &[u8]) -> bool {
     )
 }
 
-// Kind 2, a track's own bytes: the list's length, the offset and the record's length; the list.
+// Kind 2, a track's own bytes, by the call and by a reader: the list's length, the offset and the record's length; the list.
 fn hands_out(s: &[u8]) -> bool {
     let list = part(rest(s, HEAD), 0, named(s, 2));
     let wanted = part(list, named(s, 3), named(s, 4));
@@ -181,7 +216,7 @@ fn hands_out(s: &[u8]) -> bool {
     if given.len() as u64 != named(s, 4) {
         return false;
     }
-    replay::same_bytes(wanted, given)
+    replay::same_bytes(wanted, given) && is_found(list, named(s, 3) as usize, wanted)
 }
 
 // Kind 3, whether two records are equal: their lengths, and 1 for yes; the two.
@@ -198,7 +233,7 @@ fn compares(s: &[u8]) -> bool {
 // Whether the record at the start of s is answered as it says.
 fn is_met(s: &[u8], kind: usize) -> bool {
     match kind {
-        0 => reads(s),
+        0 => reads(s) && walks(s),
         1 => writes(s),
         2 => hands_out(s),
         _ => compares(s),
