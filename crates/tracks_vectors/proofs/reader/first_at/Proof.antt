@@ -113,7 +113,8 @@ module _ {M : Type 1} (𝓤 : URA M) (H : Heap 𝓤) (A : Atoms 𝓤) (W : Given
         alloc1 ! (λ l₀. alloc1 ! (λ l₁. alloc1 ! (λ l₂. alloc0 ! $ params1 ! $ pass1 ! (init ! 2 refl typed) $ pass0 ! $
         move ! (6 ∷ []) $ use1 W (raw (Called 𝓤 H A mem run .pre to) ⊛ ‵ Own) goes $ split ! $
         calls-at ! fm (Called 𝓤 H A mem run) known to (and-then ! (load ! (from ! (stop !)) (look ! 4 refl)) (no-more !)) (λ u.
-        use1 W (later (some (λ (r : Reader). ((‵ (flft κ q) ⊛ ‵ ftrue) ⊛ ‵ (T.the-row α .own r (u ∷ []))) ⊛ raw (ensured 𝓤 H A called.ended (called.clauses 𝓤 H A mem run) (κ, tt) (s, tt) tt r)))) (id⊢ 𝓤 _) $
+        use1 W (later (some (λ (r : Reader).
+        ((‵ (flft κ q) ⊛ ‵ ftrue) ⊛ ‵ (T.the-row α .own r (u ∷ []))) ⊛ raw (ensured 𝓤 H A called.ended (called.clauses 𝓤 H A mem run) (κ, tt) (s, tt) tt r)))) (id⊢ 𝓤 _) $
         await ! tt $ pick ! (λ r.
         split ! $ move ! (1 ∷ []) $ use1 W (raw (fact 𝓤 (Told r))) (said r) $ heard ! (Told r) (λ e. split ! $ move ! (1 ∷ []) $
         -- [what the reader owns; the token; what the list owns; room for _2; …; _1; …; room for _0; …]
