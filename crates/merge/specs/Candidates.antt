@@ -13,8 +13,7 @@ use Rattle.compare.specs.Distance.{compared}
 use Rattle.compare.specs.Fields.{trackState, trackCovariance}
 use Rattle.compare.specs.declared.Comparison.{Comparison}
 use Rattle.compare.specs.declared.Comparison.the-variants.{Near, Far, NoDistance}
-use Rattle.pairing.specs.Pairing.{Pair, Candidates}
-use Rattle.pairing.specs.Keys.{byIndex}
+use Rattle.pairing.specs.Pairing.{Pair, Candidates, byIndex}
 use Rattle.merge.specs.Tracks.{trackCount, trackAt}
 
 -- ---- two tracks

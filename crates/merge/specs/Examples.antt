@@ -13,7 +13,8 @@ use Rattle.tracks.specs.Read.{contents}
 use Rattle.tracks.specs.Record.{sameBytes, offset, recordAt}
 use Rattle.compare.specs.Distance.{compared, floorAndGate}
 use Rattle.compare.specs.Fields.{trackCovariance}
-use Rattle.pairing.specs.Keys.{byIndex, firstPartners, secondPartners}
+use Rattle.pairing.specs.Pairing.{byIndex}
+use Rattle.pairing.specs.Keys.{firstPartners, secondPartners}
 use Rattle.merge.specs.Tracks.{equalTracks}
 use Rattle.merge.specs.Candidates.{comparison, candidacy, byRank}
 use Rattle.merge.specs.Rows.{Row, rowsWith, verdict, verdictOn, tracksAmong, selected, rowsOf}
@@ -47,7 +48,8 @@ abbrev pub buffer-k : List ℕ
 buffer-k = replicate 33 7
 
 unfoldable pub outcome-k : Outcome MergedLists
-unfolding merging acceptedLists mergedLists contents floorAndGate mergedRows pairingsOf partnersIn firstPartners secondPartners comparison candidacy compared trackCovariance byRank byIndex rowsOf selected tabulate
+unfolding merging acceptedLists mergedLists contents floorAndGate mergedRows pairingsOf partnersIn firstPartners secondPartners
+    comparison candidacy compared trackCovariance byRank byIndex rowsOf selected tabulate
 outcome-k = merging base-k ours-k theirs-k one gate-k 33
 
 -- The three rows, then the bytes that stay, and two rows with three tracks, one with two.

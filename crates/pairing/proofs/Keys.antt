@@ -9,8 +9,8 @@ use mathlib.Core.List.{List}
 use lib.Dec.{T, ltb, eqb, ltb→lt, lt→ltb, eqb→eq, eqb-refl}
 use lib.Ieee.{Float, isNan, lt, eq}
 use Rattle.kernel.proofs.Order.{lt-irreflexive, lt-transitive, lt-trichotomy, lt-eq, eq-lt, eq-symmetric, eq-transitive}
-use Rattle.pairing.specs.Pairing.{Pair, has, Ordered}
-use Rattle.pairing.specs.Keys.{keyOf, byIndex, byKey, fromKeys}
+use Rattle.pairing.specs.Pairing.{Pair, has, Ordered, byIndex}
+use Rattle.pairing.specs.Keys.{keyOf, byKey, fromKeys}
 use Rattle.pairing.proofs.Tests.{both, left, right, or-left, or-right, or-cases}
 use Rattle.pairing.proofs.Pairings.{pair-path}
 

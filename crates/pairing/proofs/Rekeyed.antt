@@ -8,8 +8,8 @@ use mathlib.Core.Bool.{not}
 use mathlib.Core.List.{List}
 use lib.Dec.{T}
 use lib.Ieee.{Float, isNan}
-use Rattle.pairing.specs.Pairing.{Pair, pair, freeFirst, freeSecond, paired}
-use Rattle.pairing.specs.Keys.{keyOf, byIndex, byKey, fromKeys}
+use Rattle.pairing.specs.Pairing.{Pair, pair, freeFirst, freeSecond, paired, byIndex}
+use Rattle.pairing.specs.Keys.{keyOf, byKey, fromKeys}
 use Rattle.pairing.proofs.Tests.{alike}
 use Rattle.pairing.proofs.Keys.{Index, of-index, to-index, of-candidate, to-candidate, ordered}
 use Rattle.pairing.proofs.Restricted.{IsCandidate}

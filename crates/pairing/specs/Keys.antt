@@ -7,15 +7,11 @@ use lib.Dec.{ltb, eqb}
 use lib.ListN.{length, getD}
 use lib.Ieee.{Float, nan, isNan, lt, eq}
 use Rattle.kernel.specs.Lists.{tabulate}
-use Rattle.pairing.specs.Pairing.{Pair, pair, Candidates, paired}
+use Rattle.pairing.specs.Pairing.{Pair, pair, byIndex, Candidates, paired}
 
 -- The key of a pair, where the keys stand in rows of n.
 unfoldable pub keyOf : List Float → ℕ → Pair → Float
 keyOf keys n p = getD keys (p .first * n + p .second) nan
-
--- By first index, then by second.
-unfoldable pub byIndex : Pair → Pair → Bool
-byIndex p q = ltb (p .first) (q .first) || (eqb (p .first) (q .first) && ltb (p .second) (q .second))
 
 -- By key, then by first index, then by second. The keys +0 and -0 are equal.
 unfoldable pub byKey : List Float → ℕ → Pair → Pair → Bool

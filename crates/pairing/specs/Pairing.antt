@@ -5,7 +5,7 @@ use mathlib.Core.Path.{_≡_}
 use mathlib.Core.Logic.{_⊎_}
 use mathlib.Core.Bool.{Bool, false, not, _&&_, _||_, cond}
 use mathlib.Core.List.{List, [], _∷_}
-use lib.Dec.{T, eqb}
+use lib.Dec.{T, eqb, ltb}
 
 -- A first track and a second track, by their indices.
 pub record Pair : Type 0 where
@@ -14,6 +14,10 @@ pub record Pair : Type 0 where
 
 abbrev pub pair : ℕ → ℕ → Pair
 pair i j = record { first = i; second = j }
+
+-- By first index, then by second.
+unfoldable pub byIndex : Pair → Pair → Bool
+byIndex p q = ltb (p .first) (q .first) || (eqb (p .first) (q .first) && ltb (p .second) (q .second))
 
 -- A set of pairs, by its characteristic function: two sets are equal where they hold the same pairs.
 abbrev pub Pairs : Type 0

@@ -10,8 +10,7 @@ use Rattle.tracks.specs.Record.{sameBytes}
 use Rattle.tracks.proofs.Records.Same.{same-refl, same-equal}
 use Rattle.compare.specs.declared.Comparison.{Comparison}
 use Rattle.compare.specs.declared.Comparison.the-variants.{Near, Far, NoDistance}
-use Rattle.pairing.specs.Pairing.{Pair, In, Candidates, Ordered, paired}
-use Rattle.pairing.specs.Keys.{byIndex}
+use Rattle.pairing.specs.Pairing.{Pair, In, Candidates, Ordered, paired, byIndex}
 use Rattle.pairing.proofs.Tests.{both, left, right, or-left, or-right, or-cases, is-true}
 use Rattle.pairing.proofs.Keys.{of-index, to-index}
 use Rattle.pairing.proofs.Stable.{paired-stable, others-blocked}

@@ -20,6 +20,7 @@ use Rattle.tracks.specs.Record.{offset}
 use Rattle.tracks.specs.Calls.{doubles, joined, readAnswer, placedLeft, readingPlaced, readWithOffsets}
 use Rattle.tracks.specs.declared.read.ReadList.{ReadList}
 use Rattle.tracks.specs.declared.read.ReadList.the-variants as ReadList
+use Rattle.tracks.proofs.Numbers.Fields.{most-fields}
 use Rattle.tracks.proofs.Reading.Accepted.{contents-met, dimension-small}
 use Rattle.tracks.proofs.Reading.Known.{read-accepted, read-refused}
 use Rattle.tracks.proofs.Reading.Offsets.{placed-fits, placed-refused}
@@ -35,15 +36,11 @@ use Rattle.merge.proofs.Readings.Tracks.{values-read}
 
 -- ---- the largest list has room
 
-fields-few : (d : ℕ) → d ≤ 9 → fields d ≤ 54
-unfolding fields
-fields-few d h = omega (arith, mul-le-mul-right (d + 1) h)
-
 pub values-few : (l : List ℕ) {c : TrackList} → contents l ≡ answered c → trackCount c * fields (c .dimension) ≤ 1728
 values-few l {c} e =
     let w = contents-met l e in
     let few = leb-true (trackCount c) 32 (w .few) in
-    omega (arith, fields-few (c .dimension) (dimension-small (c .dimension) (w .sized)), mul-le-mul-right (fields (c .dimension)) few)
+    omega (arith, most-fields (c .dimension) (dimension-small (c .dimension) (w .sized)), mul-le-mul-right (fields (c .dimension)) few)
 
 room-enough : (l : List ℕ) {c : TrackList} → contents l ≡ answered c → readingPlaced l 1728 33 ≡ answered c
 room-enough l {c} e = placed-fits l 1728 33 e (values-few l e) (omega (arith, leb-true (trackCount c) 32 (contents-met l e .few)))
