@@ -17,9 +17,8 @@ use Rattle.tracks.specs.declared.read.ReadList.{ReadList}
 use Rattle.tracks.specs.declared.read.ReadList.the-variants as reading
 use Rattle.compare.specs.Distance.{compared}
 use Rattle.compare.specs.Fields.{trackState, trackCovariance}
-use Rattle.pairing.specs.Keys.{nobody, fromKeys}
-use Rattle.pairingNone.specs.Keys.{isFree}
-use Rattle.pairingNone.specs.Private.{nobodies}
+use Rattle.pairing.specs.Keys.{nobody, fromKeys, isFree}
+use Rattle.pairing.specs.Private.{nobodies}
 use Rattle.merge.specs.Tracks.{ThreeLists, trackCount, trackAt}
 use Rattle.merge.specs.Candidates.{candidacyOf, rank}
 use Rattle.merge.specs.Rows.{Row, rowBytes, rowAt, keep, verdictOn, rowsOf, selected, Partners, Pairings}

@@ -5,8 +5,7 @@ use mathlib.Core.List.{List, [], _∷_, _++_}
 use lib.Dec.{eqb}
 use lib.ListN.{getD}
 use Rattle.kernel.specs.Lists.{tabulate}
-use Rattle.pairing.specs.Keys.{nobody}
-use Rattle.pairingNone.specs.Keys.{isFree}
+use Rattle.pairing.specs.Keys.{nobody, isFree}
 use Rattle.merge.specs.Tracks.{ThreeLists, equalTracks}
 
 -- ---- verdicts

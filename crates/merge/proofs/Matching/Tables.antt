@@ -16,9 +16,8 @@ use Rattle.dense.proofs.Laws.{matrix-ext}
 use Rattle.tracks.specs.Read.{TrackList}
 use Rattle.tracks.specs.Calls.{doubles}
 use Rattle.pairing.specs.Pairing.{Candidates}
-use Rattle.pairing.specs.Keys.{nobody, fromKeys, firstPartners, secondPartners}
-use Rattle.pairingNone.specs.Keys.{isFree}
-use Rattle.pairingNone.specs.Private.{nobodies}
+use Rattle.pairing.specs.Keys.{nobody, fromKeys, firstPartners, secondPartners, isFree}
+use Rattle.pairing.specs.Private.{nobodies}
 use Rattle.merge.specs.Tracks.{ThreeLists, trackCount, trackAt}
 use Rattle.merge.specs.Candidates.{comparison, candidacy, candidatesOf, among}
 use Rattle.merge.specs.Rows.{Partners}

@@ -12,7 +12,7 @@ use Rattle.dense.proofs.Fill.{FilledRows}
 use Rattle.dense.specs.Matrix.{rowOf, matrix}
 use Rattle.kernel.proofs.Lists.{row-within}
 use Rattle.dense.proofs.Laws.{length-part, rows-none, rows-more}
-use Rattle.pairingNone.specs.Keys.{isFree}
+use Rattle.pairing.specs.Keys.{isFree}
 use Rattle.merge.specs.Private.{keyAmong}
 use Rattle.merge.proofs.keys.keys_between.Statement.{statement}
 use Rattle.merge.proofs.keys.keys_between.Tie as tie

@@ -12,8 +12,7 @@ use lib.ListN.{length, set}
 use Rattle.dense.specs.Matrix.{rowOf}
 use Rattle.kernel.proofs.Lists.{row-within}
 use Rattle.dense.proofs.Entries.{EntryByEntry, no-entry, entry-written, every-entry}
-use Rattle.pairing.specs.Keys.{nobody}
-use Rattle.pairingNone.specs.Keys.{isFree}
+use Rattle.pairing.specs.Keys.{nobody, isFree}
 use Rattle.merge.specs.Private.{keyFrom}
 use Rattle.merge.proofs.keys.put_keys.Statement.{statement}
 use Rattle.merge.proofs.keys.put_keys.Tie as tie
