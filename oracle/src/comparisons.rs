@@ -1,6 +1,6 @@
 //! Comparisons of two tracks beside the source's functions, composed as document 01 says.
 use crate::classes::{Named, CLASSES};
-use crate::faults::{self, Kind, Met, Shape};
+use crate::faults::{self, Fault, Kind, Met, Shape};
 use crate::ffi;
 use crate::lent::Lent;
 use crate::rng::Rng;
@@ -61,6 +61,7 @@ fn compare(tally: &mut Tally, pair: &Pair, n: usize, within: (f64, f64), wanted:
     faults::plant(CALL, || Met {
         number: &mut number,
         also: unmet(pair, n, within),
+        wrong: wrong_lengths(pair, n),
         reads: vec![&mut mu, &mut x, &mut p_i, &mut p_j],
         writes: vec![(&mut kind, 1), (&mut d2, usize::from(written))],
     });
@@ -84,10 +85,16 @@ fn compare(tally: &mut Tally, pair: &Pair, n: usize, within: (f64, f64), wanted:
     });
 }
 
+/// The slices that have another length than the side asks for.
+fn wrong_lengths(pair: &Pair, n: usize) -> Vec<usize> {
+    let square = n.saturating_mul(n);
+    let lengths = [(pair.mu.len(), n), (pair.x.len(), n), (pair.p_i.len(), square), (pair.p_j.len(), square)];
+    (0..4).filter(|at| lengths[*at].0 != lengths[*at].1).collect()
+}
+
 /// The questions that are not met, each asked by itself.
 fn unmet(pair: &Pair, n: usize, (floor, gate): (f64, f64)) -> Vec<u32> {
-    let square = n.saturating_mul(n);
-    let lengths = pair.mu.len() == n && pair.x.len() == n && pair.p_i.len() == square && pair.p_j.len() == square;
+    let lengths = wrong_lengths(pair, n).is_empty();
     let within = floor.is_finite() && floor > 0.0 && gate.is_finite() && gate >= 0.0;
     [(1, (1..=16).contains(&n)), (2, lengths), (18, within)].iter().filter(|(_, met)| !met).map(|(q, _)| *q).collect()
 }
@@ -238,7 +245,7 @@ pub fn shape() -> Shape {
         partly: vec![1],
         refuses: REFUSES,
         orders: vec![(1, 2), (1, 18), (2, 18)],
-        others: vec![],
+        others: (0..4).map(Fault::Unasked).collect(),
     }
 }
 

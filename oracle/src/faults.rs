@@ -36,6 +36,10 @@ pub enum Fault {
     Number(u32, u32),
     /// Where both questions are not met, the later one's number is given.
     Order(u32, u32),
+    /// The length of one slice, of those that are read and then of those that are written, is not asked for.
+    Unasked(usize),
+    /// A part is one more where the answer is the empty part.
+    WhereEmpty(usize),
     /// Two rows have each other's track of this list.
     PairExchanged(usize),
     /// A row is left out, and not counted.
@@ -126,6 +130,8 @@ pub struct Met<'a> {
     pub number: &'a mut u32,
     /// Questions that are not met either, though the call is to refuse with an earlier one.
     pub also: Vec<u32>,
+    /// The slices whose length is wrong, those that are read first.
+    pub wrong: Vec<usize>,
     pub reads: Vec<&'a mut dyn Memory>,
     /// The parts of the result, and how many entries of each an answer writes.
     pub writes: Vec<(&'a mut dyn Memory, usize)>,
@@ -186,6 +192,7 @@ impl Met<'_> {
         let answered = *self.number == 0;
         match fault {
             Fault::Number(from, to) if *self.number == from => *self.number = to,
+            Fault::Unasked(slice) if *self.number == 2 && self.wrong == [slice] => *self.number = 0,
             Fault::Order(first, later) if *self.number == first && self.also.contains(&later) => *self.number = later,
             Fault::Beside(part, end) => {
                 let memory = &mut self.writes[part].0;
@@ -208,6 +215,7 @@ impl Met<'_> {
             | Fault::ZeroSign(part)
             | Fault::OneMore(part)
             | Fault::PastWritten(part) => part,
+            Fault::WhereEmpty(part) if self.writes.last().is_some_and(|(length, _)| length.at(0) == 0) => part,
             Fault::PairExchanged(list) => return self.exchange_pair(list),
             Fault::RowLeftOut(end) => return self.leave_out_row(end),
             Fault::Verdict(from, to) => return self.change_verdict(from, to),
@@ -241,7 +249,7 @@ impl Met<'_> {
                     flip(*memory, place, 63);
                 }
             }
-            Fault::OneMore(_) => memory.set(0, memory.more(memory.at(0))),
+            Fault::OneMore(_) | Fault::WhereEmpty(_) => memory.set(0, memory.more(memory.at(0))),
             _ => {
                 if *written < memory.length() {
                     flip(*memory, *written as isize, 0);

@@ -1,5 +1,5 @@
 //! The track lists: a second reader and writer, written from document 01, "The list record", beside the library's.
-use crate::faults::{self, Kind, Met, Shape};
+use crate::faults::{self, Fault, Kind, Met, Shape};
 use crate::ffi;
 use crate::lent::Lent;
 use crate::rng::Rng;
@@ -134,16 +134,15 @@ const LEAST: u64 = 100;
 /// What the three calls are lent. The values of a list are finite.
 pub fn shapes() -> [Shape; 3] {
     let values = Kind::Doubles { slice: true, nan: false, zero: true };
-    let none =
-        Shape { name: "", reads: 1, writes: vec![], partly: vec![], refuses: &[], orders: vec![], others: vec![] };
     [
         Shape {
             name: READ_LIST,
+            reads: 1,
             writes: vec![values, Kind::Whole, Kind::Whole],
             partly: vec![0],
             refuses: READS,
             orders: [12, 13, 14, 15, 16].map(|first| (first, 2)).to_vec(),
-            ..none
+            others: vec![],
         },
         Shape {
             name: WRITE_LIST,
@@ -161,7 +160,7 @@ pub fn shapes() -> [Shape; 3] {
             partly: vec![],
             refuses: &[],
             orders: vec![],
-            others: vec![],
+            others: vec![Fault::WhereEmpty(0)],
         },
     ]
 }
@@ -204,6 +203,7 @@ impl Compared {
             number: &mut number,
             // The reader's last question can be asked of a list with a count and a dimension.
             also: if number_wanted >= 12 && room < head[0] * fields(head[1]) { vec![2] } else { vec![] },
+            wrong: vec![],
             reads: vec![list],
             writes: vec![(&mut values, written.len()), (&mut count, 1), (&mut dimension, 1)],
         });
@@ -244,6 +244,7 @@ impl Compared {
         faults::plant(WRITE_LIST, || Met {
             number: &mut number,
             also: unmet(count, dimension, values, room),
+            wrong: vec![],
             reads: vec![&mut lent],
             writes: vec![(&mut bytes, written.len()), (&mut length, 1)],
         });
@@ -270,6 +271,7 @@ impl Compared {
         faults::plant(RECORD, || Met {
             number: &mut number,
             also: vec![],
+            wrong: vec![],
             reads: vec![list],
             writes: vec![(&mut start, 1), (&mut length, 1)],
         });

@@ -1,6 +1,6 @@
 //! The kernel's matrix calls beside the source's functions.
 use crate::classes::{Class, Named, CLASSES};
-use crate::faults::{self, Kind, Met, Shape};
+use crate::faults::{self, Fault, Kind, Met, Shape};
 use crate::ffi;
 use crate::lent::{Lent, Memory};
 use crate::number::{sample, special};
@@ -378,6 +378,7 @@ fn compare(call: &Call, tally: &mut Tally, case: &Case) {
     faults::plant(call.name, || Met {
         number: &mut number,
         also: (case.also)(),
+        wrong: wrong_lengths(call, case),
         reads: slices.iter_mut().map(|slice| slice as &mut dyn Memory).collect(),
         writes: parts.iter_mut().zip(case.lengths).map(|(part, n)| (part as &mut dyn Memory, *n)).collect(),
     });
@@ -402,6 +403,17 @@ fn compare(call: &Call, tally: &mut Tally, case: &Case) {
             case.slices,
         )
     });
+}
+
+/// The slices that have another length than the sides ask for, those that are read first.
+fn wrong_lengths(call: &Call, case: &Case) -> Vec<usize> {
+    if case.wanted.0 == 1 {
+        return vec![];
+    }
+    let reads = (call.reads)(case.sides).into_iter().map(|(rows, cols)| rows * cols);
+    let asked = reads.chain((call.writes)(case.sides).iter().map(Part::length).collect::<Vec<usize>>());
+    let lent = case.slices.iter().map(|slice| slice.len()).chain(case.lengths.iter().copied());
+    asked.zip(lent).enumerate().filter(|(_, (asked, lent))| asked != lent).map(|(at, _)| at).collect()
 }
 
 /// The slices and the number of a case of a class.
@@ -612,13 +624,15 @@ pub fn shape(call: &Call) -> Shape {
     let pairs = call.refuses.iter().flat_map(|first| call.refuses.iter().map(move |later| (*first, *later)));
     // Sides that are refused leave no matrix to ask about, but its entries can be looked at.
     let both = |(first, later): &(u32, u32)| first < later && (*first != 1 || *later <= 3);
+    let (reads, parts) = ((call.reads)(&sides).len(), (call.writes)(&sides));
+    let slices = parts.iter().enumerate().filter(|(_, part)| matches!(part, Slice(_))).map(|(at, _)| reads + at);
     Shape {
         name: call.name,
-        reads: (call.reads)(&sides).len(),
-        writes: (call.writes)(&sides).into_iter().enumerate().map(kind).collect(),
+        reads,
+        others: (0..reads).chain(slices).map(Fault::Unasked).collect(),
+        writes: parts.into_iter().enumerate().map(kind).collect(),
         partly: vec![],
         refuses: call.refuses,
         orders: pairs.filter(both).collect(),
-        others: vec![],
     }
 }

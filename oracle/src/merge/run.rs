@@ -42,7 +42,7 @@ pub fn shapes() -> [Shape; 2] {
             partly: vec![],
             refuses: &[],
             orders: vec![],
-            others: vec![],
+            others: [0, 1].map(Fault::WhereEmpty).to_vec(),
         },
     ]
 }
@@ -144,6 +144,7 @@ impl Compared {
         faults::plant(MERGE, || Met {
             number: &mut number,
             also: unmet(case),
+            wrong: vec![],
             reads: vec![&mut base, &mut ours, &mut theirs],
             writes: vec![(&mut rows, rows_wanted.len()), (&mut full, 1), (&mut half, 1), (&mut single, 1)],
         });
@@ -197,6 +198,7 @@ impl Compared {
         faults::plant(WINNER, || Met {
             number: &mut number,
             also: vec![],
+            wrong: vec![],
             reads: vec![&mut ours, &mut theirs, &mut lent],
             writes: vec![(&mut list, 1), (&mut start, 1), (&mut length, 1)],
         });
