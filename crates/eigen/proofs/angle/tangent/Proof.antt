@@ -9,8 +9,8 @@ use Rattle.eigen.proofs.angle.tangent.Statement.{statement}
 use Rattle.eigen.proofs.angle.tangent.Tie as tie
 
 -- no zero turns as the numbers below it do
-below : (c : tie.Else2) → le nought (c .before .before .before .args .theta) ≡ false
-below c = c .if2 .left
+below-nought : (c : tie.Else2) → le nought (c .before .before .before .args .theta) ≡ false
+below-nought c = c .if2 .left
 
 returns : tie.Need-returns
 unfolding tangent
@@ -22,7 +22,7 @@ returns-2 c = rw (← (c .before .before .before .pre), ← (c .before .sqrt-nea
 
 returns-3 : tie.Need-returns-3
 unfolding tangent neg ofBits
-returns-3 c = rw (← (c .before .before .before .pre), ← (c .before .sqrt-near .ensures), c .before .before .if1 .left, below c)
+returns-3 c = rw (← (c .before .before .before .pre), ← (c .before .sqrt-near .ensures), c .before .before .if1 .left, below-nought c)
 
 pub tangent-spec : {M : Type 1} → statement M
 tangent-spec = tie.close (tie.spec returns (λ c κs. search needs) returns-2 returns-3)

@@ -8,8 +8,8 @@ use Rattle.power.proofs.rounds.sign_of.Statement.{statement}
 use Rattle.power.proofs.rounds.sign_of.Tie as tie
 
 -- no zero has the sign -1.0
-below : (c : tie.Else1) → le nought (c .before .args .d) ≡ false
-below c = c .if1 .left
+below-nought : (c : tie.Else1) → le nought (c .before .args .d) ≡ false
+below-nought c = c .if1 .left
 
 returns : tie.Need-returns
 unfolding signOf
@@ -17,7 +17,7 @@ returns c = rw (c .if1 .taken)
 
 returns-2 : tie.Need-returns-2
 unfolding signOf neg ofBits
-returns-2 c = rw (below c)
+returns-2 c = rw (below-nought c)
 
 pub sign-of-spec : {M : Type 1} → statement M
 sign-of-spec = tie.close (tie.spec returns returns-2)
