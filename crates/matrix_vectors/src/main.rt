@@ -9,10 +9,10 @@ mod names;
 mod solving;
 mod spectral;
 
-use kernel::bytes;
-ghost use Prim.Native.Nat.{_+_, _≤_};
+ghost use Prim.Native.Nat.{_≤_};
 
-const HEAD: usize = 11;
+// The bytes of a record before its data.
+const HEAD: u64 = 88;
 // The most entries of a slice, one of a wrong length included.
 const ENTRIES: usize = 272;
 
@@ -31,49 +31,30 @@ const ITERATING: usize = 26;
 // What stands in a slice before it is written.
 const BEFORE: f64 = 7.0;
 
-// The number of s at an index, counted in numbers; 0 past the end.
-fn number(s: &[u8], at: usize) -> u64 {
-    if 0x1_0000 <= at {
-        return 0;
-    }
-    bytes::word(s, 8 * at)
-}
-
 // A slice's length out of a record.
 fn entries(s: &[u8], at: usize) -> usize
     ensures { λ r. ⌜ r ≤ 272 ⌝ }
 {
-    (number(s, at) % 273) as usize
-}
-
-// What is left of s after so many numbers.
-fn after(s: &[u8], numbers: usize) -> &[u8]
-    requires { ⌜ numbers ≤ 272 ⌝ }
-{
-    let at = 8 * numbers;
-    if s.len() < at {
-        return s;
-    }
-    &s[at..]
+    (replay::number(s, at) % 273) as usize
 }
 
 // The entries at the start of s, and past those that were meant, whatever follows.
 fn load(s: &[u8]) -> [f64; ENTRIES] {
     let mut a = [0.0; ENTRIES];
     for i in 0..ENTRIES {
-        a[i] = replay::double(number(s, i));
+        a[i] = replay::double(replay::number(s, i));
     }
     a
 }
 
 // The number that the call of the record s answers, with these slices.
 fn answer(s: &[u8], call: usize, a: &[f64], b: &[f64], c: &[f64], out: &mut [f64]) -> u64 {
-    let m = number(s, 2) as usize;
-    let k = number(s, 3) as usize;
-    let n = number(s, 4) as usize;
-    let x = replay::double(number(s, 5));
+    let m = replay::number(s, 2) as usize;
+    let k = replay::number(s, 3) as usize;
+    let n = replay::number(s, 4) as usize;
+    let x = replay::double(replay::number(s, 5));
     if ITERATING <= call {
-        let rounds = (number(s, 3) % 0x1_0000_0000) as u32;
+        let rounds = (replay::number(s, 3) % 0x1_0000_0000) as u32;
         return iterating::answer(call, rounds, n, x, a, out);
     }
     if call == COMPARISON {
@@ -98,7 +79,7 @@ fn is_met(
     out: &mut [f64],
     after: &[u8],
 ) -> bool {
-    answer(s, call, a, b, c, out) == number(s, 10) && replay::are_same(out, after)
+    answer(s, call, a, b, c, out) == replay::number(s, 10) && replay::are_same(out, after)
 }
 
 // The same with the slices out of the record.
@@ -107,10 +88,10 @@ fn is_record_met(s: &[u8], call: usize) -> bool {
     let lb = entries(s, 7);
     let lc = entries(s, 8);
     let lo = entries(s, 9);
-    let at_a = after(s, HEAD);
-    let at_b = after(at_a, la);
-    let at_c = after(at_b, lb);
-    let at_out = after(at_c, lc);
+    let at_a = replay::after(s, HEAD);
+    let at_b = replay::after(at_a, 8 * la as u64);
+    let at_c = replay::after(at_b, 8 * lb as u64);
+    let at_out = replay::after(at_c, 8 * lc as u64);
     let a = load(at_a);
     let b = load(at_b);
     let c = load(at_c);
@@ -128,33 +109,19 @@ fn is_record_met(s: &[u8], call: usize) -> bool {
 
 // Counts the record at the start of s under its call, and where it is answered otherwise, that too.
 fn replay_record(s: &[u8], cases: &mut [u64; CALLS], differences: &mut [u64; CALLS]) {
-    let call = (number(s, 1) % 30) as usize;
+    let call = (replay::number(s, 1) % 30) as usize;
     cases[call] = replay::one_more(cases[call]);
     if !is_record_met(s, call) {
         differences[call] = replay::one_more(differences[call]);
     }
 }
 
-// The bytes of the record of s at an index; 0 where none stands.
-fn size(s: &[u8], at: usize) -> usize
-    requires { do ⌜ at ≤ (← ⟦s.len()⟧) ⌝ }
-    ensures { λ r. do ⌜ r + at ≤ (← ⟦s.len()⟧ .entry) ⌝ }
-{
-    let n = (bytes::word(s, at) % 0x1_0000) as usize;
-    if s.len() - at < 8 * n {
-        return 0;
-    }
-    8 * n
-}
-
 // The records of a block, one after the other.
 fn replay_block(s: &[u8], cases: &mut [u64; CALLS], differences: &mut [u64; CALLS]) {
     let mut at = 0;
-    let mut n = size(s, at);
-    while 0 < n {
+    while 0 < replay::size(s, at) {
         replay_record(&s[at..], cases, differences);
-        at += n;
-        n = size(s, at);
+        at += replay::size(s, at);
     }
 }
 
@@ -162,11 +129,8 @@ fn replay_block(s: &[u8], cases: &mut [u64; CALLS], differences: &mut [u64; CALL
 fn replay_some(cases: &mut [u64; CALLS], differences: &mut [u64; CALLS]) -> bool {
     let mut buffer = io::large_buffer();
     let n = io::read_full(0, &mut buffer);
-    if n == 0 {
-        return false;
-    }
     replay_block(&buffer[..n], cases, differences);
-    true
+    0 < n
 }
 
 // Reads to the end of the input. A proved loop has to end, and nothing says that the input does: so the turns are counted

@@ -1,14 +1,13 @@
 // Replays frozen merges and winners. The input is blocks of 65,536 bytes, each some records and then zeros. All numbers have eight
 // bytes, low byte first, the floor and the gate stand by their bit patterns, and bytes are filled up with zeros to a whole number. A
 // record has its length in numbers, its kind and ten numbers more, which each kind below names in their order, and then its data.
-use kernel::bytes;
 use merge::Merged;
 use merge::winner;
 use merge::winner::WinningPart;
-ghost use Prim.Native.Nat.{_+_, _≤_};
+ghost use Prim.Native.Nat.{_≤_};
 
 // The bytes of a record before its data.
-const HEAD: usize = 96;
+const HEAD: u64 = 96;
 // The most bytes of rows that a record lends.
 const ROWS: usize = 400;
 
@@ -17,63 +16,16 @@ const KINDS: usize = 2;
 // What stands in the rows before a merge.
 const BEFORE: u8 = 0xA5;
 
-// One of the numbers at the head of a record.
-fn named(s: &[u8], k: usize) -> u64
-    requires { ⌜ k ≤ 11 ⌝ }
-{
-    bytes::word(s, 8 * k)
-}
-
-// The part of s with so many bytes at an index; empty where it is not all there.
-fn part(s: &[u8], at: u64, length: u64) -> &[u8] {
-    let from = at as usize;
-    let n = length as usize;
-    if s.len() < from {
-        return &s[..0];
-    }
-    if s.len() - from < n {
-        return &s[..0];
-    }
-    let to = from + n;
-    &s[from..to]
-}
-
-// The bytes that s has from an index on.
-fn rest(s: &[u8], at: usize) -> &[u8] {
-    if s.len() < at {
-        return &s[..0];
-    }
-    &s[at..]
-}
-
-// So many bytes, filled up to whole numbers.
-fn whole(n: u64) -> usize
-    ensures { λ r. ⌜ r ≤ 65544 ⌝ }
-{
-    ((n % 0x1_0000 + 7) / 8 * 8) as usize
-}
-
-// The bytes of the record at the start of s; 0 where none stands.
-fn size(s: &[u8]) -> usize
-    ensures { λ r. do ⌜ r ≤ (← ⟦s.len()⟧ .entry) ⌝ }
-{
-    let n = 8 * (named(s, 0) % 0x1_0000) as usize;
-    if s.len() < n {
-        return 0;
-    }
-    n
-}
-
 // Whether a merge answers as the record s tells, with its counts.
 fn is_told(answer: Merged, s: &[u8]) -> bool {
     match answer {
         Merged::Counts(counts) => {
-            named(s, 8) == 0
-                && counts.full as u64 == named(s, 9)
-                && counts.half as u64 == named(s, 10)
-                && counts.single as u64 == named(s, 11)
+            replay::number(s, 8) == 0
+                && counts.full as u64 == replay::number(s, 9)
+                && counts.half as u64 == replay::number(s, 10)
+                && counts.single as u64 == replay::number(s, 11)
         }
-        Merged::Refused(question) => named(s, 8) == question as u64,
+        Merged::Refused(question) => replay::number(s, 8) == question as u64,
     }
 }
 
@@ -86,8 +38,8 @@ fn is_merged(
     rows: &mut [u8],
     left: &[u8],
 ) -> bool {
-    let floor = replay::double(named(s, 5));
-    let gate = replay::double(named(s, 6));
+    let floor = replay::double(replay::number(s, 5));
+    let gate = replay::double(replay::number(s, 6));
     let answer = merge::merge(base, ours, theirs, floor, gate, rows);
     is_told(answer, s) && replay::same_bytes(left, rows)
 }
@@ -102,15 +54,15 @@ fn rows_lent(n: u64) -> usize
 // Kind 0, a merge: the lengths of base, ours and theirs, the floor, the gate, the bytes of rows that are lent, the answer's number,
 // and how many rows have three, two and one track; the three lists, and the rows afterwards.
 fn merges(s: &[u8]) -> bool {
-    let data = rest(s, HEAD);
-    let base = part(data, 0, named(s, 2));
-    let after_base = rest(data, whole(named(s, 2)));
-    let ours = part(after_base, 0, named(s, 3));
-    let after_ours = rest(after_base, whole(named(s, 3)));
-    let theirs = part(after_ours, 0, named(s, 4));
-    let after_theirs = rest(after_ours, whole(named(s, 4)));
-    let room = rows_lent(named(s, 7));
-    let left = part(after_theirs, 0, named(s, 7));
+    let data = replay::after(s, HEAD);
+    let base = replay::part(data, 0, replay::number(s, 2));
+    let after_base = replay::after(data, replay::number(s, 2));
+    let ours = replay::part(after_base, 0, replay::number(s, 3));
+    let after_ours = replay::after(after_base, replay::number(s, 3));
+    let theirs = replay::part(after_ours, 0, replay::number(s, 4));
+    let after_theirs = replay::after(after_ours, replay::number(s, 4));
+    let room = rows_lent(replay::number(s, 7));
+    let left = replay::part(after_theirs, 0, replay::number(s, 7));
     let mut rows = [BEFORE; ROWS];
     is_merged(s, base, ours, theirs, &mut rows[..room], left)
 }
@@ -139,11 +91,11 @@ fn byte(row: u64, k: u32) -> u8
 
 // Kind 1, a winner: the lengths of ours and theirs, the row as a number, the list, the start and the length; the two lists.
 fn wins(s: &[u8]) -> bool {
-    let data = rest(s, HEAD);
-    let ours = part(data, 0, named(s, 2));
-    let after_ours = rest(data, whole(named(s, 2)));
-    let theirs = part(after_ours, 0, named(s, 3));
-    let number = named(s, 4);
+    let data = replay::after(s, HEAD);
+    let ours = replay::part(data, 0, replay::number(s, 2));
+    let after_ours = replay::after(data, replay::number(s, 2));
+    let theirs = replay::part(after_ours, 0, replay::number(s, 3));
+    let number = replay::number(s, 4);
     let row = [
         byte(number, 0),
         byte(number, 1),
@@ -151,13 +103,17 @@ fn wins(s: &[u8]) -> bool {
         byte(number, 3),
     ];
     let won = winner::winner(ours, theirs, row);
-    let list = if named(s, 5) == 2 { theirs } else { ours };
-    let wanted = part(list, named(s, 6), named(s, 7));
+    let list = if replay::number(s, 5) == 2 {
+        theirs
+    } else {
+        ours
+    };
+    let wanted = replay::part(list, replay::number(s, 6), replay::number(s, 7));
     is_place(
         winner::winning(ours, theirs, row),
-        named(s, 5),
-        named(s, 6),
-        named(s, 7),
+        replay::number(s, 5),
+        replay::number(s, 6),
+        replay::number(s, 7),
     )
         && replay::same_bytes(wanted, won)
 }
@@ -172,7 +128,7 @@ fn is_met(s: &[u8], kind: usize) -> bool {
 
 // Counts the record at the start of s under its kind, and where it is answered otherwise, that too.
 fn replay_record(s: &[u8], cases: &mut [u64; KINDS], differences: &mut [u64; KINDS]) {
-    let kind = (named(s, 1) % 2) as usize;
+    let kind = (replay::number(s, 1) % 2) as usize;
     cases[kind] = replay::one_more(cases[kind]);
     if !is_met(s, kind) {
         differences[kind] = replay::one_more(differences[kind]);
@@ -182,13 +138,9 @@ fn replay_record(s: &[u8], cases: &mut [u64; KINDS], differences: &mut [u64; KIN
 // The records of a block, one after the other.
 fn replay_block(s: &[u8], cases: &mut [u64; KINDS], differences: &mut [u64; KINDS]) {
     let mut at = 0;
-    while at < s.len() {
-        let n = size(&s[at..]);
-        if n == 0 {
-            return;
-        }
+    while 0 < replay::size(s, at) {
         replay_record(&s[at..], cases, differences);
-        at += n;
+        at += replay::size(s, at);
     }
 }
 
@@ -196,11 +148,8 @@ fn replay_block(s: &[u8], cases: &mut [u64; KINDS], differences: &mut [u64; KIND
 fn replay_some(cases: &mut [u64; KINDS], differences: &mut [u64; KINDS]) -> bool {
     let mut buffer = io::large_buffer();
     let n = io::read_full(0, &mut buffer);
-    if n == 0 {
-        return false;
-    }
     replay_block(&buffer[..n], cases, differences);
-    true
+    0 < n
 }
 
 // Reads to the end of the input. A proved loop has to end, and nothing says that the input does: so the turns are counted

@@ -1,6 +1,5 @@
 // Replays frozen answers of the number helpers: two blocks of 65,536 bytes at most. A record is four numbers of eight
 // bytes, low byte first: which call, its one or two arguments by their bit patterns, and the answer's bit pattern.
-use kernel::bytes;
 use kernel::number;
 
 const RECORD: usize = 32;
@@ -20,11 +19,11 @@ fn answer(call: usize, x: f64, y: f64) -> f64 {
 
 // Counts the record at the start of s under its call, and where the answer is another, that too.
 fn replay_record(s: &[u8], cases: &mut [u64; CALLS], differences: &mut [u64; CALLS]) {
-    let call = (bytes::word(s, 0) % 5) as usize;
-    let x = replay::double(bytes::word(s, 8));
-    let y = replay::double(bytes::word(s, 16));
+    let call = (replay::number(s, 0) % 5) as usize;
+    let x = replay::double(replay::number(s, 1));
+    let y = replay::double(replay::number(s, 2));
     cases[call] = replay::one_more(cases[call]);
-    if !replay::is_same(answer(call, x, y), bytes::word(s, 24)) {
+    if !replay::is_same(answer(call, x, y), replay::number(s, 3)) {
         differences[call] = replay::one_more(differences[call]);
     }
 }

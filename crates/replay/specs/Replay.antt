@@ -1,10 +1,10 @@
--- Doubles by their bit patterns, and bytes that are compared with frozen ones.
-use Prim.Native.Nat.{ℕ, _+_}
+-- Doubles by their bit patterns, bytes that are compared with frozen ones, and the records of a block.
+use Prim.Native.Nat.{ℕ, _+_, _*_, _/_}
 use mathlib.Core.Bool.{Bool, true, cond, _&&_}
 use mathlib.Core.List.{List, [], _∷_}
 use lib.Dec.{eqb, leb}
 use lib.Ieee.{Float, binary64, isNan, nanBits, toBits}
-use lib.ListN.{length, getD}
+use lib.ListN.{length, getD, take, drop}
 use Rattle.kernel.specs.Bytes.{word}
 
 -- Whether x is the double with the bit pattern p: any NaN is any NaN.
@@ -32,3 +32,16 @@ bytesFrom b i (x ∷ a) = eqb x (getD b i 0) && bytesFrom b (i + 1) a
 unfoldable pub equalBytes : List ℕ → List ℕ → Bool
 unfolding bytesFrom
 equalBytes a b = eqb (length a) (length b) && bytesFrom b 0 a
+
+-- The n bytes of s at an offset; none where they are not all there.
+unfoldable pub bytesAt : List ℕ → ℕ → ℕ → List ℕ
+bytesAt s at n = cond (leb (at + n) (length s)) (take n (drop at s)) []
+
+-- What s has after n bytes that are filled up to a whole number of eight.
+unfoldable pub bytesAfter : List ℕ → ℕ → List ℕ
+bytesAfter s n = drop ((n + 7) / 8 * 8) s
+
+-- The bytes of the record of s at an offset, whose first number says how many numbers it has; 0 where they are not all there.
+unfoldable pub recordSize : List ℕ → ℕ → ℕ
+unfolding word bytesAt
+recordSize s at = length (bytesAt s at (8 * word s at))

@@ -1,8 +1,11 @@
-// What the programs that replay frozen answers share: doubles by their bit patterns, bytes, and a count.
+// What the programs that replay frozen answers share: doubles by their bit patterns, bytes, a count, and the records of a block. A record
+// is numbers of eight bytes, low byte first, and starts with how many it has; bytes in it are filled up with zeros to a whole number.
 ghost use mathlib.Core.Path.{_≡_};
-ghost use Prim.Native.Nat.{_+_, _%_, _^_};
+ghost use Prim.Native.Nat.{_+_, _-_, _*_, _%_, _^_, _≤_};
 ghost use lib.Ieee.{binary64, ofBits};
-ghost use Rattle.replay.specs.Replay.{same, allSame, equalBytes};
+ghost use lib.ListN.{length};
+ghost use Rattle.kernel.specs.Bytes.{word};
+ghost use Rattle.replay.specs.Replay.{same, allSame, equalBytes, bytesAt, bytesAfter, recordSize};
 use kernel::bytes;
 use kernel::constants;
 
@@ -63,4 +66,58 @@ pub fn one_more(n: u64) -> u64
     ensures { λ r. ⌜ r ≡ (n + 1) % 2 ^ 64 ⌝ }
 {
     std::num::wrapping_add_u64(n, 1)
+}
+
+// Number k of s; 0 where it is not all there.
+pub fn number(s: &[u8], k: usize) -> u64
+    ensures { λ r. ⌜ r ≡ word (now (s .entry)) (8 * k) ⌝ }
+{
+    if s.len() / 8 <= k {
+        return 0;
+    }
+    bytes::word(s, 8 * k)
+}
+
+// The n bytes of s at an index; none where they are not all there.
+pub fn part(s: &[u8], at: u64, n: u64) -> &[u8]
+    ensures { λ r. ⌜ now r ≡ bytesAt (now (s .entry)) at n ⌝ }
+{
+    let from = at as usize;
+    let count = n as usize;
+    if s.len() < from {
+        return &s[..0];
+    }
+    if s.len() - from < count {
+        return &s[..0];
+    }
+    let to = from + count;
+    &s[from..to]
+}
+
+// What s has after n bytes that are filled up to a whole number.
+pub fn after(s: &[u8], n: u64) -> &[u8]
+    ensures { λ r. ⌜ now r ≡ bytesAfter (now (s .entry)) n ⌝ }
+{
+    let count = n as usize;
+    let zeros = (8 - count % 8) % 8;
+    if s.len() < count {
+        return &s[..0];
+    }
+    if s.len() - count < zeros {
+        return &s[..0];
+    }
+    let at = count + zeros;
+    &s[at..]
+}
+
+// The bytes of the record of s at an index; 0 where it is not all there.
+pub fn size(s: &[u8], at: usize) -> usize
+    ensures { λ r. ⌜ (r ≡ recordSize (now (s .entry)) at) × (r ≤ length (now (s .entry)) - at) ⌝ }
+{
+    let numbers = bytes::word(s, at);
+    if s.len() / 8 < numbers as usize {
+        return 0;
+    }
+    let record = part(s, at as u64, 8 * numbers);
+    record.len()
 }

@@ -3,16 +3,15 @@
 // has its length in numbers, its kind and six numbers more, which each kind below names in their order, and then its data.
 mod reader;
 
-use kernel::bytes;
 use tracks::read;
 use tracks::read::ReadList;
 use tracks::record;
 use tracks::write;
 use tracks::write::WrittenList;
-ghost use Prim.Native.Nat.{_+_, _≤_};
+ghost use Prim.Native.Nat.{_≤_};
 
 // The bytes of a record before its data.
-const HEAD: usize = 64;
+const HEAD: u64 = 64;
 // The most values and bytes that a record lends.
 const VALUES: usize = 128;
 
@@ -27,42 +26,6 @@ const MOST_RECORDS: usize = 32;
 const VALUE_BEFORE: f64 = 7.0;
 
 const BYTE_BEFORE: u8 = 0xA5;
-
-// One of the numbers at the head of a record.
-fn named(s: &[u8], k: usize) -> u64
-    requires { ⌜ k ≤ 7 ⌝ }
-{
-    bytes::word(s, 8 * k)
-}
-
-// The part of s with so many bytes at an index; empty where it is not all there.
-fn part(s: &[u8], at: u64, length: u64) -> &[u8] {
-    let from = at as usize;
-    let n = length as usize;
-    if s.len() < from {
-        return &s[..0];
-    }
-    if s.len() - from < n {
-        return &s[..0];
-    }
-    let to = from + n;
-    &s[from..to]
-}
-
-// The bytes that s has from an index on.
-fn rest(s: &[u8], at: usize) -> &[u8] {
-    if s.len() < at {
-        return &s[..0];
-    }
-    &s[at..]
-}
-
-// So many bytes, filled up to whole numbers.
-fn whole(n: u64) -> usize
-    ensures { λ r. ⌜ r ≤ 65544 ⌝ }
-{
-    ((n % 0x1_0000 + 7) / 8 * 8) as usize
-}
 
 // Whether a list is read into values as told, with this count and dimension, and leaves those values.
 fn is_read(
@@ -96,7 +59,7 @@ fn is_read(
 fn load(s: &[u8]) -> [f64; VALUES] {
     let mut values = [0.0; VALUES];
     for i in 0..VALUES {
-        values[i] = replay::double(bytes::word(s, 8 * i));
+        values[i] = replay::double(replay::number(s, i));
     }
     values
 }
@@ -167,67 +130,71 @@ fn is_found(list: &[u8], at: usize, wanted: &[u8]) -> bool {
 // Kind 0, a list that is read: the list's length, the values that are lent, the answer's number, the
 // count, the dimension and the records that a reader finds; the list, and the values afterwards.
 fn reads(s: &[u8]) -> bool {
-    let data = rest(s, HEAD);
-    let list = part(data, 0, named(s, 2));
-    let left = rest(data, whole(named(s, 2)));
-    let room = values_lent(named(s, 3));
+    let data = replay::after(s, HEAD);
+    let list = replay::part(data, 0, replay::number(s, 2));
+    let left = replay::after(data, replay::number(s, 2));
+    let room = values_lent(replay::number(s, 3));
     let mut values = [VALUE_BEFORE; VALUES];
     is_read(
         list,
         &mut values[..room],
-        named(s, 4),
-        named(s, 5),
-        named(s, 6),
+        replay::number(s, 4),
+        replay::number(s, 5),
+        replay::number(s, 6),
         left,
     )
 }
 
 // The same list, walked through by a reader.
 fn walks(s: &[u8]) -> bool {
-    let list = part(rest(s, HEAD), 0, named(s, 2));
-    is_walked(list, named(s, 7))
+    let list = replay::part(replay::after(s, HEAD), 0, replay::number(s, 2));
+    is_walked(list, replay::number(s, 7))
 }
 
 // Kind 1, a list that is written: the count, the dimension, the values' number, the bytes that are lent, the answer's number
 // and the list's length; the values, and the bytes afterwards.
 fn writes(s: &[u8]) -> bool {
-    let data = rest(s, HEAD);
-    let n = values_lent(named(s, 4));
+    let data = replay::after(s, HEAD);
+    let n = values_lent(replay::number(s, 4));
     let values = load(data);
-    let room = bytes_lent(named(s, 5));
-    let left = part(rest(data, 8 * n), 0, named(s, 5));
+    let room = bytes_lent(replay::number(s, 5));
+    let left = replay::part(replay::after(data, 8 * n as u64), 0, replay::number(s, 5));
     let mut out = [BYTE_BEFORE; BYTES];
     is_written(
-        named(s, 2) as usize,
-        named(s, 3) as usize,
+        replay::number(s, 2) as usize,
+        replay::number(s, 3) as usize,
         &values[..n],
         &mut out[..room],
-        named(s, 6),
-        named(s, 7),
+        replay::number(s, 6),
+        replay::number(s, 7),
         left,
     )
 }
 
 // Kind 2, a track's own bytes, by the call and by a reader: the list's length, the offset and the record's length; the list.
 fn hands_out(s: &[u8]) -> bool {
-    let list = part(rest(s, HEAD), 0, named(s, 2));
-    let wanted = part(list, named(s, 3), named(s, 4));
-    let given = record::record(list, named(s, 3) as usize);
-    if given.len() as u64 != named(s, 4) {
+    let list = replay::part(replay::after(s, HEAD), 0, replay::number(s, 2));
+    let wanted = replay::part(list, replay::number(s, 3), replay::number(s, 4));
+    let given = record::record(list, replay::number(s, 3) as usize);
+    if given.len() as u64 != replay::number(s, 4) {
         return false;
     }
-    replay::same_bytes(wanted, given) && is_found(list, named(s, 3) as usize, wanted)
+    replay::same_bytes(wanted, given) && is_found(list, replay::number(s, 3) as usize, wanted)
 }
 
 // Kind 3, whether two records are equal: their lengths, and 1 for yes; the two.
 fn compares(s: &[u8]) -> bool {
-    let data = rest(s, HEAD);
-    let a = part(data, 0, named(s, 2));
-    let b = part(rest(data, whole(named(s, 2))), 0, named(s, 3));
+    let data = replay::after(s, HEAD);
+    let a = replay::part(data, 0, replay::number(s, 2));
+    let b = replay::part(
+        replay::after(data, replay::number(s, 2)),
+        0,
+        replay::number(s, 3),
+    );
     if record::same_record(a, b) {
-        return named(s, 4) == 1;
+        return replay::number(s, 4) == 1;
     }
-    named(s, 4) == 0
+    replay::number(s, 4) == 0
 }
 
 // Whether the record at the start of s is answered as it says.
@@ -242,34 +209,19 @@ fn is_met(s: &[u8], kind: usize) -> bool {
 
 // Counts the record at the start of s under its kind, and where it is answered otherwise, that too.
 fn replay_record(s: &[u8], cases: &mut [u64; KINDS], differences: &mut [u64; KINDS]) {
-    let kind = (named(s, 1) % 4) as usize;
+    let kind = (replay::number(s, 1) % 4) as usize;
     cases[kind] = replay::one_more(cases[kind]);
     if !is_met(s, kind) {
         differences[kind] = replay::one_more(differences[kind]);
     }
 }
 
-// The bytes of the record at the start of s; 0 where none stands.
-fn size(s: &[u8]) -> usize
-    ensures { λ r. do ⌜ r ≤ (← ⟦s.len()⟧ .entry) ⌝ }
-{
-    let n = 8 * (named(s, 0) % 0x1_0000) as usize;
-    if s.len() < n {
-        return 0;
-    }
-    n
-}
-
 // The records of a block, one after the other.
 fn replay_block(s: &[u8], cases: &mut [u64; KINDS], differences: &mut [u64; KINDS]) {
     let mut at = 0;
-    while at < s.len() {
-        let n = size(&s[at..]);
-        if n == 0 {
-            return;
-        }
+    while 0 < replay::size(s, at) {
         replay_record(&s[at..], cases, differences);
-        at += n;
+        at += replay::size(s, at);
     }
 }
 

@@ -9,5 +9,5 @@ pub reads-spec : {M : Type 1} → statement M
 reads-spec =
     tie.close
     (tie.spec (λ c κs. search needs) (λ c κs. search needs) (λ c κs. search needs) (λ c κs. search needs) (λ c κs. search needs) (λ c κs. search needs)
-    (λ c κs. search needs) (λ c κs. search needs) (λ c. search needs) (λ c. sym (length-take-le _ _ (search needs))) (λ c κs. search needs)
+    (λ c κs. search needs) (λ c. search needs) (λ c. sym (length-take-le _ _ (search needs))) (λ c κs. search needs)
     (λ c κs. search needs) (λ c κs. search needs) (λ c κs. search needs) (λ c. search needs))
