@@ -16,7 +16,7 @@ use Rattle.dense.specs.Matrix.{nth, matrix, isSide, hasLength}
 use Rattle.dense.specs.declared.Number.{Number}
 use Rattle.dense.specs.declared.Number.the-variants as number
 use Rattle.dense.proofs.Tests.{and-left, and-right, long-length, two-long}
-use Rattle.eigen.proofs.Single.{single-list}
+use Rattle.eigen.proofs.Cases.Single.{single-list}
 use Rattle.pivoting.specs.Solve.{distance}
 use Rattle.repair.specs.declared.Repaired.{Repaired}
 use Rattle.repair.specs.Repair.{Repair, repair, refusal, repairAnswer, afterRepair}

@@ -20,8 +20,8 @@ use Rattle.repair.specs.Repair.{Repair}
 use Rattle.compare.specs.declared.Comparison.{Comparison}
 use Rattle.compare.specs.Distance.{jointRepair, squaredDistance, comparisonOf, compared, floorAndGate, comparing}
 use Rattle.compare.proofs.Joint.{repair-symmetric}
-use Rattle.kernel.proofs.Opposite.{Opposite, EqualOrZero, sub-opposite, opposite-product}
-use Rattle.kernel.proofs.Signed.{minusZero, add-either, add-signed}
+use Rattle.kernel.proofs.Doubles.Opposite.{Opposite, EqualOrZero, sub-opposite, opposite-product}
+use Rattle.kernel.proofs.Doubles.SumsFromZero.{minusZero, add-either, add-signed}
 
 -- ---- sums
 

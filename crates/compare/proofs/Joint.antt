@@ -9,7 +9,7 @@ use Rattle.kernel.specs.Number.{add}
 use Rattle.kernel.proofs.Lists.{length-tabulate}
 use Rattle.dense.specs.Matrix.{nth, at}
 use Rattle.dense.proofs.Laws.{cell, nth-tabulate, matrix-by-entries, matrix-ext}
-use Rattle.kernel.proofs.Commute.{add-float-comm}
+use Rattle.kernel.proofs.Doubles.Commute.{add-float-comm}
 use Rattle.repair.specs.Repair.{repair}
 use Rattle.compare.specs.Distance.{jointCovariance, jointRepair}
 

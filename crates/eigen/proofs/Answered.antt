@@ -12,16 +12,16 @@ use Rattle.kernel.specs.Answer.{answered}
 use Rattle.kernel.specs.Lists.{tabulate}
 use Rattle.kernel.specs.Number.{finite}
 use Rattle.kernel.proofs.Answers.{ask-met, answered-inj}
-use Rattle.kernel.proofs.Differences.{finite-number}
+use Rattle.kernel.proofs.Doubles.Differences.{finite-number}
 use Rattle.dense.specs.Matrix.{nth, isSide, hasLength, finiteEntries}
 use Rattle.dense.proofs.Finite.{finite-entry}
 use Rattle.dense.proofs.Laws.{nth-tabulate}
 use Rattle.eigen.specs.Rotation.{State}
 use Rattle.eigen.specs.Private.{Below}
 use Rattle.eigen.specs.Eigen.{indexAt, order, diagonal, arranged, Eigenpairs, pairsOf, begun, tolerance, swept, eigenpairs, matSymmetricEigen}
-use Rattle.eigen.proofs.Orders.{order-below}
-use Rattle.eigen.proofs.Sorting.{Descends, order-descends, Once, order-once}
-use Rattle.eigen.proofs.Stability.{Numbers, Stable, order-stable}
+use Rattle.eigen.proofs.Ordering.Orders.{order-below}
+use Rattle.eigen.proofs.Ordering.Sorting.{Descends, order-descends, Once, order-once}
+use Rattle.eigen.proofs.Ordering.Stability.{Numbers, Stable, order-stable}
 
 -- the state in which the sweeps end
 abbrev pub final : List Float → ℕ → State

@@ -1,13 +1,5 @@
-pub mod Cells
 pub mod Rotations
-pub mod Stores
-pub mod Sweeps
-pub mod Means
-pub mod Orders
+pub mod Ordering
 pub mod Pairs
-pub mod PlaneSteps
-pub mod Single
-pub mod Sorting
-pub mod Stability
+pub mod Cases
 pub mod Answered
-pub mod Zero

@@ -18,7 +18,7 @@ use Rattle.dense.proofs.Tests.{met, unmet}
 use Rattle.eigen.specs.Eigen.{indexAt, order, diagonal, arranged, pairsOf, afterPairs, Eigenpairs, symmetrized, begun, tolerance, swept, eigenpairs}
 use Rattle.eigen.specs.Rotation.{State, state}
 use Rattle.eigen.specs.Private.{Below, stateOf}
-use Rattle.eigen.proofs.Orders.{order-below}
+use Rattle.eigen.proofs.Ordering.Orders.{order-below}
 
 pub sorted-below : (e : List Float) (n : ℕ) {l : List ℕ} → l ≡ order e n → Below n n l
 sorted-below e n p = subst (λ (z : List ℕ). Below n n z) (sym p) (order-below e n)

@@ -17,7 +17,7 @@ scaled (inf s) = 2 ^ 1024 * 2 ^ 1074
 scaled (fin s m e) = m * up e * 2 ^ 1074 / down e
 
 -- r⁺ and r⁻, the doubles next to a finite r above 0. In their order such doubles have the bit patterns 1, 2, 3, ..; `next-above` and
--- `next-below` of proofs/SquareRoot say that nothing lies between.
+-- `next-below` of proofs/Roots/SquareRoot say that nothing lies between.
 abbrev pub nextUp : Float → Float
 nextUp r = ofBits binary64 (toBits binary64 r + 1)
 

@@ -8,7 +8,7 @@ use mathlib.Core.Path.{_≡_}
 use lib.Ieee.{Float}
 use Rattle.kernel.specs.Number.{add, mul}
 use Rattle.kernel.specs.Constants.{half}
-use Rattle.kernel.proofs.Commute.{add-float-comm, mul-float-comm}
+use Rattle.kernel.proofs.Doubles.Commute.{add-float-comm, mul-float-comm}
 use Rattle.dense.specs.Matrix.{total, at}
 use Rattle.dense.proofs.Laws.{sum-ext}
 use Rattle.linalg.specs.Products.{ataEntry, symmetricEntry}

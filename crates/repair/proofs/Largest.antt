@@ -12,11 +12,11 @@ use lib.Ieee.Scale.{finite}
 use Rattle.kernel.specs.Number.{sub}
 use Rattle.kernel.specs.Answer.{answered}
 use Rattle.kernel.specs.Constants.{nought}
-use Rattle.kernel.proofs.Differences.{finite-number, first-sub, greater-sub}
+use Rattle.kernel.proofs.Doubles.Differences.{finite-number, first-sub, greater-sub}
 use Rattle.dense.specs.Matrix.{nth}
 use Rattle.dense.proofs.Tests.{side-low}
 use Rattle.eigen.specs.Eigen.{Eigenpairs}
-use Rattle.eigen.proofs.Stability.{below-too}
+use Rattle.eigen.proofs.Ordering.Stability.{below-too}
 use Rattle.repair.specs.Repair.{clips, greaterClip, largestClip, reportOf, Repair, repairOf, nearestPsd}
 use Rattle.repair.proofs.Masks.{pairs-of, masked, order-side, spectrum, mask-tells, spectrum-finite, spectrum-descends, mask-false-then-true}
 

@@ -18,9 +18,9 @@ use Rattle.kernel.proofs.Lists.{length-tabulate, getD-tabulate}
 use Rattle.dense.specs.Matrix.{nth, isSide, hasLength, finiteEntries}
 use Rattle.dense.proofs.Tests.{side-high}
 use Rattle.eigen.specs.Eigen.{Eigenpairs, eigenpairs}
-use Rattle.kernel.proofs.Differences.{finite-number}
+use Rattle.kernel.proofs.Doubles.Differences.{finite-number}
 use Rattle.eigen.proofs.Answered.{eigen-descends, eigen-finite}
-use Rattle.eigen.proofs.Stability.{below-too}
+use Rattle.eigen.proofs.Ordering.Stability.{below-too}
 use Rattle.repair.specs.Repair.{clips, clipCount, clipMask, reportOf, Repair, repairOf, repair, nearestPsd}
 use Rattle.repair.proofs.Reports.{mask-is}
 

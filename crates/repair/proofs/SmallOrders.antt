@@ -14,7 +14,7 @@ use Rattle.dense.specs.Matrix.{nth, matrix, sumFrom, isSide, hasLength, finiteE
 use Rattle.eigen.specs.declared.Plane.{Plane}
 use Rattle.eigen.specs.Eigen.{Eigenpairs, eigenpairs}
 use Rattle.eigen.specs.Private.{shownBy, planePairs}
-use Rattle.eigen.proofs.Single.{single-eigenpairs, single-list}
+use Rattle.eigen.proofs.Cases.Single.{single-eigenpairs, single-list}
 use Rattle.repair.specs.Repair.{Repair, clips, clipCount, greaterClip, largestClip, raised, rebuiltEntry, reportOf, repairOf, repair, nearestPsd, repairAnswer, afterRepair}
 use Rattle.repair.specs.Private.{singleRebuilt}
 

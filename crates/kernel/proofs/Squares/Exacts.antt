@@ -20,8 +20,8 @@ use lib.Ieee.Scale.{round-same}
 use Rattle.kernel.specs.Constants.{nought, one}
 use Rattle.kernel.specs.Number.{add, mul, div}
 use Rattle.kernel.specs.Sqrt.{scaled, scaledBits}
-use Rattle.kernel.proofs.Doubles.{positive-pattern}
-use Rattle.kernel.proofs.Patterns.{scaled-bits-low, scaled-bits-at, split-pattern, scaled-bits-grows, scaled-bits-mono}
+use Rattle.kernel.proofs.Doubles.Patterns.{positive-pattern}
+use Rattle.kernel.proofs.Doubles.PatternOrder.{scaled-bits-low, scaled-bits-at, split-pattern, scaled-bits-grows, scaled-bits-mono}
 use Rattle.kernel.proofs.Squares.RootOfSquare.{scaled-of, value-of}
 
 -- ---- doubles of one size are one

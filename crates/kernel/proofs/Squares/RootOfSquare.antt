@@ -16,12 +16,12 @@ use lib.Ieee.Fits.{down-pos}
 use lib.Ieee.Positive.{positive, positive-of-value, mul-at}
 use lib.Ieee.Scale.{finite, round-val, round-under, normal-of-fraction}
 use Rattle.kernel.specs.Number.{mul}
-use Rattle.kernel.proofs.Rounding.{Rounds}
+use Rattle.kernel.proofs.Roots.Rounding.{Rounds}
 use Rattle.kernel.specs.Sqrt.{scaled, scaledBits, rootPattern, sqrt}
-use Rattle.kernel.proofs.Doubles.{positive-pattern, pattern-value}
-use Rattle.kernel.proofs.Patterns.{scaled-bits-low, scaled-bits-at, split-pattern}
-use Rattle.kernel.proofs.Root.{rootPattern-is}
-use Rattle.kernel.proofs.SquareRoot.{sqrt-positive}
+use Rattle.kernel.proofs.Doubles.Patterns.{positive-pattern, pattern-value}
+use Rattle.kernel.proofs.Doubles.PatternOrder.{scaled-bits-low, scaled-bits-at, split-pattern}
+use Rattle.kernel.proofs.Roots.RootPatterns.{rootPattern-is}
+use Rattle.kernel.proofs.Roots.SquareRoot.{sqrt-positive}
 use Rattle.kernel.proofs.Squares.SquarePatterns.{rounded, square-rounds}
 
 -- the size of a value over 2 ^ 1074

@@ -14,8 +14,8 @@ use lib.Ieee.Digits.{size-reaches}
 use lib.Ieee.Nearest.{closest}
 use lib.Ieee.Scale.{grid}
 use Rattle.kernel.specs.Sqrt.{square, scaledBits}
-use Rattle.kernel.proofs.Rounding.{Rounds}
-use Rattle.kernel.proofs.Patterns.{scaled-bits-at, scaled-bits-grows}
+use Rattle.kernel.proofs.Roots.Rounding.{Rounds}
+use Rattle.kernel.proofs.Doubles.PatternOrder.{scaled-bits-at, scaled-bits-grows}
 
 -- ---- the nearest whole number is within a half
 

@@ -17,7 +17,7 @@ use Rattle.tracks.proofs.Reading.Accepted.{contents-met}
 use Rattle.pairing.specs.Pairing.{pair, Pairs, Candidates, Ordered, paired, freeSecond}
 use Rattle.pairing.specs.Keys.{isFree}
 use Rattle.pairing.proofs.Tests.{left, right}
-use Rattle.pairing.proofs.Stable.{paired-stable}
+use Rattle.pairing.proofs.Stability.Stable.{paired-stable}
 use Rattle.merge.specs.Tracks.{ThreeLists, trackCount}
 use Rattle.merge.specs.Candidates.{candidatesOf, among}
 use Rattle.merge.specs.Rows.{Row, rowBytes, rowsWith, isTrack, tracksAmong, verdictOn, Pairings, rowsOf}

@@ -12,7 +12,7 @@ use lib.ListN.{length, getD}
 use lib.Seq.{ext-getD}
 use Rattle.kernel.proofs.Answers.{answered-inj}
 use Rattle.pairing.specs.Pairing.{Pairs, Candidates, Ordered, paired, freeSecond}
-use Rattle.pairing.proofs.Stable.{only-stable}
+use Rattle.pairing.proofs.Stability.Stable.{only-stable}
 use Rattle.merge.specs.Tracks.{ThreeLists, trackCount}
 use Rattle.merge.specs.Candidates.{candidatesOf, among}
 use Rattle.merge.specs.Rows.{verdictOn}

@@ -17,8 +17,8 @@ use Rattle.compare.specs.declared.Comparison.the-variants.{Near, Far, NoDistanc
 use Rattle.pairing.specs.Pairing.{Pair, has, In, Candidates, Ordered}
 use Rattle.pairing.specs.Keys.{keyOf, byKey, fromKeys, firstPartners, secondPartners}
 use Rattle.pairing.proofs.Tests.{left, right, is-true}
-use Rattle.pairing.proofs.Keys.{ordered}
-use Rattle.pairing.proofs.Agreeing.{Agreeing, agreeing-ordered, agreeing-firsts, agreeing-seconds}
+use Rattle.pairing.proofs.Ordering.Keys.{ordered}
+use Rattle.pairing.proofs.Invariance.Agreeing.{Agreeing, agreeing-ordered, agreeing-firsts, agreeing-seconds}
 use Rattle.merge.specs.Tracks.{trackCount}
 use Rattle.merge.specs.Candidates.{comparison, Candidacy, candidacyOf, candidacy, isCandidate, rank, byRank, candidatesOf, among}
 use Rattle.merge.specs.Rows.{Partners}

@@ -12,8 +12,8 @@ use Rattle.compare.specs.declared.Comparison.{Comparison}
 use Rattle.compare.specs.declared.Comparison.the-variants.{Near, Far, NoDistance}
 use Rattle.pairing.specs.Pairing.{Pair, In, Candidates, Ordered, paired, byIndex}
 use Rattle.pairing.proofs.Tests.{both, left, right, or-left, or-right, or-cases, is-true}
-use Rattle.pairing.proofs.Keys.{of-index, to-index}
-use Rattle.pairing.proofs.Stable.{paired-stable, others-blocked}
+use Rattle.pairing.proofs.Ordering.Keys.{of-index, to-index}
+use Rattle.pairing.proofs.Stability.Stable.{paired-stable, others-blocked}
 use Rattle.merge.specs.Tracks.{trackCount, trackAt, equalTracks}
 use Rattle.merge.specs.Candidates.{comparison, candidacyOf, candidacy, isCandidate, rank, byRank, candidatesOf, CandidatePair, EarlierPair}
 use Rattle.merge.specs.Demand3.{OnlyUnblocked}

@@ -12,8 +12,8 @@ use Rattle.kernel.proofs.Lists.{getD-tabulate}
 use Rattle.pairing.specs.Pairing.{Pair, pair, Pairs, Candidates, Ordered, Pairing, some, freeSecond, paired}
 use Rattle.pairing.specs.Keys.{nobody, partner, firstPartners, secondPartners, isFree}
 use Rattle.pairing.proofs.Tests.{either, alike, some-where, none-at}
-use Rattle.pairing.proofs.Entries.{partner-none, partner-one}
-use Rattle.pairing.proofs.Stable.{paired-stable}
+use Rattle.pairing.proofs.Partners.Entries.{partner-none, partner-one}
+use Rattle.pairing.proofs.Stability.Stable.{paired-stable}
 use Rattle.merge.specs.Candidates.{among}
 use Rattle.merge.specs.Rows.{Partners, partnerOf}
 use Rattle.merge.specs.Merge.{partnersIn}

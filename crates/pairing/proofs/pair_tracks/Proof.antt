@@ -4,12 +4,12 @@ use mathlib.Core.Path.{sym, subst₂, _∙_}
 use borrow.Author.Tests.{not-true, not-false}
 use Rattle.pairing.specs.Pairing.{Pair, pair}
 use Rattle.pairing.specs.Keys.{fromKeys}
-use Rattle.pairing.proofs.Filling.{Underway, countFree}
-use Rattle.pairing.proofs.Keys.{Keyed}
-use Rattle.pairing.proofs.Best.{Best, IsFirst, nothing-left, something-first}
-use Rattle.pairing.proofs.Chosen.{Open, search-best}
-use Rattle.pairing.proofs.Entries.{fewer-free}
-use Rattle.pairing.proofs.Tables.{tables-start, tables-next, firsts-done, seconds-done}
+use Rattle.pairing.proofs.Partners.Filling.{Underway, countFree}
+use Rattle.pairing.proofs.Ordering.Keys.{Keyed}
+use Rattle.pairing.proofs.Choosing.Best.{Best, IsFirst, nothing-left, something-first}
+use Rattle.pairing.proofs.Choosing.Chosen.{Open, search-best}
+use Rattle.pairing.proofs.Partners.Entries.{fewer-free}
+use Rattle.pairing.proofs.Partners.Tables.{tables-start, tables-next, firsts-done, seconds-done}
 use Rattle.pairing.proofs.pair_tracks.Statement.{statement}
 use Rattle.pairing.proofs.pair_tracks.Tie as tie
 

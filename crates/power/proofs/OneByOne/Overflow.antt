@@ -10,7 +10,7 @@ use lib.Ieee.Positive.{positive}
 use Rattle.kernel.specs.Constants.{nought, one, minusOne, relTol, vanishing, infinity}
 use Rattle.kernel.specs.Number.{add, sub, mul, div, abs}
 use Rattle.kernel.specs.Sqrt.{sqrt}
-use Rattle.kernel.proofs.SquareRoot.{sqrt-infinity}
+use Rattle.kernel.proofs.Roots.SquareRoot.{sqrt-infinity}
 use Rattle.dense.specs.Matrix.{sumFrom, nth, dotProduct, norm}
 use Rattle.kernel.specs.Lists.{tabulate}
 use Rattle.power.specs.Power.{residual, advanced, signOf, roundValue, vanishes, isSmall, converges, iterated, dominant}

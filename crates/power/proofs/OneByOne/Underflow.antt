@@ -18,9 +18,9 @@ use lib.Ieee.Scale.{finite}
 use Rattle.kernel.specs.Constants.{minPositive, vanishing}
 use Rattle.kernel.specs.Number.{mul}
 use Rattle.kernel.specs.Sqrt.{square, scaled, nextDown, sqrt}
-use Rattle.kernel.proofs.Doubles.{positive-no-nan}
-use Rattle.kernel.proofs.Order.{lt-trichotomy, eq-symmetric}
-use Rattle.kernel.proofs.SquareRoot.{sqrt-root}
+use Rattle.kernel.proofs.Doubles.Patterns.{positive-no-nan}
+use Rattle.kernel.proofs.Doubles.Order.{lt-trichotomy, eq-symmetric}
+use Rattle.kernel.proofs.Roots.SquareRoot.{sqrt-root}
 use Rattle.kernel.proofs.Squares.RootOfSquare.{value-of}
 use Rattle.kernel.proofs.Squares.Exacts.{zero-double}
 use Rattle.power.proofs.OneByOne.Ones.{measured}

@@ -2,7 +2,7 @@
 use mathlib.Core.Path.{sym, _∙_, subst}
 use borrow.Author.Needs.{needs}
 use Rattle.eigen.specs.Rotation.{Symmetric}
-use Rattle.eigen.proofs.Means.{symmetrized-symmetric}
+use Rattle.eigen.proofs.Rotations.Means.{symmetrized-symmetric}
 use Rattle.eigen.proofs.Pairs.{answered-by}
 use Rattle.eigen.proofs.generic.eigenpairs_in.Statement.{statement}
 use Rattle.eigen.proofs.generic.eigenpairs_in.Tie as tie

@@ -1,7 +1,7 @@
 -- `single_eigenpair` meets its contract, by `single-eigenpairs`.
 use borrow.Author.Needs.{needs}
 use Rattle.dense.proofs.Tests.{met, unmet}
-use Rattle.eigen.proofs.Single.{single-eigenpairs, single-stored}
+use Rattle.eigen.proofs.Cases.Single.{single-eigenpairs, single-stored}
 use Rattle.eigen.proofs.generic.single_eigenpair.Statement.{statement}
 use Rattle.eigen.proofs.generic.single_eigenpair.Tie as tie
 

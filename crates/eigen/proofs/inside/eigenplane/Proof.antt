@@ -4,7 +4,7 @@ use mathlib.Core.Path.{_≡_, ap, _∙_}
 use lib.Ieee.{Float}
 use Rattle.eigen.specs.Eigen.{tolerance, swept}
 use Rattle.eigen.specs.Private.{planeState, planePairs}
-use Rattle.eigen.proofs.PlaneSteps.{plane-swept, plane-answers}
+use Rattle.eigen.proofs.Cases.PlaneSteps.{plane-swept, plane-answers}
 use Rattle.eigen.proofs.inside.eigenplane.Statement.{statement}
 use Rattle.eigen.proofs.inside.eigenplane.Tie as tie
 

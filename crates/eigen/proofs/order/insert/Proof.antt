@@ -5,7 +5,7 @@ use native.Mathlib.Nat.{le-antisymm}
 use mathlib.Core.List.{List}
 use mathlib.Core.Path.{refl, _∙_, subst}
 use lib.ListN.{length-set}
-use Rattle.eigen.proofs.Orders.{Shifted, shifted-none, shifted-more, inserted}
+use Rattle.eigen.proofs.Ordering.Orders.{Shifted, shifted-none, shifted-more, inserted}
 use Rattle.eigen.proofs.order.insert.Statement.{statement}
 use Rattle.eigen.proofs.order.insert.Tie as tie
 

@@ -8,7 +8,7 @@ use lib.Ieee.{Float}
 use lib.ListN.{length, take}
 use lib.Seq.{take-all}
 use Rattle.eigen.specs.Eigen.{order}
-use Rattle.eigen.proofs.Orders.{spot-within, order-more, front-below}
+use Rattle.eigen.proofs.Ordering.Orders.{spot-within, order-more, front-below}
 use Rattle.eigen.proofs.order.sort.Statement.{statement}
 use Rattle.eigen.proofs.order.sort.Tie as tie
 

@@ -1,7 +1,7 @@
 -- `begin` meets its contract, by `plane-begun`.
 use mathlib.Core.Path.{sym}
 use lib.Ieee.{ofBits}
-use Rattle.eigen.proofs.PlaneSteps.{plane-begun}
+use Rattle.eigen.proofs.Cases.PlaneSteps.{plane-begun}
 use Rattle.eigen.proofs.planes.begin.Statement.{statement}
 use Rattle.eigen.proofs.planes.begin.Tie as tie
 

@@ -5,7 +5,7 @@ use mathlib.Core.Path.{ap, sym, _∙_}
 use lib.Ieee.{Float}
 use Rattle.kernel.specs.Answer.{Outcome}
 use Rattle.eigen.specs.Eigen.{Eigenpairs, eigenpairs, afterPairs}
-use Rattle.eigen.proofs.PlaneSteps.{four-list}
+use Rattle.eigen.proofs.Cases.PlaneSteps.{four-list}
 use Rattle.eigen.proofs.planes.plane_eigenpairs.Statement.{statement}
 use Rattle.eigen.proofs.planes.plane_eigenpairs.Tie as tie
 

@@ -1,6 +1,6 @@
 -- `plane_tolerance` meets its contract, by `plane-tolerance`.
 use borrow.Author.Needs.{needs}
-use Rattle.eigen.proofs.PlaneSteps.{plane-tolerance}
+use Rattle.eigen.proofs.Cases.PlaneSteps.{plane-tolerance}
 use Rattle.eigen.proofs.planes.plane_tolerance.Statement.{statement}
 use Rattle.eigen.proofs.planes.plane_tolerance.Tie as tie
 

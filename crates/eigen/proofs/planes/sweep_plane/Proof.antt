@@ -3,8 +3,8 @@ use Prim.Native.Nat.{_-_}
 use native.Mathlib.Omega.{arith}
 use mathlib.Core.Path.{sym, _∙_}
 use Rattle.eigen.specs.Private.{planeState}
-use Rattle.eigen.proofs.PlaneSteps.{plane-stops, plane-sweep}
-use Rattle.eigen.proofs.Sweeps.{Sweeping, first-sweep, next-sweep, stops-now, stops-never}
+use Rattle.eigen.proofs.Cases.PlaneSteps.{plane-stops, plane-sweep}
+use Rattle.eigen.proofs.Rotations.Sweeps.{Sweeping, first-sweep, next-sweep, stops-now, stops-never}
 use Rattle.eigen.proofs.planes.sweep_plane.Statement.{statement}
 use Rattle.eigen.proofs.planes.sweep_plane.Tie as tie
 

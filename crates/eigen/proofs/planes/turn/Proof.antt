@@ -1,7 +1,7 @@
 -- `turn` meets its contract, by `plane-rotated`.
 use borrow.Author.Needs.{needs}
 use mathlib.Core.Path.{sym, _∙_}
-use Rattle.eigen.proofs.PlaneSteps.{plane-rotated}
+use Rattle.eigen.proofs.Cases.PlaneSteps.{plane-rotated}
 use Rattle.eigen.proofs.planes.turn.Statement.{statement}
 use Rattle.eigen.proofs.planes.turn.Tie as tie
 

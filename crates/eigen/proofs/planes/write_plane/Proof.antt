@@ -2,7 +2,7 @@
 use borrow.Author.Needs.{needs}
 use Rattle.dense.proofs.Tests.{met, unmet}
 use Rattle.eigen.specs.Private.{planePairs}
-use Rattle.eigen.proofs.PlaneSteps.{two-stored, four-stored}
+use Rattle.eigen.proofs.Cases.PlaneSteps.{two-stored, four-stored}
 use Rattle.eigen.proofs.planes.write_plane.Statement.{statement}
 use Rattle.eigen.proofs.planes.write_plane.Tie as tie
 

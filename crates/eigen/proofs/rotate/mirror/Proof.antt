@@ -3,8 +3,8 @@ use Prim.Native.Nat.{_-_, _≤_}
 use native.Mathlib.Omega.{arith}
 use mathlib.Core.Path.{sym, _∙_}
 use Rattle.dense.proofs.Laws.{cell}
-use Rattle.eigen.proofs.Cells.{Cells}
-use Rattle.eigen.proofs.Stores.{mirroredTo, mirror-none, mirror-next, mirror-more, mirror-all}
+use Rattle.eigen.proofs.Rotations.Cells.{Cells}
+use Rattle.eigen.proofs.Rotations.Stores.{mirroredTo, mirror-none, mirror-next, mirror-more, mirror-all}
 use Rattle.eigen.proofs.rotate.mirror.Statement.{statement}
 use Rattle.eigen.proofs.rotate.mirror.Tie as tie
 

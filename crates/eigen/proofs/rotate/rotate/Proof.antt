@@ -5,7 +5,7 @@ use mathlib.Core.Path.{_≡_, _∙_}
 use borrow.Author.Needs.{needs}
 use lib.ListN.{length}
 use Rattle.dense.proofs.Laws.{cell}
-use Rattle.eigen.proofs.Rotations.{skipped, made}
+use Rattle.eigen.proofs.Rotations.ByRows.{skipped, made}
 use Rattle.eigen.proofs.rotate.rotate.Statement.{statement}
 use Rattle.eigen.proofs.rotate.rotate.Tie as tie
 

@@ -1,7 +1,7 @@
 -- `set_corners` meets its contract: four stores.
 use native.Mathlib.Omega.{arith}
 use borrow.Author.Needs.{needs}
-use Rattle.eigen.proofs.Stores.{corners}
+use Rattle.eigen.proofs.Rotations.Stores.{corners}
 use Rattle.eigen.proofs.rotate.set_corners.Statement.{statement}
 use Rattle.eigen.proofs.rotate.set_corners.Tie as tie
 

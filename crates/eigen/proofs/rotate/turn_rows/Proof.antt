@@ -5,8 +5,8 @@ use mathlib.Core.Path.{_≡_, sym, _∙_}
 use lib.ListN.{length}
 use Rattle.dense.specs.Matrix.{at}
 use Rattle.dense.proofs.Laws.{cell}
-use Rattle.eigen.proofs.Cells.{Cells}
-use Rattle.eigen.proofs.Stores.{turnedTo, turn-none, turn-next, turn-more, turn-all}
+use Rattle.eigen.proofs.Rotations.Cells.{Cells}
+use Rattle.eigen.proofs.Rotations.Stores.{turnedTo, turn-none, turn-next, turn-more, turn-all}
 use Rattle.eigen.proofs.rotate.turn_rows.Statement.{statement}
 use Rattle.eigen.proofs.rotate.turn_rows.Tie as tie
 

@@ -3,7 +3,7 @@ use native.Mathlib.Omega.{arith}
 use borrow.Author.Tests.{eq-eqb}
 use Rattle.dense.proofs.Laws.{cell}
 use Rattle.eigen.specs.Eigen.{symmetrizedEntry}
-use Rattle.eigen.proofs.Means.{mean-of}
+use Rattle.eigen.proofs.Rotations.Means.{mean-of}
 use Rattle.eigen.proofs.start.mean.Statement.{statement}
 use Rattle.eigen.proofs.start.mean.Tie as tie
 

@@ -4,7 +4,7 @@ use native.Mathlib.Omega.{arith}
 use native.Mathlib.Nat.{le-antisymm}
 use mathlib.Core.Path.{_≡_, refl, ap, _∙_}
 use Rattle.eigen.specs.Eigen.{aboveRows}
-use Rattle.eigen.proofs.Sweeps.{above-more}
+use Rattle.eigen.proofs.Rotations.Sweeps.{above-more}
 use Rattle.eigen.proofs.sweep.above.Statement.{statement}
 use Rattle.eigen.proofs.sweep.above.Tie as tie
 

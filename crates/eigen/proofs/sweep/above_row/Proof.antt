@@ -4,7 +4,7 @@ use native.Mathlib.Omega.{arith}
 use mathlib.Core.Path.{_≡_}
 use Rattle.dense.specs.Matrix.{sumFrom}
 use Rattle.dense.proofs.Laws.{cell}
-use Rattle.eigen.proofs.Sweeps.{square, above-none, above-term, above-end}
+use Rattle.eigen.proofs.Rotations.Sweeps.{square, above-none, above-term, above-end}
 use Rattle.eigen.proofs.sweep.above_row.Statement.{statement}
 use Rattle.eigen.proofs.sweep.above_row.Tie as tie
 

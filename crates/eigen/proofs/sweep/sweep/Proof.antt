@@ -6,7 +6,7 @@ use mathlib.Core.Path.{refl, sym, ap, _∙_}
 use Rattle.eigen.specs.Eigen.{sweptRows}
 use Rattle.eigen.specs.Rotation.{State}
 use Rattle.eigen.specs.Private.{stateOf}
-use Rattle.eigen.proofs.Sweeps.{RowsSwept, slices-row, rows-more}
+use Rattle.eigen.proofs.Rotations.Sweeps.{RowsSwept, slices-row, rows-more}
 use Rattle.eigen.proofs.sweep.sweep.Statement.{statement}
 use Rattle.eigen.proofs.sweep.sweep.Tie as tie
 

@@ -6,7 +6,7 @@ use mathlib.Core.Path.{sym, ap, _∙_}
 use Rattle.eigen.specs.Eigen.{sweptRow}
 use Rattle.eigen.specs.Rotation.{State}
 use Rattle.eigen.specs.Private.{stateOf}
-use Rattle.eigen.proofs.Sweeps.{RowSwept, slices-rotated, row-none, row-more}
+use Rattle.eigen.proofs.Rotations.Sweeps.{RowSwept, slices-rotated, row-none, row-more}
 use Rattle.eigen.proofs.sweep.sweep_row.Statement.{statement}
 use Rattle.eigen.proofs.sweep.sweep_row.Tie as tie
 

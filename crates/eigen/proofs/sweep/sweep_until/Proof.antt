@@ -6,7 +6,7 @@ use lib.Ieee.{Float, lt}
 use lib.ListN.{length}
 use Rattle.eigen.specs.Eigen.{stops}
 use Rattle.eigen.specs.Private.{Slices, stateOf}
-use Rattle.eigen.proofs.Sweeps.{Sweeping, slices-swept, first-sweep, next-sweep, stops-now, stops-never}
+use Rattle.eigen.proofs.Rotations.Sweeps.{Sweeping, slices-swept, first-sweep, next-sweep, stops-now, stops-never}
 use Rattle.eigen.proofs.sweep.sweep_until.Statement.{statement}
 use Rattle.eigen.proofs.sweep.sweep_until.Tie as tie
 

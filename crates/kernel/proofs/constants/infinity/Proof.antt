@@ -2,7 +2,7 @@
 use mathlib.Core.Path.{refl}
 use native.Mathlib.Omega.{arith}
 use lib.Ieee.{ofBits}
-use Rattle.kernel.proofs.Doubles.{no-nan-pattern}
+use Rattle.kernel.proofs.Doubles.Patterns.{no-nan-pattern}
 use Rattle.kernel.proofs.constants.infinity.Statement.{statement}
 use Rattle.kernel.proofs.constants.infinity.Tie as tie
 

@@ -9,7 +9,7 @@ use lib.Pow.{pow-pos}
 use lib.Dec.{T, eqb→eq}
 use lib.Ieee.{Float, nan, inf, fin, binary64, fits, ofBits, neg, up, down}
 use Rattle.kernel.specs.Number.{abs}
-use Rattle.kernel.proofs.Signs.{+0, negative, isZero, below-zero, equals-zero}
+use Rattle.kernel.proofs.Doubles.Signs.{+0, negative, isZero, below-zero, equals-zero}
 use Rattle.kernel.proofs.number.abs.Statement.{statement}
 use Rattle.kernel.proofs.number.abs.Tie as tie
 

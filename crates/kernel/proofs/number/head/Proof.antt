@@ -1,7 +1,7 @@
 -- `head` is safe: the bit pattern that it makes is a number's.
 use native.Mathlib.Omega.{arith}
 use borrow.Author.Needs.{needs}
-use Rattle.kernel.proofs.Doubles.{equals-itself, no-nan-pattern}
+use Rattle.kernel.proofs.Doubles.Patterns.{equals-itself, no-nan-pattern}
 use Rattle.kernel.proofs.number.head.Statement.{statement}
 use Rattle.kernel.proofs.number.head.Tie as tie
 

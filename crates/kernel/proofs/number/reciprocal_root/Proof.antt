@@ -8,7 +8,7 @@ use lib.Dec.{T}
 use lib.Ieee.{Float, nan, inf, fin, isNan, ofBits, toBits}
 use lib.Ieee.Compare.{differs-from-itself}
 use Rattle.kernel.specs.Estimate.{reciprocalRoot}
-use Rattle.kernel.proofs.Doubles.{equals-itself, no-nan-pattern}
+use Rattle.kernel.proofs.Doubles.Patterns.{equals-itself, no-nan-pattern}
 use Rattle.kernel.proofs.number.reciprocal_root.Statement.{statement}
 use Rattle.kernel.proofs.number.reciprocal_root.Tie as tie
 

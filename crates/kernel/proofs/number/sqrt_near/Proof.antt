@@ -11,9 +11,9 @@ use lib.Ieee.Bits.{ofBits-toBits}
 use lib.Ieee.Compare.{differs-from-itself}
 use lib.Ieee.Positive.{positive}
 use Rattle.kernel.specs.Sqrt.{scaledBits, rootPattern, sqrt}
-use Rattle.kernel.proofs.Signs.{negative, isZero, below-zero, equals-zero}
-use Rattle.kernel.proofs.Doubles.{Positive, equals-itself, no-nan-pattern, positive-pattern}
-use Rattle.kernel.proofs.SquareRoot.{sqrt-nan, sqrt-zero, sqrt-negative, sqrt-infinity, sqrt-positive}
+use Rattle.kernel.proofs.Doubles.Signs.{negative, isZero, below-zero, equals-zero}
+use Rattle.kernel.proofs.Doubles.Patterns.{Positive, equals-itself, no-nan-pattern, positive-pattern}
+use Rattle.kernel.proofs.Roots.SquareRoot.{sqrt-nan, sqrt-zero, sqrt-negative, sqrt-infinity, sqrt-positive}
 use Rattle.kernel.proofs.number.sqrt_near.Statement.{statement}
 use Rattle.kernel.proofs.number.sqrt_near.Tie as tie
 

@@ -6,7 +6,7 @@ use mathlib.Core.Logic.{⊎-elim}
 use Rattle.kernel.proofs.Loops.{AfterTurns, turns-none, turns-more, turns-all}
 use Rattle.pairing.specs.Private.{search}
 use Rattle.kernel.proofs.Lists.{row-within}
-use Rattle.pairing.proofs.Searches.{rows-taken, rows-passed}
+use Rattle.pairing.proofs.Choosing.Searches.{rows-taken, rows-passed}
 use Rattle.pairing.proofs.search.search.Statement.{statement}
 use Rattle.pairing.proofs.search.search.Tie as tie
 

@@ -6,7 +6,7 @@ use mathlib.Core.Path.{refl, _∙_}
 use mathlib.Core.Logic.{⊎-elim}
 use Rattle.kernel.proofs.Loops.{AfterTurns, turns-none, turns-more, turns-all}
 use Rattle.pairing.specs.Private.{searchRow}
-use Rattle.pairing.proofs.Searches.{row-taken, row-passed}
+use Rattle.pairing.proofs.Choosing.Searches.{row-taken, row-passed}
 use Rattle.pairing.proofs.search.search_row.Statement.{statement}
 use Rattle.pairing.proofs.search.search_row.Tie as tie
 

@@ -6,7 +6,7 @@ use borrow.Author.Needs.{needs}
 use Rattle.dense.proofs.Tests.{met, unmet}
 use Rattle.eigen.specs.Eigen.{eigenpairs}
 use Rattle.eigen.specs.Private.{planePairs}
-use Rattle.eigen.proofs.PlaneSteps.{four-list}
+use Rattle.eigen.proofs.Cases.PlaneSteps.{four-list}
 use Rattle.repair.proofs.SmallOrders.{plane-repaired}
 use Rattle.repair.proofs.direct.plane_repair.Statement.{statement}
 use Rattle.repair.proofs.direct.plane_repair.Tie as tie

@@ -2,7 +2,7 @@
 use borrow.Author.Needs.{needs}
 use mathlib.Core.Path.{sym, _∙_}
 use lib.Ieee.{ofBits}
-use Rattle.eigen.proofs.PlaneSteps.{four-stored}
+use Rattle.eigen.proofs.Cases.PlaneSteps.{four-stored}
 use Rattle.repair.proofs.SmallOrders.{plane-rebuilt}
 use Rattle.repair.proofs.direct.rebuild_plane.Statement.{statement}
 use Rattle.repair.proofs.direct.rebuild_plane.Tie as tie

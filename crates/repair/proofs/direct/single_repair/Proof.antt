@@ -6,7 +6,7 @@ use lib.ListN.{length}
 use borrow.Author.Needs.{needs}
 use Rattle.dense.specs.Matrix.{hasLength}
 use Rattle.dense.proofs.Tests.{met, unmet, two-long}
-use Rattle.eigen.proofs.Single.{single-stored, single-list}
+use Rattle.eigen.proofs.Cases.Single.{single-stored, single-list}
 use Rattle.repair.proofs.SmallOrders.{single-asked, single-refused, single-repaired}
 use Rattle.repair.proofs.direct.single_repair.Statement.{statement}
 use Rattle.repair.proofs.direct.single_repair.Tie as tie

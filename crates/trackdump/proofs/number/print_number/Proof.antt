@@ -1,5 +1,5 @@
 -- `print_number` is safe: bits are taken of no NaN.
-use Rattle.kernel.proofs.Doubles.{equals-itself}
+use Rattle.kernel.proofs.Doubles.Patterns.{equals-itself}
 use borrow.Author.Needs.{needs}
 use Rattle.trackdump.proofs.number.print_number.Statement.{statement}
 use Rattle.trackdump.proofs.number.print_number.Tie as tie

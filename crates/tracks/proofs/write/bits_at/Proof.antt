@@ -3,7 +3,7 @@ use mathlib.Core.Path.{sym, _∙_}
 use denote.Ref.{now}
 use lib.ListN.{getD}
 use lib.Ieee.{nan}
-use Rattle.kernel.proofs.Doubles.{equals-itself}
+use Rattle.kernel.proofs.Doubles.Patterns.{equals-itself}
 use Rattle.tracks.proofs.Numbers.Values.{pattern-at, nan-bits}
 use borrow.Author.Needs.{needs}
 use Rattle.tracks.proofs.write.bits_at.Statement.{statement}

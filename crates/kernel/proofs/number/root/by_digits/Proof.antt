@@ -3,7 +3,7 @@ use Prim.Native.Nat.{ℕ, _+_, _-_, _*_, _/_, _≤_, _<_}
 use native.Mathlib.Omega.{arith}
 use mathlib.Core.Path.{refl, sym}
 use mathlib.Core.Logic.{⊎-elim}
-use Rattle.kernel.proofs.Whole.{Digits, Sizes, no-digits, sizes, digits-same, digit-even, digit-taken, digit-passed, nearest-same, nearest-next, nearest-second}
+use Rattle.kernel.proofs.Roots.NearestWhole.{Digits, Sizes, no-digits, sizes, digits-same, digit-even, digit-taken, digit-passed, nearest-same, nearest-next, nearest-second}
 use Rattle.kernel.proofs.number.root.by_digits.Statement.{statement}
 use Rattle.kernel.proofs.number.root.by_digits.Tie as tie
 

@@ -6,7 +6,7 @@ use mathlib.Core.Path.{sym}
 use borrow.Author.Needs.{needs}
 use borrow.Author.Tests.{leb-true}
 use Rattle.kernel.proofs.Answers.{never}
-use Rattle.kernel.proofs.Whole.{nearest-test}
+use Rattle.kernel.proofs.Roots.NearestWhole.{nearest-test}
 use Rattle.kernel.proofs.number.root.is_nearest.Statement.{statement}
 use Rattle.kernel.proofs.number.root.is_nearest.Tie as tie
 

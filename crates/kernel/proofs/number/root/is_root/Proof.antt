@@ -4,9 +4,9 @@ use native.Mathlib.Omega.{arith}
 use borrow.Author.Needs.{needs}
 use Rattle.kernel.specs.Sqrt.{scaledBits}
 use Rattle.kernel.proofs.Answers.{never}
-use Rattle.kernel.proofs.Doubles.{equals-itself}
-use Rattle.kernel.proofs.Whole.{argument-most}
-use Rattle.kernel.proofs.Root.{root-of, normal-argument}
+use Rattle.kernel.proofs.Doubles.Patterns.{equals-itself}
+use Rattle.kernel.proofs.Roots.NearestWhole.{argument-most}
+use Rattle.kernel.proofs.Roots.RootPatterns.{root-of, normal-argument}
 use Rattle.kernel.proofs.number.root.is_root.Statement.{statement}
 use Rattle.kernel.proofs.number.root.is_root.Tie as tie
 

@@ -2,8 +2,8 @@
 use native.Mathlib.Omega.{arith}
 use borrow.Author.Needs.{needs}
 use Prim.Native.Nat.{_%_}
-use Rattle.kernel.proofs.Whole.{argument-least, argument-most}
-use Rattle.kernel.proofs.Root.{significand-range, root-of}
+use Rattle.kernel.proofs.Roots.NearestWhole.{argument-least, argument-most}
+use Rattle.kernel.proofs.Roots.RootPatterns.{significand-range, root-of}
 use Rattle.kernel.proofs.number.root.pattern.Statement.{statement}
 use Rattle.kernel.proofs.number.root.pattern.Tie as tie
 

@@ -1,6 +1,6 @@
 -- `root_pattern` meets its contract, with and without a leading digit.
 use borrow.Author.Needs.{needs}
-use Rattle.kernel.proofs.Root.{normal-argument}
+use Rattle.kernel.proofs.Roots.RootPatterns.{normal-argument}
 use Rattle.kernel.proofs.number.root.root_pattern.Statement.{statement}
 use Rattle.kernel.proofs.number.root.root_pattern.Tie as tie
 

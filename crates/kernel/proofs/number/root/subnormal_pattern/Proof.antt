@@ -4,7 +4,7 @@ use native.Mathlib.Nat.{pow-succ'}
 use native.Mathlib.Numerals.{add-one}
 use native.Mathlib.Omega.{arith}
 use mathlib.Core.Path.{_≡_}
-use Rattle.kernel.proofs.Root.{subnormal-argument, places}
+use Rattle.kernel.proofs.Roots.RootPatterns.{subnormal-argument, places}
 use Rattle.kernel.proofs.number.root.subnormal_pattern.Statement.{statement}
 use Rattle.kernel.proofs.number.root.subnormal_pattern.Tie as tie
 

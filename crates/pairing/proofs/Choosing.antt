@@ -1,0 +1,4 @@
+-- The search for the candidate that comes first.
+pub mod Searches
+pub mod Best
+pub mod Chosen
