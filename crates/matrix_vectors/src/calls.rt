@@ -24,18 +24,26 @@ pub(crate) fn entered(answer: Number, out: &mut [f64]) -> u64 {
     }
 }
 
+// The sides of a call's matrices.
+pub(crate) struct Sides {
+    pub(crate) m: usize,
+    pub(crate) k: usize,
+    pub(crate) n: usize,
+}
+
 // The answer's number: 0, or the question that is not met.
 pub(crate) fn answer(
     call: usize,
-    m: usize,
-    k: usize,
-    n: usize,
+    sides: Sides,
     x: f64,
     a: &[f64],
     b: &[f64],
     c: &[f64],
     out: &mut [f64],
 ) -> u64 {
+    let m = sides.m;
+    let k = sides.k;
+    let n = sides.n;
     match call {
         0 => written(generic::mat_mul(a, b, m, k, n, out)),
         1 => written(generic::mat_transpose(a, m, n, out)),

@@ -10,6 +10,7 @@ mod solving;
 mod spectral;
 
 ghost use Prim.Native.Nat.{_≤_};
+use crate::calls::Sides;
 
 // The bytes of a record before its data.
 const HEAD: u64 = 88;
@@ -49,7 +50,6 @@ fn load(s: &[u8]) -> [f64; ENTRIES] {
 
 // The number that the call of the record s answers, with these slices.
 fn answer(s: &[u8], call: usize, a: &[f64], b: &[f64], c: &[f64], out: &mut [f64]) -> u64 {
-    let m = replay::number(s, 2) as usize;
     let k = replay::number(s, 3) as usize;
     let n = replay::number(s, 4) as usize;
     let x = replay::double(replay::number(s, 5));
@@ -66,7 +66,12 @@ fn answer(s: &[u8], call: usize, a: &[f64], b: &[f64], c: &[f64], out: &mut [f64
     if SOLVING <= call {
         return solving::answer(call, a, b, c, n, out);
     }
-    calls::answer(call, m, k, n, x, a, b, c, out)
+    let sides = Sides {
+        m: replay::number(s, 2) as usize,
+        k: k,
+        n: n,
+    };
+    calls::answer(call, sides, x, a, b, c, out)
 }
 
 // Whether the record s is answered as it says, with these slices; after is what it says of out after the call.
