@@ -11,10 +11,11 @@ fn mean(a: &[f64], n: usize, i: usize, j: usize) -> f64
     requires { ⌜ (i < n) × (j < n) × (length (now a) ≡ n * n) ⌝ }
     ensures { λ r. ⌜ r ≡ symmetrizedEntry (now (a .entry)) n i j ⌝ }
 {
+    let x = entry(a, n, i, j);
     if i == j {
-        return entry(a, n, i, j);
+        return x;
     }
-    0.5 * (entry(a, n, i, j) + entry(a, n, j, i))
+    0.5 * (x + entry(a, n, j, i))
 }
 
 // Writes row i of a, n by n, made symmetric.
