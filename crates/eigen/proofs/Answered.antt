@@ -16,18 +16,13 @@ use Rattle.kernel.proofs.Doubles.Differences.{finite-number}
 use Rattle.dense.specs.Matrix.{nth, isSide, hasLength, finiteEntries}
 use Rattle.dense.proofs.Finite.{finite-entry}
 use Rattle.dense.proofs.Laws.{nth-tabulate}
-use Rattle.eigen.specs.Rotation.{State}
-use Rattle.eigen.specs.Private.{Below}
-use Rattle.eigen.specs.Eigen.{indexAt, order, diagonal, arranged, Eigenpairs, pairsOf, begun, tolerance, swept, eigenpairs, matSymmetricEigen}
+use Rattle.eigen.specs.Private.{Below, final}
+use Rattle.eigen.specs.Eigen.{indexAt, order, diagonal, arranged, Eigenpairs, pairsOf, eigenpairs, matSymmetricEigen}
 use Rattle.eigen.proofs.Ordering.Orders.{order-below}
 use Rattle.eigen.proofs.Ordering.Sorting.{Descends, order-descends, Once, order-once}
 use Rattle.eigen.proofs.Ordering.Stability.{Numbers, Stable, order-stable}
 
--- the state in which the sweeps end
-abbrev pub final : List Float → ℕ → State
-final a n = swept n (tolerance (begun a n .entries) n) (begun a n)
-
--- and its diagonal
+-- the diagonal of the state in which the sweeps end
 abbrev pub eigenvalues : List Float → ℕ → List Float
 eigenvalues a n = diagonal (final a n .entries) n
 

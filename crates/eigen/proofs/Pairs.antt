@@ -1,4 +1,4 @@
--- What a swept state answers: `pairs-refused` and `pairs-made`, from what the code's functions give; and `answered-by`, from the start.
+-- What a swept state answers: `pairs-refused` and `pairs-made`, from what the code's functions give; from the start, `swept-from` and `answered-by`.
 use Prim.Native.Nat.{ℕ, _*_, _≤_}
 use native.Mathlib.Omega.{arith}
 use native.Mathlib.Nat.{mul-le-mul-right}
@@ -8,16 +8,15 @@ use mathlib.Core.List.{List}
 use mathlib.Core.Path.{_≡_, refl, sym, ap, _∙_, subst}
 use borrow.Author.Tests.{ne-eqb}
 use lib.Ieee.{Float}
-use Rattle.kernel.specs.Answer.{Outcome}
 use Rattle.kernel.specs.Lists.{tabulate}
 use Rattle.dense.specs.Matrix.{nth, at, matrix, unitEntry, identity, finiteEntries}
 use Rattle.dense.specs.declared.Written.{Written}
 use Rattle.dense.specs.declared.Written.the-variants.{Done, Refused}
 use Rattle.dense.proofs.Laws.{at-matrix, matrix-ext}
 use Rattle.dense.proofs.Tests.{met, unmet}
-use Rattle.eigen.specs.Eigen.{indexAt, order, diagonal, arranged, pairsOf, afterPairs, Eigenpairs, symmetrized, begun, tolerance, swept, eigenpairs}
-use Rattle.eigen.specs.Rotation.{State, state}
-use Rattle.eigen.specs.Private.{Below, stateOf}
+use Rattle.eigen.specs.Eigen.{indexAt, order, diagonal, arranged, pairsOf, afterPairs, symmetrized, begun, tolerance, swept, eigenpairs}
+use Rattle.eigen.specs.Rotation.{State}
+use Rattle.eigen.specs.Private.{Below, stateOf, final}
 use Rattle.eigen.proofs.Ordering.Orders.{order-below}
 
 pub sorted-below : (e : List Float) (n : ℕ) {l : List ℕ} → l ≡ order e n → Below n n l
@@ -54,20 +53,13 @@ unit-rows n = matrix-ext n n _ _ (λ i j h k. at-matrix n n unitEntry j i k h �
     go i j (yes e) = rw e
     go i j (no e) = rw (ne-eqb i j e, ne-eqb j i (λ w. e (sym w)))
 
-eigenpairs-from : (a : List Float) (n : ℕ) → pairsOf n (swept n (tolerance (symmetrized a n) n) (state (symmetrized a n) (identity n))) ≡ eigenpairs a n
-unfolding eigenpairs begun
-eigenpairs-from a n = refl
-
 module _ (a : List Float) (n : ℕ) where
-  -- the slices at the start
-  swept-from : {m v : List Float} {tol : Float} → m ≡ symmetrized a n → v ≡ identity n → tol ≡ tolerance m n
-      → swept n tol (stateOf n m v) ≡ swept n (tolerance (symmetrized a n) n) (state (symmetrized a n) (identity n))
-  swept-from em ev et = rw (et, em, ev, unit-rows n)
+  pub swept-from : {m v : List Float} {tol : Float} {s : State} → m ≡ symmetrized a n → v ≡ identity n → tol ≡ tolerance m n → s ≡ swept n tol (stateOf n m v)
+      → s ≡ final a n
+  unfolding begun
+  swept-from em ev et es = es ∙ rw (et, em, ev, unit-rows n)
 
-  pub answered-by : {m v : List Float} (w z : List Float) {tol : Float} (values vectors : List Float) {r : Written × List Float × List Float} → m ≡ symmetrized a n
-      → v ≡ identity n → tol ≡ tolerance m n → stateOf n w z ≡ swept n tol (stateOf n m v) → r ≡ afterPairs (pairsOf n (stateOf n w z)) values vectors
+  pub answered-by : {s : State} (values vectors : List Float) {r : Written × List Float × List Float} → s ≡ final a n → r ≡ afterPairs (pairsOf n s) values vectors
       → r ≡ afterPairs (eigenpairs a n) values vectors
-  answered-by w z values vectors em ev et es er =
-      er
-      ∙ ap (λ (s : State). afterPairs (pairsOf n s) values vectors) (es ∙ swept-from em ev et)
-      ∙ ap (λ (o : Outcome Eigenpairs). afterPairs o values vectors) (eigenpairs-from a n)
+  unfolding eigenpairs
+  answered-by values vectors es er = er ∙ ap (λ (z : State). afterPairs (pairsOf n z) values vectors) es

@@ -1,6 +1,6 @@
 -- Words of the private contracts: what the functions ask of their slices, what they hold, the vectors as rows, and at order 2 a plane. No definition that
 -- a user reads needs them.
-use Prim.Native.Nat.{ℕ, _*_, _<_, _≤_}
+use Prim.Native.Nat.{ℕ, _*_, _<_}
 use mathlib.Core.Bool.{cond, _&&_}
 use mathlib.Core.List.{List, [], _∷_}
 use mathlib.Core.Path.{_≡_}
@@ -45,13 +45,6 @@ pub record Work (n : ℕ) (m v e : List Float) (l : List ℕ) : Type 0 where
   pub values-room : length e ≡ n
   pub order-room : length l ≡ n
 
--- and room of any lengths that are enough
-pub record Enough (n : ℕ) (m v e : List Float) (l : List ℕ) : Type 0 where
-  pub matrix-fits : n * n ≤ length m
-  pub vectors-fit : n * n ≤ length v
-  pub values-fit : n ≤ length e
-  pub order-fits : n ≤ length l
-
 -- what the sweeps ask of their slices: a symmetric matrix m, n by n, and the vectors v
 pub record Slices (n : ℕ) (m v : List Float) : Type 0 where
   pub matrix-size : length m ≡ n * n
@@ -61,6 +54,10 @@ pub record Slices (n : ℕ) (m v : List Float) : Type 0 where
 -- the state that m and the vectors, as the rows of v, stand for
 abbrev pub stateOf : ℕ → List Float → List Float → State
 stateOf n m v = state m (matrix n n (λ i j. at v n j i))
+
+-- the state in which the sweeps of a, n by n, end
+abbrev pub final : List Float → ℕ → State
+final a n = swept n (tolerance (begun a n .entries) n) (begun a n)
 
 -- entry (i, j) when rows p and q are turned
 abbrev pub rowEntry : Rotation → ℕ → ℕ → ℕ → List Float → ℕ → ℕ → Float

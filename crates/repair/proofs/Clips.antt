@@ -59,7 +59,7 @@ module _ (e : List Float) (floor : Float) where
   mask-all n i h k p = p ∙ ap (λ (j : ℕ). tabulate 16 (maskTo j)) (le-antisymm h k)
 
   -- the report of its parts
-  pub told : (n : ℕ) {a : ℕ} {b : Float} {m : List Bool} → a ≡ clipCount e floor n → b ≡ largestClip e floor n → m ≡ clipMask e floor n
+  pub report-made : (n : ℕ) {a : ℕ} {b : Float} {m : List Bool} → a ≡ clipCount e floor n → b ≡ largestClip e floor n → m ≡ clipMask e floor n
       → record { «n_clipped» = a; «max_clip_magnitude» = b; «clipped_indices» = m } ≡ reportOf e floor n
   unfolding reportOf
-  told n p q r = rw (p, q, r)
+  report-made n p q r = rw (p, q, r)

@@ -11,7 +11,7 @@ use Rattle.kernel.proofs.Lists.{tabulate-ext}
 use Rattle.dense.specs.Matrix.{nth, matrix}
 use Rattle.eigen.specs.Eigen.{Eigenpairs}
 use Rattle.repair.specs.Repair.{clips, raised, clipCount, greaterClip, largestClip, clipMask, reportOf, blank, rebuiltEntry, repairOf}
-use Rattle.repair.proofs.Clips.{told}
+use Rattle.repair.proofs.Clips.{report-made}
 
 pub mask-is : (e : List Float) (floor : Float) (n : ℕ) → clipMask e floor n ≡ tabulate 16 (λ k. ltb k n && clips floor (nth e k))
 unfolding clipMask
@@ -56,8 +56,8 @@ module _ (floor : Float) (never : (x : Float) → clips floor x ≡ false) where
   none-masked e n = mask-is e floor n ∙ tabulate-ext 16 (λ k. ltb k n && clips floor (nth e k)) (λ k. false) (λ k h. ap (λ (b : Bool). ltb k n && b) (never (nth e k)) ∙ and-false (ltb k n))
 
   -- the report is that of a refusal
-  none-told : (e : List Float) (n : ℕ) → reportOf e floor n ≡ blank
-  none-told e n = sym (told e floor n (sym (none-counted e n)) (sym (none-larger e n)) (sym (none-masked e n))) ∙ sym blank-is
+  none-reported : (e : List Float) (n : ℕ) → reportOf e floor n ≡ blank
+  none-reported e n = sym (report-made e floor n (sym (none-counted e n)) (sym (none-larger e n)) (sym (none-masked e n))) ∙ sym blank-is
 
   -- and the eigenvalues stay
   none-moved : (e : List Float) (n : ℕ) → tabulate n (λ k. raised floor (nth e k)) ≡ tabulate n (nth e)
@@ -65,7 +65,7 @@ module _ (floor : Float) (never : (x : Float) → clips floor x ≡ false) where
 
   pub clips-none : (n : ℕ) (p : Eigenpairs) → repairOf floor n p ≡ record { rebuilt = matrix n n (rebuiltEntry (p .vectors) (tabulate n (nth (p .values))) n); report = blank }
   unfolding repairOf
-  clips-none n p = rw (none-told (p .values) n, none-moved (p .values) n)
+  clips-none n p = rw (none-reported (p .values) n, none-moved (p .values) n)
 
 -- A NaN, or -infinity, as the floor: nothing is clipped, and the matrix is rebuilt from the eigenvalues as they are.
 pub nan-clips-none : (n : ℕ) (p : Eigenpairs) → repairOf nan n p ≡ record { rebuilt = matrix n n (rebuiltEntry (p .vectors) (tabulate n (nth (p .values))) n); report = blank }

@@ -91,9 +91,9 @@ pub(crate) fn plane_repair(cov: &[f64], floor: f64, out: &mut [f64]) -> Repaired
     if !is_finite(p.aqq) {
         return refused(FINITE_EIGENVALUES);
     }
-    let told = plane_report(p.app, p.aqq, floor);
+    let report = plane_report(p.app, p.aqq, floor);
     let e = raised(p.app, floor);
     let f = raised(p.aqq, floor);
     rebuild_plane(p, e, f, out);
-    done(told)
+    done(report)
 }

@@ -1,11 +1,10 @@
 // A repair for a caller that knows the lengths: what the project's own crates call, and no user does.
 ghost use mathlib.Core.Path.{_≡_};
 ghost use mathlib.Core.List.{[], _∷_};
-ghost use Prim.Native.Nat.{_*_, _≤_};
-ghost use lib.ListN.{length};
+ghost use Prim.Native.Nat.{_≤_};
 ghost use Rattle.kernel.specs.Answer.{through};
 ghost use Rattle.eigen.specs.Eigen.{eigenpairs};
-ghost use Rattle.repair.specs.Private.{Mending, singleRebuilt};
+ghost use Rattle.repair.specs.Private.{Mending, Room, singleRebuilt};
 ghost use Rattle.repair.specs.Repair.{repairOf, repair, repairAnswer, afterRepair};
 use crate::Repaired;
 use crate::answer::done;
@@ -20,28 +19,30 @@ use crate::rebuild::share;
 use dense::Written;
 use dense::vector::are_finite;
 use dense::vector::is_finite;
-use eigen::inside::eigenpairs;
+use eigen::inside::eigenpairs_in;
 use kernel::question::FINITE_ENTRIES;
 
-// The repair of cov, n by n, from question 4 on. The slices e and v are room for the eigenvalues and the vectors.
+// The repair of cov, n by n, from question 4 on. The slices e and v are room for the eigenvalues and the vectors, m and w for the eigensolver's work.
 fn repair_in(
     cov: &[f64],
     floor: f64,
     n: usize,
     e: &mut [f64],
     v: &mut [f64],
+    m: &mut [f64],
+    w: &mut [f64],
     out: &mut [f64],
 ) -> Repaired
-    requires { ⌜ Mending n (now cov) (now out) × (length (now e) ≡ n) × (length (now v) ≡ n * n) ⌝ }
+    requires { ⌜ Mending n (now cov) (now out) × Room n (now e) (now v) (now m) (now w) ⌝ }
     ensures { λ r. ⌜ (r, now (out .exit)) ≡ afterRepair (through (repairOf floor n) (eigenpairs (now (cov .entry)) n)) (now (out .entry)) ⌝ }
 {
-    match eigenpairs(cov, n, e, v) {
+    match eigenpairs_in(cov, n, m, w, e, v) {
         Written::Refused(q) => refused(q),
         Written::Done => {
-            let told = report(e, n, floor);
+            let report = report(e, n, floor);
             raise(e, n, floor);
             rebuild(v, e, n, out);
-            done(told)
+            done(report)
         }
     }
 }
@@ -53,8 +54,19 @@ fn small_repair(cov: &[f64], floor: f64, n: usize, out: &mut [f64]) -> Repaired
 {
     let mut e = [0.0f64; 4];
     let mut v = [0.0f64; 16];
+    let mut m = [0.0f64; 16];
+    let mut w = [0.0f64; 16];
     let size = n * n;
-    repair_in(cov, floor, n, &mut e[..n], &mut v[..size], out)
+    repair_in(
+        cov,
+        floor,
+        n,
+        &mut e[..n],
+        &mut v[..size],
+        &mut m[..size],
+        &mut w[..size],
+        out,
+    )
 }
 
 // The same with room for orders to 16.
@@ -64,8 +76,19 @@ fn large_repair(cov: &[f64], floor: f64, n: usize, out: &mut [f64]) -> Repaired
 {
     let mut e = [0.0f64; 16];
     let mut v = [0.0f64; 256];
+    let mut m = [0.0f64; 256];
+    let mut w = [0.0f64; 256];
     let size = n * n;
-    repair_in(cov, floor, n, &mut e[..n], &mut v[..size], out)
+    repair_in(
+        cov,
+        floor,
+        n,
+        &mut e[..n],
+        &mut v[..size],
+        &mut m[..size],
+        &mut w[..size],
+        out,
+    )
 }
 
 // The repair of cov, n by n, into out, from question 3 on, with the room that the order needs.

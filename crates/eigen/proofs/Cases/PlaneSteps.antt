@@ -15,10 +15,10 @@ use Rattle.kernel.specs.Number.{add, mul, max, finite}
 use Rattle.dense.specs.Matrix.{sumFrom, nth, matrix, finiteEntries}
 use Rattle.eigen.specs.declared.Plane.{Plane}
 use Rattle.eigen.specs.declared.Rotation.{Rotation}
-use Rattle.eigen.specs.Private.{planeState, planeOf, turnedPlane, exchanged, descended, eigenPlane, shownBy, planePairs}
+use Rattle.eigen.specs.Private.{planeState, planeOf, turnedPlane, exchanged, descended, eigenPlane, shownBy, planePairs, final}
 use Rattle.eigen.specs.Rotation.{State, state, negligible, rotation, turned, cornerEntry, turnedEntry, turnedVector, turnedBy, rotated}
 use Rattle.eigen.specs.Eigen.{symmetrizedEntry, begun, aboveRows, tolerance, stops, sweptRow, sweptRows, sweep, spot, insertedAt, order, arranged, pairsOf, swept, eigenpairs}
-use Rattle.eigen.proofs.Answered.{final, eigenpairs-final}
+use Rattle.eigen.proofs.Answered.{eigenpairs-final}
 
 pub plane-begun : (w x y z : Float)
     → begun (w ∷ x ∷ y ∷ z ∷ []) 2 ≡ state (w ∷ mul half (add x y) ∷ mul half (add x y) ∷ z ∷ []) (one ∷ nought ∷ nought ∷ one ∷ [])

@@ -44,15 +44,15 @@ returns-3 : tie.Need-returns-3
 returns-3 c =
     let rebuilt = c .before .before .before in
     let second = rebuilt .before .before in
-    let told = second .before .before in
-    let else2 = told .before in
+    let reported = second .before .before in
+    let else2 = reported .before in
     let else1 = first else2 in
     rw (
       plane-repaired _ _ _ (paired (else1 .before .before)),
       met (else1 .before .is-finite .ensures) (else1 .if1 .left),
       met (else2 .before .is-finite2 .ensures) (else2 .if2 .left),
       c .done .ensures,
-      told .plane-report .ensures,
+      reported .plane-report .ensures,
       rebuilt .rebuild-plane .ensures,
       second .raised2 .ensures,
       second .before .raised .ensures,

@@ -6,7 +6,7 @@ use lib.Ieee.{ofBits}
 use borrow.Author.Needs.{needs}
 use Rattle.kernel.specs.Lists.{tabulate}
 use Rattle.repair.specs.Repair.{clipMask}
-use Rattle.repair.proofs.Clips.{one-at-most, told}
+use Rattle.repair.proofs.Clips.{one-at-most, report-made}
 use Rattle.repair.proofs.SmallOrders.{plane-count, plane-largest}
 use Rattle.repair.proofs.direct.plane_report.Statement.{statement}
 use Rattle.repair.proofs.direct.plane_report.Tie as tie
@@ -23,7 +23,7 @@ returns c =
     let second = c .before .before in
     let first = second .before in
     let x = first .before .args in
-    told (x .x ∷ x .y ∷ []) (x .floor) 2 (plane-count (x .x) (x .y) (x .floor) (first .clip .ensures) (second .clip2 .ensures))
+    report-made (x .x ∷ x .y ∷ []) (x .floor) 2 (plane-count (x .x) (x .y) (x .floor) (first .clip .ensures) (second .clip2 .ensures))
     (plane-largest (x .x) (x .y) (x .floor) (c .before .greater-clip .ensures) (c .greater-clip2 .ensures)) refl
 
 pub plane-report-spec : {M : Type 1} → statement M

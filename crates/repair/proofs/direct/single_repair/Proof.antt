@@ -35,8 +35,8 @@ returns-2 c =
 
 returns-3 : tie.Need-returns-3
 returns-3 c =
-    let told = c .before in
-    let stored = told .before in
+    let reported = c .before in
+    let stored = reported .before in
     let else2 = stored .before in
     let x = entered (first else2) .args in
     let size = sizes (first else2) in
@@ -47,7 +47,7 @@ returns-3 c =
       single-stored (x .out .now) _ (size .1),
       c .done .ensures,
       stored .single-rebuilt .ensures,
-      told .single-report .ensures,
+      reported .single-report .ensures,
       sym (single-list (x .cov .now) (size .0)),
     )
 

@@ -17,15 +17,21 @@ size c = small-size (c .args .n) (order c)
 
 repair-in-requires : tie.Need-repair-in-requires
 repair-in-requires c κs =
-    let start = c .before .before .before .before .before in
-    let o = order start in
-    let s = size start in
-    (start .pre .0, length-take-le _ _ (omega arith), length-take-le _ _ (omega arith))
+    let start = c .before .before .before .before .before .before .before in (
+      start .pre .0,
+      record {
+        values-room = length-take-le _ _ (order start);
+        vectors-room = length-take-le _ _ (size start);
+        matrix-room = length-take-le _ _ (size start);
+        rows-room = length-take-le _ _ (size start);
+      },
+    )
 
 pub small-repair-spec : {M : Type 1} → statement M
 small-repair-spec =
     tie.close
-    (tie.spec (λ c. omega (arith, size (c .before .before))) (λ c. omega (arith, order (c .before .before)))
-    (λ c. sym (length-take-le _ _ (omega (arith, order (c .before .before .before))))) (λ c. omega (arith, size (c .before .before .before)))
-    (λ c. sym (length-take-le _ _ (omega (arith, size (c .before .before .before .before))))) repair-in-requires
-    (λ c. search needs) (λ c. search needs))
+    (tie.spec (λ c. omega (arith, size (c .before .before))) (λ c. order (c .before .before))
+    (λ c. sym (length-take-le _ _ (order (c .before .before .before)))) (λ c. size (c .before .before .before))
+    (λ c. sym (length-take-le _ _ (size (c .before .before .before .before)))) (λ c. size (c .before .before .before .before))
+    (λ c. sym (length-take-le _ _ (size (c .before .before .before .before .before)))) (λ c. size (c .before .before .before .before .before))
+    (λ c. sym (length-take-le _ _ (size (c .before .before .before .before .before .before)))) repair-in-requires (λ c. search needs) (λ c. search needs))

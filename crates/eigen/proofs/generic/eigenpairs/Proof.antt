@@ -5,8 +5,8 @@ use mathlib.Core.List.{List}
 use mathlib.Core.Path.{_≡_, subst}
 use lib.Ieee.{Float}
 use Rattle.eigen.specs.Private.{Lent}
-use Rattle.eigen.proofs.inside.eigenpairs.Statement.{statement}
-use Rattle.eigen.proofs.inside.eigenpairs.Tie as tie
+use Rattle.eigen.proofs.generic.eigenpairs.Statement.{statement}
+use Rattle.eigen.proofs.generic.eigenpairs.Tie as tie
 
 lent-at : {n k : ℕ} {a x y : List Float} → n ≡ k → Lent n a x y → Lent k a x y
 lent-at {a = a} {x} {y} e = subst (λ (i : ℕ). Lent i a x y) e
