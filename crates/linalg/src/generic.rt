@@ -6,12 +6,12 @@ ghost use Rattle.linalg.specs.Norms.{vecNorm, matFrobenius};
 ghost use Rattle.linalg.specs.Cholesky.{matCholesky};
 ghost use Rattle.linalg.specs.Sums.{matTrace, matTraceProduct, matTraceCube, matQuadraticForm, distanceWithInv};
 use crate::cholesky::cholesky;
+use crate::inside::distance_with_inv;
 use crate::product::ata_by_width;
 use crate::product::product_by_width;
 use crate::product::symmetrize;
 use crate::product::times_vector_by_width;
 use crate::product::transpose;
-use crate::sums::distance;
 use crate::sums::quadratic_form;
 use crate::sums::trace;
 use crate::sums::trace_cube_product;
@@ -165,7 +165,7 @@ pub fn mahalanobis_distance_squared_with_inv(x: &[f64], mu: &[f64], inv: &[f64],
     if !is_distance(x, mu, inv, n) {
         return Number::Refused(LENGTH);
     }
-    Number::Value(distance(x, mu, inv, n))
+    Number::Value(distance_with_inv(x, mu, inv, n))
 }
 
 // The Euclidean norm of x, of n entries.

@@ -2,6 +2,7 @@
 // document 01's questions that is not met, and then no lent memory has changed.
 mod cholesky;
 pub mod generic;
+pub mod inside;
 mod product;
 pub mod regularize;
 mod sums;

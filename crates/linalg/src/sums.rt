@@ -6,10 +6,9 @@ ghost use Rattle.kernel.specs.Number.{mul};
 ghost use Rattle.kernel.specs.Constants.{nought};
 ghost use Rattle.dense.specs.Matrix.{nth, at, total, sumFrom, sumRowsFrom};
 ghost use Rattle.linalg.specs.Products.{product};
-ghost use Rattle.linalg.specs.Sums.{traceCube, quadraticForm, difference};
+ghost use Rattle.linalg.specs.Sums.{traceCube, quadraticForm};
 ghost use Rattle.linalg.specs.Private.{Cell};
 use crate::product::product;
-use crate::vector::subtract;
 use dense::shape::entry;
 
 // The sum of the diagonal of a, n by n.
@@ -117,14 +116,4 @@ pub(crate) fn trace_cube_product(a: &[f64], b: &[f64], n: usize) -> f64
     let size = n * n;
     product(a, b, n, n, n, &mut m[..size]);
     trace_cube(&m[..size], n)
-}
-
-// The quadratic form of x - mu under inv, n by n.
-pub(crate) fn distance(x: &[f64], mu: &[f64], inv: &[f64], n: usize) -> f64
-    requires { ⌜ (n ≤ 16) × (length (now x) ≡ n) × (length (now mu) ≡ n) × (length (now inv) ≡ n * n) ⌝ }
-    ensures { λ r. ⌜ r ≡ quadraticForm (difference (now (x .entry)) (now (mu .entry)) n) (now (inv .entry)) n ⌝ }
-{
-    let mut delta = [0.0f64; 16];
-    subtract(x, mu, n, &mut delta[..n]);
-    quadratic_form(&delta[..n], inv, n)
 }

@@ -64,9 +64,8 @@ pub record SystemTo (most n r : ℕ) (a b out : List Float) : Type 0 where
   pub few : r ≤ most
   pub system : System n r a b out
 
--- two vectors of n entries, at least one, and an n by n matrix
+-- two vectors of n entries, and an n by n matrix
 pub record Under (x mu cov : List Float) (n : ℕ) : Type 0 where
-  pub some : 1 ≤ n
   pub first : length x ≡ n
   pub second : length mu ≡ n
   pub square : length cov ≡ n * n

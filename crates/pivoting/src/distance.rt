@@ -1,33 +1,43 @@
 // The squared distance over the inverse.
 ghost use mathlib.Core.Path.{_≡_};
-ghost use Prim.Native.Nat.{_*_, _≤_};
+ghost use Prim.Native.Nat.{_+_, _*_, _≤_};
 ghost use lib.ListN.{length};
 ghost use Rattle.dense.specs.Answer.{given};
 ghost use Rattle.linalg.specs.Sums.{difference, quadraticForm};
 ghost use Rattle.pivoting.specs.Solve.{distance};
-ghost use Rattle.pivoting.specs.Private.{following, Under};
-use crate::invert::inverse;
+ghost use Rattle.pivoting.specs.Private.{following, Elimination, Under};
+use crate::invert::inverse_in;
 use dense::Number;
 use dense::Written;
-use linalg::generic::mahalanobis_distance_squared_with_inv;
+use linalg::inside::distance_with_inv;
 
 // The quadratic form of x - mu under inv, n by n, where the call that wrote inv has answered.
 fn distance_under(answer: Written, x: &[f64], mu: &[f64], inv: &[f64], n: usize) -> Number
-    requires { ⌜ (1 ≤ n) × (n ≤ 16) × (length (now x) ≡ n) × (length (now mu) ≡ n) × (length (now inv) ≡ n * n) ⌝ }
+    requires { ⌜ Under (now x) (now mu) (now inv) n × (n ≤ 16) ⌝ }
     ensures { λ q. ⌜ q ≡ following answer (quadraticForm (difference (now (x .entry)) (now (mu .entry)) n) (now (inv .entry)) n) ⌝ }
 {
     match answer {
         Written::Refused(q) => Number::Refused(q),
-        Written::Done => mahalanobis_distance_squared_with_inv(x, mu, inv, n),
+        Written::Done => Number::Value(distance_with_inv(x, mu, inv, n)),
     }
 }
 
-// Questions 5 and 6, and then the quadratic form of x - mu under the inverse of cov, n by n. The slice inv is room for the inverse.
-fn distance_in(x: &[f64], mu: &[f64], cov: &[f64], n: usize, inv: &mut [f64]) -> Number
-    requires { ⌜ Under (now x) (now mu) (now cov) n × (n ≤ 16) × (length (now inv) ≡ n * n) ⌝ }
+// Questions 5 and 6, and then the quadratic form of x - mu under the inverse of cov, n by n. The slices inv, m, s and y are room for the inverse,
+// [cov | I], the norms and one row.
+fn distance_in(
+    x: &[f64],
+    mu: &[f64],
+    cov: &[f64],
+    n: usize,
+    inv: &mut [f64],
+    m: &mut [f64],
+    s: &mut [f64],
+    y: &mut [f64],
+) -> Number
+    requires { ⌜ Under (now x) (now mu) (now cov) n × (n ≤ 16) × (length (now inv) ≡ n * n) × Elimination n (n + n) (now m) (now s) (now y) ⌝ }
     ensures { λ q. ⌜ q ≡ given (distance (now (x .entry)) (now (mu .entry)) (now (cov .entry)) n) ⌝ }
 {
-    let answer = inverse(cov, n, inv);
+    let answer = inverse_in(cov, n, n + n, m, s, y, inv);
     distance_under(answer, x, mu, inv, n)
 }
 
@@ -37,8 +47,21 @@ pub(crate) fn small_distance(x: &[f64], mu: &[f64], cov: &[f64], n: usize) -> Nu
     ensures { λ q. ⌜ q ≡ given (distance (now (x .entry)) (now (mu .entry)) (now (cov .entry)) n) ⌝ }
 {
     let mut inv = [0.0f64; 16];
-    let size = n * n;
-    distance_in(x, mu, cov, n, &mut inv[..size])
+    let mut m = [0.0f64; 32];
+    let mut s = [0.0f64; 4];
+    let mut y = [0.0f64; 8];
+    let w = n + n;
+    let size = n * w;
+    distance_in(
+        x,
+        mu,
+        cov,
+        n,
+        &mut inv[..n * n],
+        &mut m[..size],
+        &mut s[..n],
+        &mut y[..w],
+    )
 }
 
 // The same with room for orders to 16.
@@ -47,6 +70,19 @@ pub(crate) fn large_distance(x: &[f64], mu: &[f64], cov: &[f64], n: usize) -> Nu
     ensures { λ q. ⌜ q ≡ given (distance (now (x .entry)) (now (mu .entry)) (now (cov .entry)) n) ⌝ }
 {
     let mut inv = [0.0f64; 256];
-    let size = n * n;
-    distance_in(x, mu, cov, n, &mut inv[..size])
+    let mut m = [0.0f64; 512];
+    let mut s = [0.0f64; 16];
+    let mut y = [0.0f64; 32];
+    let w = n + n;
+    let size = n * w;
+    distance_in(
+        x,
+        mu,
+        cov,
+        n,
+        &mut inv[..n * n],
+        &mut m[..size],
+        &mut s[..n],
+        &mut y[..w],
+    )
 }

@@ -48,7 +48,7 @@ fn join_identity(a: &[f64], n: usize, w: usize, m: &mut [f64])
 }
 
 // Questions 5 and 6, and then the inverse of a, n by n, into out. The slices m, s and x are room for [a | I], the norms and one row.
-fn inverse_in(
+pub(crate) fn inverse_in(
     a: &[f64],
     n: usize,
     w: usize,

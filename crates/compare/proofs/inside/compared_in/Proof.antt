@@ -4,7 +4,7 @@ use mathlib.Core.List.{List}
 use mathlib.Core.Path.{_≡_, ap, _∙_}
 use borrow.Author.Needs.{needs}
 use lib.Ieee.{Float}
-use Rattle.dense.proofs.Tests.{side-low, side-high}
+use Rattle.dense.proofs.Tests.{side-high}
 use Rattle.repair.specs.declared.Repaired.{Repaired}
 use Rattle.repair.specs.Repair.{repair, afterRepair}
 use Rattle.compare.specs.Distance.{jointCovariance, jointRepair}
@@ -36,7 +36,7 @@ compared-after-requires c κs =
     let start = entered repaired in
     let h = start .pre .0 in
     let n = start .args .n in
-    (record { some = side-low n (h .sided); first = h .state-j; second = h .state-i; square = repaired .repair .kept .1 .1 .1 .0 ∙ start .pre .2 }, side-high n (h .sided))
+    (record { first = h .state-j; second = h .state-i; square = repaired .repair .kept .1 .1 .1 .0 ∙ start .pre .2 }, side-high n (h .sided))
 
 returns : tie.Need-returns
 returns c =

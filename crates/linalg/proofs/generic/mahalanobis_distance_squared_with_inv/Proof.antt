@@ -1,4 +1,4 @@
--- `mahalanobis_distance_squared_with_inv` meets its contract: each question is put by its own function, and `distance` has the answer.
+-- `mahalanobis_distance_squared_with_inv` meets its contract: each question is put by its own function, and `distance_with_inv` has the answer.
 use borrow.Author.Needs.{needs}
 use Prim.Native.Nat.{_*_}
 use Rattle.linalg.specs.Sums.{distanceWithInv}
@@ -21,8 +21,8 @@ returns-2 : tie.Need-returns-2
 unfolding distanceWithInv
 returns-2 c = rw (met (c .before .before .before .is-side .ensures) (c .before .before .if1 .left), unmet (c .before .is-distance .ensures) (c .if2 .taken))
 
-distance-requires : tie.Need-distance-requires
-distance-requires c κs =
+distance-with-inv-requires : tie.Need-distance-with-inv-requires
+distance-with-inv-requires c κs =
     let else1 = c .before .before in
     let start = else1 .before .before .before .before .before in
     let x = start .args in
@@ -35,7 +35,7 @@ unfolding distanceWithInv
 returns-3 c =
     let after-is-distance = c .before .before in
     let after-is-side = after-is-distance .before .before in
-    rw (met (after-is-side .is-side .ensures) (after-is-distance .before .if1 .left), met (after-is-distance .is-distance .ensures) (c .before .if2 .left)) (value (c .distance .ensures))
+    rw (met (after-is-side .is-side .ensures) (after-is-distance .before .if1 .left), met (after-is-distance .is-distance .ensures) (c .before .if2 .left)) (value (c .distance-with-inv .ensures))
 
 pub mahalanobis-distance-squared-with-inv-spec : {M : Type 1} → statement M
-mahalanobis-distance-squared-with-inv-spec = tie.close (tie.spec (λ c κs. search needs) returns is-distance-requires returns-2 distance-requires returns-3)
+mahalanobis-distance-squared-with-inv-spec = tie.close (tie.spec (λ c κs. search needs) returns is-distance-requires returns-2 distance-with-inv-requires returns-3)

@@ -1,4 +1,4 @@
--- `distance` meets its contract: the differences stand in the first n entries of a local array.
+-- `distance_with_inv` meets its contract: the differences stand in the first n entries of a local array.
 use mathlib.Core.Path.{sym, ap, _∙_}
 use mathlib.Core.List.{List}
 use native.Mathlib.Omega.{arith}
@@ -8,8 +8,8 @@ use lib.Seq.{length-take-le, length-front}
 use Rattle.linalg.specs.Sums.{quadraticForm}
 use Rattle.kernel.proofs.Lists.{length-tabulate}
 use Rattle.dense.proofs.Laws.{front}
-use Rattle.linalg.proofs.sums.distance.Statement.{statement}
-use Rattle.linalg.proofs.sums.distance.Tie as tie
+use Rattle.linalg.proofs.inside.distance_with_inv.Statement.{statement}
+use Rattle.linalg.proofs.inside.distance_with_inv.Tie as tie
 
 slice-aggregate-subtract : tie.Need-slice-aggregate-subtract
 slice-aggregate-subtract c = sym (length-take-le _ _ (omega arith))
@@ -37,8 +37,8 @@ returns c =
     let start = after-subtract .before .before .before .before .before in
     c .quadratic-form .ensures ∙ ap (λ (d : List Float). quadraticForm d (start .args .inv .now) (start .args .n)) (front _ (length-tabulate _ _) (after-subtract .subtract .ensures))
 
-pub distance-spec : {M : Type 1} → statement M
-distance-spec =
+pub distance-with-inv-spec : {M : Type 1} → statement M
+distance-with-inv-spec =
     tie.close
     (tie.spec (λ c. omega arith) slice-aggregate-subtract subtract-requires array-share-prefix-delta slice-aggregate-quadratic-form quadratic-form-requires
     returns)

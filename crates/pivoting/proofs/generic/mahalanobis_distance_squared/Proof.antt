@@ -1,7 +1,7 @@
 -- `mahalanobis_distance_squared` meets its contract: each question is put by its own function, and `distance` has the answer.
 use borrow.Author.Needs.{needs}
 use Prim.Native.Nat.{_*_}
-use Rattle.dense.proofs.Tests.{met, unmet, area, three-long, side-low, side-high}
+use Rattle.dense.proofs.Tests.{met, unmet, area, three-long, side-high}
 use Rattle.pivoting.specs.Solve.{mahalanobis}
 use Rattle.pivoting.proofs.generic.mahalanobis_distance_squared.Statement.{statement}
 use Rattle.pivoting.proofs.generic.mahalanobis_distance_squared.Tie as tie
@@ -28,7 +28,7 @@ distance-requires c κs =
     let x = sided .before .before .before .before .before .args in
     let s = met (sided .before .is-side .ensures) (sided .if1 .left) in
     let l = three-long (x .x .now) (x .mu .now) (x .cov .now) (x .n) (x .n) (x .n * x .n) (met (c .before .is-distance .ensures) (c .if2 .left)) in
-    (record { some = side-low (x .n) s; first = l .0; second = l .1; square = l .2 }, side-high (x .n) s)
+    (record { first = l .0; second = l .1; square = l .2 }, side-high (x .n) s)
 
 returns-3 : tie.Need-returns-3
 unfolding mahalanobis
