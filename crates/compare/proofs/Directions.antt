@@ -12,10 +12,10 @@ use lib.Ieee.Fits.{add-fits, mul-fits}
 use Rattle.kernel.specs.Answer.{Outcome, refused, answered, ask, andThen, through}
 use Rattle.kernel.specs.Constants.{nought}
 use Rattle.kernel.specs.Number.{add, sub, mul}
-use Rattle.dense.specs.Matrix.{sumFrom, sumRowsFrom, nth, at, identity, isSide, hasLength}
+use Rattle.dense.specs.Matrix.{sumFrom, sumRowsFrom, nth, at, isSide, hasLength}
 use Rattle.dense.proofs.Laws.{nth-tabulate}
 use Rattle.linalg.specs.Sums.{difference, quadraticForm}
-use Rattle.pivoting.specs.Solve.{solved, distance, mahalanobis}
+use Rattle.pivoting.specs.Solve.{inverse, distance, mahalanobis}
 use Rattle.repair.specs.Repair.{Repair}
 use Rattle.compare.specs.declared.Comparison.{Comparison}
 use Rattle.compare.specs.Distance.{jointRepair, squaredDistance, comparisonOf, compared, floorAndGate, comparing}
@@ -83,7 +83,7 @@ module _ (x mu : List Float) (n : ℕ) where
 
   distance-turned : (cov : List Float) → distance x mu cov n ≡ distance mu x cov n
   unfolding distance
-  distance-turned cov = through-same _ _ (λ inv. quadratic-turned (difference x mu n) (difference mu x n) inv n turned) (solved cov (identity n) n n)
+  distance-turned cov = through-same _ _ (λ inv. quadratic-turned (difference x mu n) (difference mu x n) inv n turned) (inverse cov n)
 
   pub mahalanobis-turned : (cov : List Float) → mahalanobis x mu cov n ≡ mahalanobis mu x cov n
   unfolding mahalanobis

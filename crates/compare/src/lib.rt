@@ -56,7 +56,7 @@ pub fn compare(
     if !is_floor_and_gate(floor, gate) {
         return Compared::Refused(FLOOR_AND_GATE);
     }
-    let told = compare_tracks(mu, x, p_i, p_j, n, floor, gate);
-    let comparison = told.comparison;
+    let report = compare_tracks(mu, x, p_i, p_j, n, floor, gate);
+    let comparison = report.comparison;
     Compared::Answered(comparison)
 }

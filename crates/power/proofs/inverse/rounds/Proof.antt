@@ -47,14 +47,14 @@ solution-at : (c : tie.After-norm Inv-loop μ-loop)
 solution-at c = solved-at c .solve .ensures .1 (not-false _ (c .before .before .if1 .left))
 
 -- what the test of its norm says
-told : (c : tie.After-norm Inv-loop μ-loop)
+norm-fails : (c : tie.After-norm Inv-loop μ-loop)
     → let x = entered (turn-of c) .args in let turn = turn-of c .loop in lt (c .norm .result) leastNorm ≡ fails (x .g .now) (x .n) (iterate (turn .x) (turn .estimate))
-told c = fails-test (turn-of c .loop .inv) (met (solved-at c .solve .ensures .0) (c .before .before .if1 .left)) (solution-at c) (c .norm .ensures)
+norm-fails c = fails-test (turn-of c .loop .inv) (met (solved-at c .solve .ensures .0) (c .before .before .if1 .left)) (solution-at c) (c .norm .ensures)
 
 -- and that there is a next round
 passed : (c : tie.After-dot Inv-loop μ-loop)
     → let x = entered (turn-of (normed c)) .args in let turn = turn-of (normed c) .loop in fails (x .g .now) (x .n) (iterate (turn .x) (turn .estimate)) ≡ false
-passed c = sym (told (normed c)) ∙ c .before .before .before .if2 .left
+passed c = sym (norm-fails (normed c)) ∙ c .before .before .before .if2 .left
 
 -- the slices keep their lengths
 kept-x : (c : tie.At-loop Inv-loop μ-loop) → length (c .loop .x) ≡ length (entered c .args .x .now)
@@ -79,7 +79,7 @@ returns-2 : tie.Need-returns-2 Inv-loop μ-loop
 returns-2 c =
     let after-norm = c .before .before in
     let turn = turn-of after-norm in
-    ends-failed (turn .loop .inv) (entered turn .args .sigma) (omega arith) (sym (told after-norm) ∙ c .before .if2 .taken) (c .infinity2 .ensures)
+    ends-failed (turn .loop .inv) (entered turn .args .sigma) (omega arith) (sym (norm-fails after-norm) ∙ c .before .if2 .taken) (c .infinity2 .ensures)
 
 dot-requires : tie.Need-dot-requires Inv-loop μ-loop
 dot-requires c κs = let call = solved-at (c .before .before .before) in (this-turn call .loop .inv .vector, wide call)

@@ -29,9 +29,9 @@ abbrev tested : tie.After-normalize Inv-loop μ-loop → tie.After-is-start Inv-
 tested c = c .before .before .before .before
 
 -- what the test says of unit vector k
-told : (c : tie.After-is-start Inv-loop μ-loop)
+starts : (c : tie.After-is-start Inv-loop μ-loop)
     → let turn = this-turn (deflated-at c) in c .is-start .result ≡ startAt (entered turn .args .v .now) (entered turn .args .n) (turn .loop .k)
-told c = start-test (this-turn (deflated-at c) .loop .inv) (deflated-at c .deflate .ensures) (c .before .norm .ensures) (c .is-start .ensures)
+starts c = start-test (this-turn (deflated-at c) .loop .inv) (deflated-at c .deflate .ensures) (c .before .norm .ensures) (c .is-start .ensures)
 
 -- the vector that was deflated has n entries
 wide : (c : tie.After-deflate Inv-loop μ-loop) → length (c .deflate .last .1 .1 .1 .0) ≡ entered (this-turn c) .args .n
@@ -63,14 +63,14 @@ returns : tie.Need-returns Inv-loop μ-loop
 returns c =
     let after-normalize = c .before .before in
     let call = deflated-at (tested after-normalize) in
-    start-found (this-turn call .loop .inv) (omega arith) (sym (told (tested after-normalize)) ∙ after-normalize .before .before .before .if1 .taken) (call .deflate .ensures)
+    start-found (this-turn call .loop .inv) (omega arith) (sym (starts (tested after-normalize)) ∙ after-normalize .before .before .before .if1 .taken) (call .deflate .ensures)
     (after-normalize .normalize .ensures)
 
 loop-again : tie.Need-loop-again Inv-loop μ-loop
 loop-again c =
     let call = deflated-at (c .before) in
     let held = this-turn call .loop .inv in
-    record { at = stands-next (held .at) (omega arith) (sym (told (c .before)) ∙ c .if1 .left) refl; room = wide call; start = held .start }
+    record { at = stands-next (held .at) (omega arith) (sym (starts (c .before)) ∙ c .if1 .left) refl; room = wide call; start = held .start }
 
 pub start-spec : {M : Type 1} → statement M
 start-spec =

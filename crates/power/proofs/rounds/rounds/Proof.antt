@@ -31,14 +31,14 @@ abbrev rounded : tie.After-dot Inv-loop μ-loop → tie.After-round Inv-loop μ-
 rounded c = c .before .before .before .before .before .before .before .before
 
 -- what the first test says of the vector
-told : (c : tie.After-norm Inv-loop μ-loop)
+norm-vanishes : (c : tie.After-norm Inv-loop μ-loop)
     → let x = entered (this-turn c) .args in lt (c .norm .result) vanishing ≡ vanishes (x .a .now) (x .n) (this-turn c .loop .v)
-told c = vanish-test (this-turn c .loop .inv) (c .norm .ensures)
+norm-vanishes c = vanish-test (this-turn c .loop .inv) (c .norm .ensures)
 
 -- and that it goes on
 stands : (c : tie.After-round Inv-loop μ-loop)
     → let turn = this-turn (normed c) in vanishes (entered turn .args .a .now) (entered turn .args .n) (turn .loop .v) ≡ false
-stands c = sym (told (normed c)) ∙ c .before .before .before .if1 .left
+stands c = sym (norm-vanishes (normed c)) ∙ c .before .before .before .if1 .left
 
 -- the slices keep their lengths
 kept-v : (c : tie.At-loop Inv-loop μ-loop) → length (c .loop .v) ≡ length (entered c .args .v .now)
@@ -48,7 +48,7 @@ kept-w : (c : tie.At-loop Inv-loop μ-loop) → length (c .loop .w) ≡ length (
 kept-w c = wide (c .loop .inv) ∙ sym (product-size (entered c .pre))
 
 returns : tie.Need-returns Inv-loop μ-loop
-returns c = ends-vanished (this-turn (c .before) .loop .inv) (omega arith) (sym (told (c .before)) ∙ c .if1 .taken)
+returns c = ends-vanished (this-turn (c .before) .loop .inv) (omega arith) (sym (norm-vanishes (c .before)) ∙ c .if1 .taken)
 
 round-requires : tie.Need-round-requires Inv-loop μ-loop
 round-requires c κs =
