@@ -5,5 +5,6 @@ pub mod Started
 pub mod Columns
 pub mod Inverse
 pub mod Determinants
+pub mod Distances
 pub mod Rooms
 pub mod Single

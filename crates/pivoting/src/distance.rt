@@ -1,11 +1,10 @@
 // The squared distance over the inverse.
 ghost use mathlib.Core.Path.{_≡_};
-ghost use Prim.Native.Nat.{_+_, _*_, _≤_};
-ghost use lib.ListN.{length};
+ghost use Prim.Native.Nat.{_≤_};
 ghost use Rattle.dense.specs.Answer.{given};
 ghost use Rattle.linalg.specs.Sums.{difference, quadraticForm};
 ghost use Rattle.pivoting.specs.Solve.{distance};
-ghost use Rattle.pivoting.specs.Private.{following, Elimination, Under};
+ghost use Rattle.pivoting.specs.Private.{following, Under};
 use crate::invert::inverse_in;
 use dense::Number;
 use dense::Written;
@@ -22,46 +21,28 @@ fn distance_under(answer: Written, x: &[f64], mu: &[f64], inv: &[f64], n: usize)
     }
 }
 
-// Questions 5 and 6, and then the quadratic form of x - mu under the inverse of cov, n by n. The slices inv, m, s and y are room for the inverse,
-// [cov | I], the norms and one row.
-fn distance_in(
-    x: &[f64],
-    mu: &[f64],
-    cov: &[f64],
-    n: usize,
-    inv: &mut [f64],
-    m: &mut [f64],
-    s: &mut [f64],
-    y: &mut [f64],
-) -> Number
-    requires { ⌜ Under (now x) (now mu) (now cov) n × (n ≤ 16) × (length (now inv) ≡ n * n) × Elimination n (n + n) (now m) (now s) (now y) ⌝ }
-    ensures { λ q. ⌜ q ≡ given (distance (now (x .entry)) (now (mu .entry)) (now (cov .entry)) n) ⌝ }
-{
-    let answer = inverse_in(cov, n, n + n, m, s, y, inv);
-    distance_under(answer, x, mu, inv, n)
-}
-
-// The same with room for orders to 4.
+// Questions 5 and 6, and then the quadratic form of x - mu under the inverse of cov, n by n, with room for orders to 4.
 pub(crate) fn small_distance(x: &[f64], mu: &[f64], cov: &[f64], n: usize) -> Number
     requires { ⌜ Under (now x) (now mu) (now cov) n × (n ≤ 4) ⌝ }
     ensures { λ q. ⌜ q ≡ given (distance (now (x .entry)) (now (mu .entry)) (now (cov .entry)) n) ⌝ }
 {
-    let mut inv = [0.0f64; 16];
     let mut m = [0.0f64; 32];
     let mut s = [0.0f64; 4];
     let mut y = [0.0f64; 8];
+    let mut inv = [0.0f64; 16];
     let w = n + n;
-    let size = n * w;
-    distance_in(
-        x,
-        mu,
+    let wide = n * w;
+    let size = n * n;
+    let answer = inverse_in(
         cov,
         n,
-        &mut inv[..n * n],
-        &mut m[..size],
+        w,
+        &mut m[..wide],
         &mut s[..n],
         &mut y[..w],
-    )
+        &mut inv[..size],
+    );
+    distance_under(answer, x, mu, &inv[..size], n)
 }
 
 // The same with room for orders to 16.
@@ -69,20 +50,21 @@ pub(crate) fn large_distance(x: &[f64], mu: &[f64], cov: &[f64], n: usize) -> Nu
     requires { ⌜ Under (now x) (now mu) (now cov) n × (n ≤ 16) ⌝ }
     ensures { λ q. ⌜ q ≡ given (distance (now (x .entry)) (now (mu .entry)) (now (cov .entry)) n) ⌝ }
 {
-    let mut inv = [0.0f64; 256];
     let mut m = [0.0f64; 512];
     let mut s = [0.0f64; 16];
     let mut y = [0.0f64; 32];
+    let mut inv = [0.0f64; 256];
     let w = n + n;
-    let size = n * w;
-    distance_in(
-        x,
-        mu,
+    let wide = n * w;
+    let size = n * n;
+    let answer = inverse_in(
         cov,
         n,
-        &mut inv[..n * n],
-        &mut m[..size],
+        w,
+        &mut m[..wide],
         &mut s[..n],
         &mut y[..w],
-    )
+        &mut inv[..size],
+    );
+    distance_under(answer, x, mu, &inv[..size], n)
 }

@@ -1,38 +1,70 @@
--- `large_distance` meets its contract: the local arrays have room for the work.
+-- `large_distance` meets its contract: the local arrays have room for the work, and the inverse is read where it was written.
 use Prim.Native.Nat.{_+_, _*_, _≤_}
 use native.Mathlib.Omega.{arith}
-use mathlib.Core.Path.{sym}
-use lib.Seq.{length-take-le}
-use borrow.Author.Needs.{needs}
+use mathlib.Core.Path.{_≡_, refl, sym, _∙_}
+use lib.ListN.{length}
+use lib.Seq.{length-take-le, length-front}
+use Rattle.pivoting.proofs.Distances.{distance-over}
 use Rattle.pivoting.proofs.Rooms.{square-room, augmented-room, elimination-room}
 use Rattle.pivoting.proofs.distance.large_distance.Statement.{statement}
 use Rattle.pivoting.proofs.distance.large_distance.Tie as tie
 
+-- the places on the way
 abbrev entered : tie.After-shared-slice-known3 → tie.Start
 entered c = c .before .before .before
 
--- the rows, the inverse, and the augmented matrix
+abbrev lent : tie.After-inverse-in → tie.After-shared-slice-known3
+lent c = c .before .before .before .before .before
+
+abbrev inverted : tie.After-inv3 → tie.After-inverse-in
+inverted c = c .before .before .before .before .before
+
+-- the rows, the augmented matrix, and the inverse
 order : (c : tie.After-shared-slice-known3) → entered c .args .n ≤ 16
 order c = entered c .pre .1
-
-square : (c : tie.After-shared-slice-known3) → entered c .args .n * entered c .args .n ≤ 256
-square c = square-room 16 (entered c .args .n) (order c)
 
 width : (c : tie.After-shared-slice-known3) → entered c .args .n + entered c .args .n ≤ 32
 width c = omega (arith, order c)
 
-size : (c : tie.After-shared-slice-known3) → entered c .args .n * (entered c .args .n + entered c .args .n) ≤ 512
-size c = augmented-room 16 (entered c .args .n) (entered c .args .n) (order c) (order c)
+wide : (c : tie.After-shared-slice-known3) → entered c .args .n * (entered c .args .n + entered c .args .n) ≤ 512
+wide c = augmented-room 16 (entered c .args .n) (entered c .args .n) (order c) (order c)
 
-distance-in-requires : tie.Need-distance-in-requires
-distance-in-requires c κs =
+size : (c : tie.After-shared-slice-known3) → entered c .args .n * entered c .args .n ≤ 256
+size c = square-room 16 (entered c .args .n) (order c)
+
+-- the inverse is n by n
+long : (c : tie.After-inverse-in) → let n = entered (lent c) .args .n in length (c .inverse-in .last .1 .1 .1 .1 .1 .1 .0) ≡ n * n
+long c = c .inverse-in .kept .1 .1 .1 .1 .1 .1 .0 ∙ length-take-le _ _ (size (lent c))
+
+inverse-in-requires : tie.Need-inverse-in-requires
+inverse-in-requires c κs =
     let known = c .before .before .before .before in
-    (entered known .pre .0, order known, length-take-le _ _ (square known), elimination-room _ _ _ _ _ (size known) (order known) (width known))
+    (refl, entered known .pre .0 .square, elimination-room _ _ _ _ _ (wide known) (order known) (width known), length-take-le _ _ (size known))
+
+array-share-prefix-inv : tie.Need-array-share-prefix-inv
+array-share-prefix-inv c =
+    let call = c .before .before .before .before in
+    let n = entered (lent call) .args .n in
+    omega (arith, size (lent call), length-front _ (call .inverse-in .last .1 .1 .1 .1 .1 .1 .0) (n * n) (call .inverse-in .kept .1 .1 .1 .1 .1 .1 .0))
+
+distance-under-requires : tie.Need-distance-under-requires
+distance-under-requires c κs =
+    let call = inverted c in
+    let known = lent call in
+    let under = entered known .pre .0 in
+    (record { first = under .first; second = under .second; square = length-take-le _ _ (array-share-prefix-inv (c .before)) }, order known)
+
+returns : tie.Need-returns
+returns c =
+    let call = inverted (c .before) in
+    let x = entered (lent call) .args in
+    distance-over (x .x .now) (x .mu .now) (x .cov .now) (x .n) _ (call .inverse-in .last .1 .1 .1 .1 .1 .1 .0) _ (long call) (call .inverse-in .ensures) (c .distance-under .ensures)
 
 pub large-distance-spec : {M : Type 1} → statement M
 large-distance-spec =
     tie.close
-    (tie.spec (λ c. omega (arith, width c)) (λ c. omega (arith, size c)) (λ c. omega (arith, square c)) square
-    (λ c. sym (length-take-le _ _ (square (c .before)))) (λ c. size (c .before)) (λ c. sym (length-take-le _ _ (size (c .before .before))))
-    (λ c. order (c .before .before)) (λ c. sym (length-take-le _ _ (order (c .before .before .before)))) (λ c. width (c .before .before .before))
-    (λ c. sym (length-take-le _ _ (width (c .before .before .before .before)))) distance-in-requires (λ c. search needs))
+    (tie.spec (λ c. omega (arith, width c)) (λ c. omega (arith, wide c)) (λ c. omega (arith, size c)) wide (λ c. sym (length-take-le _ _ (wide (c .before))))
+    (λ c. order (c .before)) (λ c. sym (length-take-le _ _ (order (c .before .before)))) (λ c. width (c .before .before))
+    (λ c. sym (length-take-le _ _ (width (c .before .before .before)))) (λ c. size (c .before .before .before))
+    (λ c. sym (length-take-le _ _ (size (c .before .before .before .before)))) inverse-in-requires array-share-prefix-inv
+    (λ c. sym (length-take-le _ _ (array-share-prefix-inv (c .before)))) distance-under-requires returns)
