@@ -1,10 +1,9 @@
 -- `small_distance` meets its contract: the local arrays have room for the work, and the inverse is read where it was written.
 use Prim.Native.Nat.{_+_, _*_, _≤_}
 use native.Mathlib.Omega.{arith}
-use mathlib.Core.Path.{_≡_, refl, sym, _∙_}
-use lib.ListN.{length}
-use lib.Seq.{length-take-le, length-front}
-use Rattle.pivoting.proofs.Distances.{distance-over}
+use mathlib.Core.Path.{refl, sym}
+use lib.Seq.{length-take-le}
+use Rattle.pivoting.proofs.Distances.{front-fits, distance-over}
 use Rattle.pivoting.proofs.Rooms.{square-room, augmented-room, elimination-room}
 use Rattle.pivoting.proofs.distance.small_distance.Statement.{statement}
 use Rattle.pivoting.proofs.distance.small_distance.Tie as tie
@@ -15,9 +14,6 @@ entered c = c .before .before .before
 
 abbrev lent : tie.After-inverse-in → tie.After-shared-slice-known3
 lent c = c .before .before .before .before .before
-
-abbrev inverted : tie.After-inv3 → tie.After-inverse-in
-inverted c = c .before .before .before .before .before
 
 -- the rows, the augmented matrix, and the inverse
 order : (c : tie.After-shared-slice-known3) → entered c .args .n ≤ 4
@@ -32,33 +28,30 @@ wide c = augmented-room 4 (entered c .args .n) (entered c .args .n) (order c) (o
 size : (c : tie.After-shared-slice-known3) → entered c .args .n * entered c .args .n ≤ 16
 size c = square-room 4 (entered c .args .n) (order c)
 
--- the inverse is n by n
-long : (c : tie.After-inverse-in) → let n = entered (lent c) .args .n in length (c .inverse-in .last .1 .1 .1 .1 .1 .1 .0) ≡ n * n
-long c = c .inverse-in .kept .1 .1 .1 .1 .1 .1 .0 ∙ length-take-le _ _ (size (lent c))
-
 inverse-in-requires : tie.Need-inverse-in-requires
 inverse-in-requires c κs =
     let known = c .before .before .before .before in
     (refl, entered known .pre .0 .square, elimination-room _ _ _ _ _ (wide known) (order known) (width known), length-take-le _ _ (size known))
 
+few : (c : tie.After-shared-slice-known3) → entered c .args .n ≤ 16
+few c = omega (arith, order c)
+
 array-share-prefix-inv : tie.Need-array-share-prefix-inv
 array-share-prefix-inv c =
     let call = c .before .before .before .before in
-    let n = entered (lent call) .args .n in
-    omega (arith, size (lent call), length-front _ (call .inverse-in .last .1 .1 .1 .1 .1 .1 .0) (n * n) (call .inverse-in .kept .1 .1 .1 .1 .1 .1 .0))
+    front-fits _ _ (call .inverse-in .last .1 .1 .1 .1 .1 .1 .0) (size (lent call)) (call .inverse-in .kept .1 .1 .1 .1 .1 .1 .0)
 
 distance-under-requires : tie.Need-distance-under-requires
 distance-under-requires c κs =
-    let call = inverted c in
-    let known = lent call in
-    let under = entered known .pre .0 in
-    (record { first = under .first; second = under .second; square = length-take-le _ _ (array-share-prefix-inv (c .before)) }, omega (arith, order known))
+    let known = lent (c .before .before .before .before .before) in
+    (record { first = entered known .pre .0 .first; second = entered known .pre .0 .second; square = length-take-le _ _ (array-share-prefix-inv (c .before)) }, few known)
 
 returns : tie.Need-returns
 returns c =
-    let call = inverted (c .before) in
+    let call = c .before .before .before .before .before .before in
     let x = entered (lent call) .args in
-    distance-over (x .x .now) (x .mu .now) (x .cov .now) (x .n) _ (call .inverse-in .last .1 .1 .1 .1 .1 .1 .0) _ (long call) (call .inverse-in .ensures) (c .distance-under .ensures)
+    distance-over (x .x .now) (x .mu .now) (x .cov .now) (x .n) _ _ (call .inverse-in .last .1 .1 .1 .1 .1 .1 .0) (size (lent call))
+    (call .inverse-in .kept .1 .1 .1 .1 .1 .1 .0) (call .inverse-in .ensures) (c .distance-under .ensures)
 
 pub small-distance-spec : {M : Type 1} → statement M
 small-distance-spec =
