@@ -19,6 +19,9 @@ lent c = c .before .before .before .before .before
 order : (c : tie.After-shared-slice-known3) → entered c .args .n ≤ 4
 order c = entered c .pre .1
 
+few : (c : tie.After-shared-slice-known3) → entered c .args .n ≤ 16
+few c = omega (arith, order c)
+
 width : (c : tie.After-shared-slice-known3) → entered c .args .n + entered c .args .n ≤ 8
 width c = omega (arith, order c)
 
@@ -32,9 +35,6 @@ inverse-in-requires : tie.Need-inverse-in-requires
 inverse-in-requires c κs =
     let known = c .before .before .before .before in
     (refl, entered known .pre .0 .square, elimination-room _ _ _ _ _ (wide known) (order known) (width known), length-take-le _ _ (size known))
-
-few : (c : tie.After-shared-slice-known3) → entered c .args .n ≤ 16
-few c = omega (arith, order c)
 
 array-share-prefix-inv : tie.Need-array-share-prefix-inv
 array-share-prefix-inv c =
