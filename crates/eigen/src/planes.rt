@@ -42,7 +42,7 @@ pub(crate) fn plane_tolerance(s: Plane) -> f64
 }
 
 // The plane turned by g.
-fn turned(s: Plane, g: Rotation) -> Plane
+fn turned_plane(s: Plane, g: Rotation) -> Plane
     ensures { λ r. ⌜ r ≡ turnedPlane g s ⌝ }
 {
     Plane {
@@ -64,7 +64,7 @@ fn turn(s: Plane) -> Plane
         return s;
     }
     let g = rotation(s.app, s.apq, s.aqq);
-    turned(s, g)
+    turned_plane(s, g)
 }
 
 // Sweeps until the square of apq falls below tol, and 64 times at most.

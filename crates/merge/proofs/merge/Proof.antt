@@ -87,8 +87,8 @@ Tells-of c =
     let x = start-of c .args in
     Tells (now (x .base)) (now (x .ours)) (now (x .theirs)) (b .1 .1 .0) (o .1 .1 .0) (t .1 .1 .0) (b .1 .0) (o .1 .0) (t .1 .0)
 
-told : (c : tie.After-three-of) → Tells-of c (c .three-of .result)
-told c =
+tells : (c : tie.After-three-of) → Tells-of c (c .three-of .result)
+tells c =
     let t = third c in
     let o = second t in
     let b = first o in
@@ -105,7 +105,7 @@ told c =
 
 -- the lists are read and accepted
 read : (c : tie.After-known-told) → Tells-of (answered-at c) (Lists (sizes c))
-read c = subst (Tells-of (answered-at c)) (c .before .c .given .1) (told (answered-at c))
+read c = subst (Tells-of (answered-at c)) (c .before .c .given .1) (tells (answered-at c))
 
 accepted : (c : tie.After-known-told) → let x = entered c .args in acceptedLists (now (x .base)) (now (x .ours)) (now (x .theirs)) ≡ answered (lists (entered c))
 accepted c = let x = entered c .args in all-accepted (now (x .base)) (now (x .ours)) (now (x .theirs)) (read c)
@@ -182,7 +182,7 @@ returns-4 c =
     let k = c .before .before .before in
     let s = start-of k in
     let x = s .args in
-    promised s (lists-refused (now (x .base)) (now (x .ours)) (now (x .theirs)) (x .floor) (x .gate) (old s) (subst (Tells-of k) (c .before .c2 .given .1) (told k)))
+    promised s (lists-refused (now (x .base)) (now (x .ours)) (now (x .theirs)) (x .floor) (x .gate) (old s) (subst (Tells-of k) (c .before .c2 .given .1) (tells k)))
 
 pub merge-spec : {M : Type 1} → statement M
 merge-spec =

@@ -16,18 +16,18 @@ entered c = c .before .before .before .before .before .before .before .before
 abbrev tested : tie.After-turn-rows → tie.After-is-negligible
 tested c = c .before .before .before .before
 
-abbrev turned : tie.After-set-corners → tie.After-turn-rows
-turned c = c .before .before .before .before
+abbrev rows-turned : tie.After-set-corners → tie.After-turn-rows
+rows-turned c = c .before .before .before .before
 
 abbrev cornered : tie.After-mirror → tie.After-set-corners
 cornered c = c .before .before .before .before
 
 abbrev start-of : tie.After-set-corners → tie.Start
-start-of c = entered (tested (turned c) .before)
+start-of c = entered (tested (rows-turned c) .before)
 
 -- the matrix keeps its size
 wide : (c : tie.After-set-corners) → let n = start-of c .args .n in length (c .set-corners .last .0) ≡ n * n
-wide c = c .set-corners .kept .0 ∙ turned c .turn-rows .kept .0 ∙ start-of c .pre .1 .matrix-size
+wide c = c .set-corners .kept .0 ∙ rows-turned c .turn-rows .kept .0 ∙ start-of c .pre .1 .matrix-size
 
 entry-requires : tie.Need-entry-requires
 entry-requires c κs = let x = c .before .before .before .args in omega (arith, cell (x .n) (x .n) {i = x .p} {j = x .p} (omega arith) (omega arith))
@@ -64,7 +64,7 @@ returns-2 c =
     let mirror2 = last .before .before .before .before in
     let mirrored = mirror2 .before .before .before .before in
     let corners = cornered mirrored in
-    let rows = turned corners in
+    let rows = rows-turned corners in
     let test = tested rows in
     let read = test .before in
     let start = entered read in

@@ -24,12 +24,12 @@ abbrev this-turn : tie.After-above Inv-loop μ-loop → tie.At-loop Inv-loop μ-
 this-turn c = c .before .before .before
 
 -- what the test says of the state that is held
-told : (c : tie.After-above Inv-loop μ-loop)
+tested : (c : tie.After-above Inv-loop μ-loop)
     → let x = entered (this-turn c) .args in
     let turn = this-turn c .loop in
     lt (c .above .result) (x .tol) ≡ stops (x .n) (x .tol) (stateOf (x .n) (turn .m) (turn .v))
 unfolding stops
-told c = ap (λ (s : Float). lt s (entered (this-turn c) .args .tol)) (c .above .ensures)
+tested c = ap (λ (s : Float). lt s (entered (this-turn c) .args .tol)) (c .above .ensures)
 
 -- the slices keep their lengths
 kept-m : (c : tie.At-loop Inv-loop μ-loop) → length (c .loop .m) ≡ length (entered c .args .m .now)
@@ -45,13 +45,13 @@ loop-again c =
     let held = this-turn (else1 .before) .loop .inv in
     let call = after-sweep .sweep in (
       slices-swept (held .0) (call .kept .0) (call .kept .1 .0) (call .ensures),
-      next-sweep (held .1) (omega arith) (sym (told (else1 .before)) ∙ else1 .if1 .left) (call .ensures),
+      next-sweep (held .1) (omega arith) (sym (tested (else1 .before)) ∙ else1 .if1 .left) (call .ensures),
     )
 
 pub sweep-until-spec : {M : Type 1} → statement M
 sweep-until-spec =
     tie.close
     (tie.spec Inv-loop μ-loop (λ c. (c .before .before .pre, first-sweep)) (λ c κs. c .before .before .loop .inv .0 .matrix-size) (λ c. kept-m (this-turn (c .before)))
-    (λ c. kept-v (this-turn (c .before))) (λ c. stops-now (this-turn (c .before) .loop .inv .1) (omega arith) (sym (told (c .before)) ∙ c .if1 .taken))
+    (λ c. kept-v (this-turn (c .before))) (λ c. stops-now (this-turn (c .before) .loop .inv .1) (omega arith) (sym (tested (c .before)) ∙ c .if1 .taken))
     (λ c κs. c .before .before .before .before .before .before .loop .inv .0) (λ c. omega arith) (λ c. omega arith) loop-again (λ c. kept-m (c .before))
     (λ c. kept-v (c .before)) (λ c. stops-never (c .before .loop .inv .1) (c .loop-test .left)))

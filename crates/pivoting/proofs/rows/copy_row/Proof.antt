@@ -52,8 +52,8 @@ loop-holds : tie.Need-loop-holds Inv-loop μ-loop
 loop-holds c = (omega arith, copied-none _ _ _ _)
 
 -- entry j of row p lies within the matrix
-place : (c : tie.After-entry Inv-loop μ-loop) → let at-loop = c .before .before .before in let x = at-loop .before .before .args in x .p * x .w + at-loop .loop .j < length (at-loop .loop .m)
-place c =
+within : (c : tie.After-entry Inv-loop μ-loop) → let at-loop = c .before .before .before in let x = at-loop .before .before .args in x .p * x .w + at-loop .loop .j < length (at-loop .loop .m)
+within c =
     let turn = c .before .before in
     let x = turn .before .before .before .args in
     omega (arith, turn .before .loop .inv .1 .size, cell (x .n) (x .w) {i = x .p} (omega arith) (turn .loop-test .taken))
@@ -65,7 +65,7 @@ entry-requires c κs =
     omega (arith, turn .before .loop .inv .1 .size, cell (x .n) (x .w) {i = x .k} (omega arith) (turn .loop-test .taken))
 
 loop-again : tie.Need-loop-again Inv-loop μ-loop
-loop-again c = let turn = c .before .before in (omega arith, copied-more _ _ _ (turn .before .loop .j) (turn .loop-test .taken) (place c) (c .entry .ensures) (turn .before .loop .inv .1))
+loop-again c = let turn = c .before .before in (omega arith, copied-more _ _ _ (turn .before .loop .j) (turn .loop-test .taken) (within c) (c .entry .ensures) (turn .before .loop .inv .1))
 
 same-length : tie.Need-same-length Inv-loop μ-loop
 same-length c = c .before .loop .inv .1 .size
@@ -76,5 +76,5 @@ returns c = copied-all _ _ _ _ (c .loop-test .left) (c .before .before .before .
 pub copy-row-spec : {M : Type 1} → statement M
 copy-row-spec =
     tie.close
-    (tie.spec Inv-loop μ-loop loop-holds entry-requires (λ c. omega (arith, place c)) (λ c. omega (arith, place c)) (λ c. omega (arith, place c))
-    (λ c. omega (arith, place c)) (λ c. omega arith) (λ c. omega arith) loop-again same-length returns)
+    (tie.spec Inv-loop μ-loop loop-holds entry-requires (λ c. omega (arith, within c)) (λ c. omega (arith, within c)) (λ c. omega (arith, within c))
+    (λ c. omega (arith, within c)) (λ c. omega arith) (λ c. omega arith) loop-again same-length returns)

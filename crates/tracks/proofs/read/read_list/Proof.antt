@@ -29,15 +29,15 @@ abbrev list-of : tie.After-known-told → List ℕ
 list-of c = now (start-of c .args .list)
 
 -- what the answer of `check_list` says of the list
-told : (c : tie.After-known-told) → Known (list-of c) (c .before .c .given .0 .0) (c .before .c .given .0 .1 .0)
-told c = known-list (list-of c) (c .before .before .before .check-list .ensures) (c .before .c .given .1)
+list-known : (c : tie.After-known-told) → Known (list-of c) (c .before .c .given .0 .0) (c .before .c .given .0 .1 .0)
+list-known c = known-list (list-of c) (c .before .before .before .check-list .ensures) (c .before .c .given .1)
 
-needed : (c : tie.After-fields) → let t = told (known c) .held in known c .before .c .given .0 .0 * c .fields .result ≡ length (t .tracks) * fields (t .dimension)
-needed c = known-fields (told (known c)) (c .fields .ensures .0)
+needed : (c : tie.After-fields) → let t = list-known (known c) .held in known c .before .c .given .0 .0 * c .fields .result ≡ length (t .tracks) * fields (t .dimension)
+needed c = known-fields (list-known (known c)) (c .fields .ensures .0)
 
 read : (c : tie.After-fields) → let l = list-of (known c) in
-    tracks l (known c .before .c .given .0 .1 .0) (known c .before .c .given .0 .0) ≡ answered (record { value = told (known c) .held .tracks; next = length l })
-read c = known-tracks (told (known c))
+    tracks l (known c .before .c .given .0 .1 .0) (known c .before .c .given .0 .0) ≡ answered (record { value = list-known (known c) .held .tracks; next = length l })
+read c = known-tracks (list-known (known c))
 
 -- what is answered, and what is left in the values
 both : (c : tie.Start) {o : Outcome TrackList} → reading (now (c .args .list)) (length (now (c .args .values))) ≡ o
@@ -46,22 +46,22 @@ both : (c : tie.Start) {o : Outcome TrackList} → reading (now (c .args .list))
 both c e = (sym (ap readAnswer e), sym (ap (λ (o : Outcome TrackList). readValues o (now (c .args .values))) e))
 
 fields-requires : tie.Need-fields-requires
-fields-requires c κs = told c .small
+fields-requires c κs = list-known c .small
 
 mul-if1 : tie.Need-mul-if1
-mul-if1 c = omega (arith, told (known c) .few, c .fields .ensures .1, mul-le-mul-right (c .fields .result) (told (known c) .few))
+mul-if1 c = omega (arith, list-known (known c) .few, c .fields .ensures .1, mul-le-mul-right (c .fields .result) (list-known (known c) .few))
 
 returns : tie.Need-returns
 returns c =
     let t = c .before in
-    both (begun t) (reading-short _ _ (told (known t) .accepted) (omega (arith, needed t, c .if1 .taken)))
+    both (begun t) (reading-short _ _ (list-known (known t) .accepted) (omega (arith, needed t, c .if1 .taken)))
 
 put-tracks-requires : tie.Need-put-tracks-requires
 put-tracks-requires c κs =
     let f = c .before .before in
     record {
-      small = told (known f) .small;
-      few = told (known f) .few;
+      small = list-known (known f) .small;
+      few = list-known (known f) .few;
       room = omega (arith, c .before .if1 .left, ap (λ (k : ℕ). known f .before .c .given .0 .0 * k) (f .fields .ensures .0));
       accepted = (_, read f);
     }
@@ -69,7 +69,7 @@ put-tracks-requires c κs =
 returns-2 : tie.Need-returns-2
 returns-2 c =
     let t = c .before .before .before .before .before in
-    let a = told (known t) in
+    let a = list-known (known t) in
     let b = both (begun t) (reading-fits _ _ (a .accepted) (omega (arith, needed t, c .before .before .before .before .if1 .left))) in
     let answer = sym (known t .before .c .given .1) ∙ known t .before .before .before .check-list .ensures in
     (answer ∙ ap readAnswer (a .accepted) ∙ b .0, c .before .before .put-tracks .ensures _ (read t) .1 ∙ b .1)

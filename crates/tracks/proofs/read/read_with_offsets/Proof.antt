@@ -39,11 +39,11 @@ abbrev sized : tie.After-found3 → tie.After-fields
 sized c = asked c .before .before
 
 -- what the answer of `check_offsets` says of the list
-told : (c : tie.After-known-told) → Known (list-of c) (c .before .c .given .0 .0) (c .before .c .given .0 .1 .0)
-told c = known-list (list-of c) (checked c .check-offsets .ensures .0) (c .before .c .given .1)
+list-known : (c : tie.After-known-told) → Known (list-of c) (c .before .c .given .0 .0) (c .before .c .given .0 .1 .0)
+list-known c = known-list (list-of c) (checked c .check-offsets .ensures .0) (c .before .c .given .1)
 
-needed : (c : tie.After-fields) → let t = told (c .before) .held in c .before .before .c .given .0 .0 * c .fields .result ≡ length (t .tracks) * fields (t .dimension)
-needed c = known-fields (told (c .before)) (c .fields .ensures .0)
+needed : (c : tie.After-fields) → let t = list-known (c .before) .held in c .before .before .c .given .0 .0 * c .fields .result ≡ length (t .tracks) * fields (t .dimension)
+needed c = known-fields (list-known (c .before)) (c .fields .ensures .0)
 
 abbrev outcome : tie.Start → Outcome TrackList
 outcome c = readingPlaced (now (c .args .list)) (length (now (c .args .values))) (length (now (c .args .offsets)))
@@ -60,27 +60,27 @@ all-three c o {r} {v} {w} e p q s =
     ∙ ap (λ (x : Outcome TrackList). placedLeft (now (c .args .list)) x (now (c .args .values)) (now (c .args .offsets))) (sym e)
 
 fields-requires : tie.Need-fields-requires
-fields-requires c κs = told c .small
+fields-requires c κs = list-known c .small
 
 mul-if1 : tie.Need-mul-if1
-mul-if1 c = omega (arith, told (c .before) .few, c .fields .ensures .1, mul-le-mul-right (c .fields .result) (told (c .before) .few))
+mul-if1 c = omega (arith, list-known (c .before) .few, c .fields .ensures .1, mul-le-mul-right (c .fields .result) (list-known (c .before) .few))
 
 returns : tie.Need-returns
 returns c =
     let t = c .before .before in
-    all-three (start-of (checked t)) (refused 2) (placed-short _ _ _ (told t .accepted) (omega (arith, needed (c .before), c .if1 .taken))) refl refl refl
+    all-three (start-of (checked t)) (refused 2) (placed-short _ _ _ (list-known t .accepted) (omega (arith, needed (c .before), c .if1 .taken))) refl refl refl
 
 returns-2 : tie.Need-returns-2
 returns-2 c =
     let f = c .before .before in
-    let a = told (f .before) in
+    let a = list-known (f .before) in
     all-three (start-of (checked (f .before))) (refused 2)
     (placed-few _ _ _ (a .accepted) (omega (arith, needed f, c .before .if1 .left)) (omega (arith, a .count, c .if2 .taken))) refl refl refl
 
 put-tracks-requires : tie.Need-put-tracks-requires
 put-tracks-requires c κs =
     let f = c .before .before .before in
-    let t = told (f .before) in
+    let t = list-known (f .before) in
     record {
       small = t .small;
       few = t .few;
@@ -89,12 +89,12 @@ put-tracks-requires c κs =
     }
 
 add-copy-offsets : tie.Need-add-copy-offsets
-add-copy-offsets c = omega (arith, told (sized c .before) .few)
+add-copy-offsets c = omega (arith, list-known (sized c .before) .few)
 
 copy-offsets-requires : tie.Need-copy-offsets-requires
 copy-offsets-requires c κs =
     let t = sized (c .before) .before in
-    let a = told t in
+    let a = list-known t in
     (omega (arith, a .few, offsets-long (list-of t) _ _ (checked t .check-offsets .ensures .1) (a .accepted) refl), omega arith)
 
 returns-3 : tie.Need-returns-3
@@ -102,7 +102,7 @@ returns-3 c =
     let f = sized (stored c) in
     let t = f .before in
     let s = start-of (checked t) in
-    let a = told t in
+    let a = list-known t in
     let answer = sym (t .before .c .given .1) ∙ checked t .check-offsets .ensures .0 ∙ ap readAnswer (a .accepted) in
     all-three s (answered (a .held)) (placed-fits _ _ _ (a .accepted) (omega (arith, needed f, asked (stored c) .before .if1 .left)) (omega (arith, a .count, asked (stored c) .if2 .left))) answer
     (stored c .before .before .before .put-tracks .ensures _ (known-tracks a) .1)

@@ -27,8 +27,8 @@ abbrev list-of : tie.After-known-told → List ℕ
 list-of c = now (start-of c .args .list)
 
 -- what the answer of `check_list` says of the list
-told : (c : tie.After-known-told) → Known (list-of c) (c .before .c .given .0 .0) (c .before .c .given .0 .1 .0)
-told c = known-list (list-of c) (c .before .before .before .check-list .ensures) (c .before .c .given .1)
+list-known : (c : tie.After-known-told) → Known (list-of c) (c .before .c .given .0 .0) (c .before .c .given .0 .1 .0)
+list-known c = known-list (list-of c) (c .before .before .before .check-list .ensures) (c .before .c .given .1)
 
 -- the part that is found
 found : (c : tie.After-find-end) → let x = begun c .args in recordAt (now (x .list)) (x .at) ≡ part (now (x .list)) (x .at) (c .find-end .result)
@@ -36,13 +36,13 @@ unfolding recordAt
 found c =
     let x = begun c .args in
     let l = now (x .list) in
-    let a = told (known c) in
+    let a = list-known (known c) in
     let d = known c .before .c .given .0 .1 .0 in
     let e = c .find-end .ensures .0 ∙ ap (recordEnd l d (x .at) 2) (a .count) ∙ ap (λ (k : ℕ). recordEnd l k (x .at) 2 (length (a .held .tracks))) (a .dimension) in
     ap (recordIn l (x .at)) (a .accepted) ∙ ap (part l (x .at)) (sym e)
 
 find-end-requires : tie.Need-find-end-requires
-find-end-requires c κs = (told c .small, told c .whole .two)
+find-end-requires c κs = (list-known c .small, list-known c .whole .two)
 
 returns : tie.Need-returns
 returns c =

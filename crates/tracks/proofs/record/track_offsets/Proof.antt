@@ -28,8 +28,8 @@ abbrev list-of : tie.After-known-told → List ℕ
 list-of c = now (start-of (checked c) .args .list)
 
 -- what the answer of `check_offsets` says of the list
-told : (c : tie.After-known-told) → Known (list-of c) (c .before .c .given .0 .0) (c .before .c .given .0 .1 .0)
-told c = known-list (list-of c) (checked c .check-offsets .ensures .0) (c .before .c .given .1)
+list-known : (c : tie.After-known-told) → Known (list-of c) (c .before .c .given .0 .0) (c .before .c .given .0 .1 .0)
+list-known c = known-list (list-of c) (checked c .check-offsets .ensures .0) (c .before .c .given .1)
 
 -- what is answered, and what is left in the slice
 both : (c : tie.Start) (o : Outcome TrackList) {r : ReadList} {new : List ℕ} → let l = now (c .args .list) in let old = now (c .args .offsets) in
@@ -42,23 +42,23 @@ both c o {r} {new} e p q =
 returns : tie.Need-returns
 returns c =
     let t = c .before in
-    let a = told t in
+    let a = list-known t in
     both (start-of (checked t)) (refused 2) (placing-short _ _ (a .accepted) (omega (arith, a .count, c .if1 .taken))) refl refl
 
 add-copy-offsets : tie.Need-add-copy-offsets
-add-copy-offsets c = omega (arith, told (c .before .before) .few)
+add-copy-offsets c = omega (arith, list-known (c .before .before) .few)
 
 copy-offsets-requires : tie.Need-copy-offsets-requires
 copy-offsets-requires c κs =
     let t = c .before .before .before in
-    let a = told t in
+    let a = list-known t in
     (omega (arith, a .few, offsets-long (list-of t) _ _ (checked t .check-offsets .ensures .1) (a .accepted) refl), omega (arith, c .before .before .if1 .left))
 
 returns-2 : tie.Need-returns-2
 returns-2 c =
     let t = c .before .before .before .before .before .before in
     let s = start-of (checked t) in
-    let a = told t in
+    let a = list-known t in
     let answer = sym (t .before .c .given .1) ∙ checked t .check-offsets .ensures .0 ∙ ap readAnswer (a .accepted) in
     both s (answered (a .held)) (placing-fits _ _ (a .accepted) (omega (arith, a .count, c .before .before .before .before .before .if1 .left))) answer
     (c .before .before .copy-offsets .ensures ∙ ap (over (now (s .args .offsets)) 0) (known-front a _ _ (checked t .check-offsets .ensures .1)))

@@ -44,11 +44,11 @@ abbrev mapped : tie.After-stored-length → tie.After-map-bytes
 mapped c = c .before
 
 -- the fields of a track, known from there on
-abbrev told : tie.Else4 → tie.After-fields
-told c = long c .before
+abbrev known : tie.Else4 → tie.After-fields
+known c = long c .before
 
-abbrev told-before : tie.After-stored-length → tie.After-fields
-told-before c = told (finite (mapped c))
+abbrev known-before : tie.After-stored-length → tie.After-fields
+known-before c = known (finite (mapped c))
 
 -- what each question that was met says
 met-10 : (c : tie.Else1) → countMet (start-of c .args .n) ≡ true
@@ -73,21 +73,21 @@ product c = ap (λ (f : ℕ). begun c .args .n * f) (c .fields .ensures .0)
 met-2 : (c : tie.Else3) → length (given (c .before)) ≡ needed (c .before)
 met-2 c = length-patterns (now (begun (c .before) .args .v)) ∙ c .if3 .left ∙ product (c .before)
 
-met-14 : (c : tie.Else4) → allFinite (given (told c)) ≡ true
+met-14 : (c : tie.Else4) → allFinite (given (known c)) ≡ true
 met-14 c = sym (c .before .all-finite .ensures) ∙ not-false _ (c .if4 .left)
 
 -- no number on the way is large
 small : (c : tie.After-fields) → begun c .args .n * c .fields .result ≤ 1728
 small c = omega (arith, c .fields .ensures .1, mul-le-mul-right (c .fields .result) (few c))
 
-maps-small : (c : tie.After-map-bytes) → begun (told (finite c)) .args .n * c .map-bytes .result ≤ 224
-maps-small c = omega (arith, c .map-bytes .ensures .1, mul-le-mul-right (c .map-bytes .result) (few (told (finite c))))
+maps-small : (c : tie.After-map-bytes) → begun (known (finite c)) .args .n * c .map-bytes .result ≤ 224
+maps-small c = omega (arith, c .map-bytes .ensures .1, mul-le-mul-right (c .map-bytes .result) (few (known (finite c))))
 
 -- the length that is computed is the list's
-whole : (c : tie.After-stored-length) → let t = told-before c in let x = begun t .args in
+whole : (c : tie.After-stored-length) → let t = known-before c in let x = begun t .args in
     2 + x .n * mapped c .map-bytes .result + c .stored-length .result ≡ length (listOf (trackList (x .n) (x .d) (given t)))
 whole c =
-    let t = told-before c in
+    let t = known-before c in
     let x = begun t .args in
     omega (
       arith,
@@ -121,7 +121,7 @@ returns-4 c =
     simp (met-10 (counted (sized t)), met-11 (sized t), eq-eqb _ _ (met-2 (c .before .before)), sym (c .before .all-finite .ensures) ∙ not-true _ (c .if4 .taken))
 
 map-bytes-requires : tie.Need-map-bytes-requires
-map-bytes-requires c κs = dimension-small _ (met-11 (sized (told c)))
+map-bytes-requires c κs = dimension-small _ (met-11 (sized (known c)))
 
 mul-length : tie.Need-mul-length
 mul-length c = omega (arith, maps-small c)
@@ -130,17 +130,17 @@ add-length : tie.Need-add-length
 add-length c = omega (arith, maps-small c)
 
 stored-length-requires : tie.Need-stored-length-requires
-stored-length-requires c κs = omega (arith, long (finite c) .if3 .left, small (told (finite c)))
+stored-length-requires c κs = omega (arith, long (finite c) .if3 .left, small (known (finite c)))
 
 add-length-2 : tie.Need-add-length-2
-add-length-2 c = omega (arith, maps-small (mapped c), small (told-before c), c .stored-length .ensures .1, long (finite (mapped c)) .if3 .left)
+add-length-2 c = omega (arith, maps-small (mapped c), small (known-before c), c .stored-length .ensures .1, long (finite (mapped c)) .if3 .left)
 
 -- with 10, 11, 2 and 14 met, 20 decides
-met-all : (c : tie.After-stored-length) {b : Bool} → let t = told-before c in let x = begun t .args in let l = listOf (trackList (x .n) (x .d) (given t)) in
+met-all : (c : tie.After-stored-length) {b : Bool} → let t = known-before c in let x = begun t .args in let l = listOf (trackList (x .n) (x .d) (given t)) in
     leb (length l) (x .room) ≡ b → written (x .n) (x .d) (given t) (x .room) ≡ ask 20 b (answered l)
 unfolding written
 met-all c e =
-    let t = told-before c in
+    let t = known-before c in
     simp (met-10 (counted (sized t)), met-11 (sized t), eq-eqb _ _ (met-2 (long (finite (mapped c)))), met-14 (finite (mapped c)), e)
 
 returns-5 : tie.Need-returns-5
