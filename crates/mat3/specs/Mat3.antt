@@ -10,19 +10,13 @@ use Rattle.dense.specs.Matrix.{nth, at, matrix, hasLength, maxAbs}
 use Rattle.kernel.specs.Lists.{tabulate}
 use Rattle.kernel.specs.Constants.{one, relTol, minPositive}
 
--- the determinant by the cofactors of the first row, from the nine entries row by row
-abbrev pub determinant3 : Float → Float → Float → Float → Float → Float → Float → Float → Float → Float
-determinant3 a b c d e f g h i =
-    add
-    (sub (mul a (sub (mul e i) (mul f h))) (mul b (sub (mul d i) (mul f g))))
-    (mul c (sub (mul d h) (mul e g)))
-
+-- the determinant by the cofactors of the first row
 unfoldable pub det3 : List Float → Float
 det3 m =
-    determinant3
-    (at m 3 0 0) (at m 3 0 1) (at m 3 0 2)
-    (at m 3 1 0) (at m 3 1 1) (at m 3 1 2)
-    (at m 3 2 0) (at m 3 2 1) (at m 3 2 2)
+    let e = at m 3 in
+    add
+    (sub (mul (e 0 0) (sub (mul (e 1 1) (e 2 2)) (mul (e 1 2) (e 2 1)))) (mul (e 0 1) (sub (mul (e 1 0) (e 2 2)) (mul (e 1 2) (e 2 0)))))
+    (mul (e 0 2) (sub (mul (e 1 0) (e 2 1)) (mul (e 1 1) (e 2 0))))
 
 -- the scale of document 01: the cube of the greatest |entry|
 unfoldable pub scale : List Float → Float

@@ -5,7 +5,7 @@ ghost use mathlib.Core.Bool.{_&&_};
 ghost use lib.ListN.{length};
 ghost use Rattle.dense.specs.Answer.{Leaves, given};
 ghost use Rattle.dense.specs.Matrix.{hasLength};
-ghost use Rattle.mat3.specs.Mat3.{determinant3, det3, regular, inverse3, solution3, mat3Det, mat3Inv, mat3Solve};
+ghost use Rattle.mat3.specs.Mat3.{det3, regular, inverse3, solution3, mat3Det, mat3Inv, mat3Solve};
 pub use dense::Number;
 pub use dense::Written;
 use dense::shape::entry;
@@ -19,11 +19,12 @@ use kernel::number::max;
 use kernel::question::DETERMINANT;
 use kernel::question::LENGTH;
 
-// The determinant of the matrix with these entries, row by row.
-fn of_entries(a: f64, b: f64, c: f64, d: f64, e: f64, f: f64, g: f64, h: f64, i: f64) -> f64
-    ensures { λ r. ⌜ r ≡ determinant3 a b c d e f g h i ⌝ }
+// The determinant of the matrix with the entries m, row by row.
+fn of_entries(m: [f64; 9]) -> f64
+    ensures { λ r. ⌜ r ≡ det3 m ⌝ }
 {
-    a * (e * i - f * h) - b * (d * i - f * g) + c * (d * h - e * g)
+    m[0] * (m[4] * m[8] - m[5] * m[7]) - m[1] * (m[3] * m[8] - m[5] * m[6])
+        + m[2] * (m[3] * m[7] - m[4] * m[6])
 }
 
 // The determinant of m.
@@ -31,7 +32,7 @@ fn det(m: &[f64]) -> f64
     requires { ⌜ length (now m) ≡ 9 ⌝ }
     ensures { λ r. ⌜ r ≡ det3 (now (m .entry)) ⌝ }
 {
-    of_entries(m[0], m[1], m[2], m[3], m[4], m[5], m[6], m[7], m[8])
+    of_entries([m[0], m[1], m[2], m[3], m[4], m[5], m[6], m[7], m[8]])
 }
 
 // Question 8: whether the determinant d of m is not below what counts as zero.
@@ -89,9 +90,9 @@ fn solution(a: &[f64], b: &[f64], det: f64) -> [f64; 3]
     let b0 = b[0];
     let b1 = b[1];
     let b2 = b[2];
-    let x = of_entries(b0, a1, a2, b1, a4, a5, b2, a7, a8);
-    let y = of_entries(a0, b0, a2, a3, b1, a5, a6, b2, a8);
-    let z = of_entries(a0, a1, b0, a3, a4, b1, a6, a7, b2);
+    let x = of_entries([b0, a1, a2, b1, a4, a5, b2, a7, a8]);
+    let y = of_entries([a0, b0, a2, a3, b1, a5, a6, b2, a8]);
+    let z = of_entries([a0, a1, b0, a3, a4, b1, a6, a7, b2]);
     [x * t, y * t, z * t]
 }
 
