@@ -1,6 +1,6 @@
 //! Whole merges beside the second merger of the differential run, how much of their time is not spent on comparisons, and how
 //! it grows with the tracks.
-use crate::timer::best;
+use crate::timer::typical;
 use oracle::ffi;
 use oracle::lists::{fields, write};
 use oracle::merge::checks::WITHIN;
@@ -93,7 +93,7 @@ fn time(d: usize, n: usize) -> (f64, f64) {
             black_box(merge(black_box(lists), WITHIN, ROOM, by_order).is_ok());
         }
     };
-    let (merged, rust) = best(calls, &mut ours, theirs);
+    let (merged, rust) = typical(calls, &mut ours, theirs);
 
     let Ok(reference) = merge(lists, WITHIN, ROOM, by_order) else { panic!("a merge of {n} tracks refused") };
     let pairs = compared(&herds, &reference, d);
@@ -108,7 +108,7 @@ fn time(d: usize, n: usize) -> (f64, f64) {
             firsts.iter().for_each(|i| seconds.iter().for_each(|j| compare(i, j)));
         }
     };
-    let (again, alone) = best(calls, &mut ours, compare_all);
+    let (again, alone) = typical(calls, &mut ours, compare_all);
     assert!((full, half, single) == (reference.full, reference.half, reference.single));
     assert!(rows[..4 * reference.rows.len()] == *reference.rows.as_flattened());
     println!(

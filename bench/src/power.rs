@@ -1,6 +1,6 @@
 //! The calls that iterate, on covariances B Bᵀ, beside the source's functions.
 use crate::matrix::{covariances, Case};
-use crate::timer::{best, print};
+use crate::timer::{print, typical};
 use nolan::linalg::{generic, regularize};
 use oracle::ffi;
 use std::hint::black_box;
@@ -22,7 +22,7 @@ fn compare<const N: usize, R>(
 ) {
     let mut sum = (0.0, 0.0);
     for case in cases {
-        let least = best(
+        let times = typical(
             CALLS,
             || (0..CALLS).for_each(|_| assert!(ours(black_box(case)) == 0, "{name} refused")),
             || {
@@ -31,7 +31,7 @@ fn compare<const N: usize, R>(
                 })
             },
         );
-        sum = (sum.0 + least.0, sum.1 + least.1);
+        sum = (sum.0 + times.0, sum.1 + times.1);
     }
     let count = cases.len() as f64;
     print(&format!("{name} {N}"), (sum.0 / count, sum.1 / count));

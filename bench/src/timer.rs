@@ -25,28 +25,31 @@ fn run_time() -> f64 {
 const ROUNDS: usize = 15;
 const LEAST: f64 = 2e8;
 
-/// Nanoseconds of one call, where a round makes `calls` of them: ours and theirs in turn, and the best round of each.
-pub fn best(calls: usize, mut ours: impl FnMut(), mut theirs: impl FnMut()) -> (f64, f64) {
+/// Nanoseconds of one call, where a round makes `calls` of them: ours and theirs in turn, and the lower quartile of the rounds of each.
+/// The least of them would be that of a round in which the thread's clock stood still, as it does now and then on a virtual machine.
+pub fn typical(calls: usize, mut ours: impl FnMut(), mut theirs: impl FnMut()) -> (f64, f64) {
     let timed = |round: &mut dyn FnMut()| {
         let start = run_time();
         round();
         (run_time() - start) / calls as f64
     };
-    let mut least = (f64::MAX, f64::MAX);
+    let (mut of_ours, mut of_theirs) = (Vec::new(), Vec::new());
     let start = run_time();
-    for round in 0.. {
-        if ROUNDS <= round && LEAST <= run_time() - start {
-            break;
-        }
-        least.0 = least.0.min(timed(&mut ours));
-        least.1 = least.1.min(timed(&mut theirs));
+    while of_ours.len() < ROUNDS || run_time() - start < LEAST {
+        of_ours.push(timed(&mut ours));
+        of_theirs.push(timed(&mut theirs));
     }
-    least
+    (lower_quartile(of_ours), lower_quartile(of_theirs))
+}
+
+fn lower_quartile(mut times: Vec<f64>) -> f64 {
+    times.sort_by(f64::total_cmp);
+    times[times.len() / 4]
 }
 
 /// Prints the two times and their ratio.
 pub fn line(name: &str, calls: usize, ours: impl FnMut(), theirs: impl FnMut()) {
-    print(name, best(calls, ours, theirs));
+    print(name, typical(calls, ours, theirs));
 }
 
 /// Prints two times and their ratio.
