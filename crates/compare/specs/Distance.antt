@@ -13,7 +13,7 @@ use Rattle.compare.specs.declared.Comparison.{Comparison}
 use Rattle.compare.specs.declared.Comparison.the-variants.{Near, Far, NoDistance}
 use Rattle.compare.specs.declared.ComparisonReport.{ComparisonReport}
 use Rattle.compare.specs.declared.Compared.{Compared}
-use Rattle.compare.specs.declared.Compared.the-variants as told
+use Rattle.compare.specs.declared.Compared.the-variants as answer
 
 -- p_i + p_j, entry by entry
 unfoldable pub jointCovariance : List Float → List Float → ℕ → List Float
@@ -64,5 +64,5 @@ comparing mu x p-i p-j n floor gate =
 
 -- What the call answers.
 abbrev pub compareAnswer : Outcome Comparison → Compared
-compareAnswer (refused q) = told.Refused q
-compareAnswer (answered c) = told.Answered c
+compareAnswer (refused q) = answer.Refused q
+compareAnswer (answered c) = answer.Answered c

@@ -1,4 +1,4 @@
--- What `read_with_offsets` leaves in room for the largest list (`list-told`), what three such answers tell (`three-told`), and that lists which are read are accepted (`all-accepted`).
+-- What `read_with_offsets` leaves in room for the largest list (`list-answered`), what three such answers say (`three-answered`), and that lists which are read are accepted (`all-accepted`).
 use Prim.Native.Nat.{ℕ, _+_, _*_, _<_, _≤_}
 use native.Mathlib.Omega.{arith}
 use native.Mathlib.Nat.{mul-le-mul-right}
@@ -54,10 +54,10 @@ pub record Read (l offsets : List ℕ) (values : List Float) (n : ℕ) : Type 0 
   pub long : length values ≡ 1728
   pub fields-of : (i : ℕ) → i < n → rowOf values (fields (held l .dimension)) i ≡ doubles (trackAt (held l) i .values)
 
--- what the answer to a list tells
-pub data Told (l offsets : List ℕ) (values : List Float) : ReadList → Type 0 where
-  was-read : {n d : ℕ} → Read l offsets values n → d ≡ held l .dimension → Told l offsets values (ReadList.Read n d)
-  was-refused : {q : ℕ} → contents l ≡ refused q → Told l offsets values (ReadList.Refused q)
+-- what the answer to a list says of it
+pub data ListAnswered (l offsets : List ℕ) (values : List Float) : ReadList → Type 0 where
+  was-read : {n d : ℕ} → Read l offsets values n → d ≡ held l .dimension → ListAnswered l offsets values (ReadList.Read n d)
+  was-refused : {q : ℕ} → contents l ≡ refused q → ListAnswered l offsets values (ReadList.Refused q)
 
 abbrev pub Left : Type 0
 Left = ReadList × (List Float × List ℕ)
@@ -72,18 +72,18 @@ module _ (l : List ℕ) (values : List Float) (offsets : List ℕ) (hv : length 
   same-answer (refused q) e = ap readAnswer (placed-refused l 1728 33 e)
   same-answer (answered c) e = ap readAnswer (room-enough l e)
 
-  told : {r : ReadList} {v : List Float} {w : List ℕ} → _≡_ {A = Left} (r, (v, w)) (readWithOffsets l values offsets) → readAnswer (contents l) ≡ r
-  told e = sym (ap (λ (x : Left). x .0) (e ∙ placed) ∙ same-answer (contents l) refl)
+  answer-of : {r : ReadList} {v : List Float} {w : List ℕ} → _≡_ {A = Left} (r, (v, w)) (readWithOffsets l values offsets) → readAnswer (contents l) ≡ r
+  answer-of e = sym (ap (λ (x : Left). x .0) (e ∙ placed) ∙ same-answer (contents l) refl)
 
   list-refused : {q : ℕ} {v : List Float} {w : List ℕ} → _≡_ {A = Left} (ReadList.Refused q, (v, w)) (readWithOffsets l values offsets) → contents l ≡ refused q
-  list-refused e = read-refused (contents l) (told e)
+  list-refused e = read-refused (contents l) (answer-of e)
 
   module _ (h : Bytes l) where
     list-read : {n d : ℕ} {v : List Float} {w : List ℕ} → _≡_ {A = Left} (ReadList.Read n d, (v, w)) (readWithOffsets l values offsets)
         → Read l w v n × (d ≡ held l .dimension)
     unfolding rowOf over
     list-read {n} {d} {v} {w} e =
-        let a = read-accepted (contents l) (told e) in
+        let a = read-accepted (contents l) (answer-of e) in
         let c = held l in
         let is : c ≡ a .0 = ap heldIn (a .1) in
         let ok : contents l ≡ answered c = a .1 ∙ ap answered (sym is) in
@@ -111,13 +111,13 @@ module _ (l : List ℕ) (values : List Float) (offsets : List ℕ) (hv : length 
           a .3 ∙ ap (λ (x : TrackList). x .dimension) (sym is),
         )
 
-    pub list-told : (r : ReadList) {v : List Float} {w : List ℕ} → _≡_ {A = Left} (r, (v, w)) (readWithOffsets l values offsets) → Told l w v r
-    list-told (ReadList.Read n d) e = let a = list-read e in was-read (a .0) (a .1)
-    list-told (ReadList.Refused q) e = was-refused (list-refused e)
+    pub list-answered : (r : ReadList) {v : List Float} {w : List ℕ} → _≡_ {A = Left} (r, (v, w)) (readWithOffsets l values offsets) → ListAnswered l w v r
+    list-answered (ReadList.Read n d) e = let a = list-read e in was-read (a .0) (a .1)
+    list-answered (ReadList.Refused q) e = was-refused (list-refused e)
 
 -- ---- three lists
 
--- two lists that are read have one dimension exactly if the numbers told are equal
+-- two lists that are read have one dimension exactly if the numbers answered are equal
 same-test : {x y : ℕ} (c d : TrackList) {b : Bool} → x ≡ c .dimension → y ≡ d .dimension → eqb x y ≡ b → eqb (c .dimension) (d .dimension) ≡ b
 same-test c d e f h = (λ z. eqb (sym e z) (sym f z)) ∙ h
 
@@ -145,23 +145,23 @@ module _ (base ours theirs : List ℕ) where
       ) refl
 
   module _ (bo oo to : List ℕ) (bv ov tv : List Float) where
-    -- what an answer to all three tells
-    abbrev pub Tells : Accepted → Type 0
-    Tells (accepted.Lists sizes) = AllRead base ours theirs (record { base = bo; ours = oo; theirs = to }) bv ov tv sizes
-    Tells (accepted.Refused q) = acceptedLists base ours theirs ≡ refused q
+    -- what an answer to all three says of them
+    abbrev pub ThreeAnswered : Accepted → Type 0
+    ThreeAnswered (accepted.Lists sizes) = AllRead base ours theirs (record { base = bo; ours = oo; theirs = to }) bv ov tv sizes
+    ThreeAnswered (accepted.Refused q) = acceptedLists base ours theirs ≡ refused q
 
-    pub three-told : {b o t : ReadList} → Told base bo bv b → Told ours oo ov o → Told theirs to tv t → Tells (threeOf b o t)
+    pub three-answered : {b o t : ReadList} → ListAnswered base bo bv b → ListAnswered ours oo ov o → ListAnswered theirs to tv t → ThreeAnswered (threeOf b o t)
     unfolding acceptedLists
-    three-told (was-refused e) y z = rw e refl
-    three-told (was-read r e) (was-refused f) z = rw (r .located .accepted, f) refl
-    three-told (was-read r e) (was-read s f) (was-refused g) = rw (r .located .accepted, s .located .accepted, g) refl
-    three-told (was-read {n = m} {d = d} r e) (was-read {n = n} {d = ours-d} s f) (was-read {n = l} {d = theirs-d} t g) = go (eqb d ours-d) (eqb d theirs-d) refl refl
+    three-answered (was-refused e) y z = rw e refl
+    three-answered (was-read r e) (was-refused f) z = rw (r .located .accepted, f) refl
+    three-answered (was-read r e) (was-read s f) (was-refused g) = rw (r .located .accepted, s .located .accepted, g) refl
+    three-answered (was-read {n = m} {d = d} r e) (was-read {n = n} {d = ours-d} s f) (was-read {n = l} {d = theirs-d} t g) = go (eqb d ours-d) (eqb d theirs-d) refl refl
       where
         refused-17 : oneDimension (heldThree base ours theirs) ≡ false → acceptedLists base ours theirs ≡ refused 17
         refused-17 h = rw (r .located .accepted, s .located .accepted, t .located .accepted, h) refl
 
         go : (x y : Bool) → eqb d ours-d ≡ x → eqb d theirs-d ≡ y
-            → Tells (cond (x && y) (accepted.Lists (record { base = m; ours = n; theirs = l; dimension = d })) (accepted.Refused 17))
+            → ThreeAnswered (cond (x && y) (accepted.Lists (record { base = m; ours = n; theirs = l; dimension = d })) (accepted.Refused 17))
         go true true p q = record {
           of-base = r;
           of-ours = s;

@@ -23,7 +23,7 @@ use Rattle.merge.specs.declared.questions.Accepted.the-variants.{Lists}
 use Rattle.merge.proofs.Readings.Asked.{after, asked-18, asked-19, asked-rows, lists-refused, lists-merged}
 use Rattle.merge.proofs.Demand.EveryAnswer.{demanded}
 use Rattle.merge.proofs.Readings.AllRead.{located-of, sizes-of, few-of, comparable, pairs-of, rows-placed}
-use Rattle.merge.proofs.Readings.ThreeAnswers.{Tells, list-told, three-told, all-accepted}
+use Rattle.merge.proofs.Readings.ThreeAnswers.{ThreeAnswered, list-answered, three-answered, all-accepted}
 use Rattle.merge.proofs.merge.Statement.{statement}
 use Rattle.merge.proofs.merge.Tie as tie
 
@@ -58,7 +58,7 @@ asked c = c .before .before .before
 abbrev accepted-at : tie.Else1 → tie.After-known-told
 accepted-at c = c .before .before
 
--- the sizes that were told
+-- the sizes that were answered
 abbrev sizes : tie.After-known-told → Sizes
 sizes c = c .before .c .given .0 .0
 
@@ -79,16 +79,16 @@ promised : (c : tie.Start) {r : Merged} {new : List ℕ} → _≡_ {A = Merged �
 promised c e = let x = c .args in (e, demanded (now (x .base)) (now (x .ours)) (now (x .theirs)) (x .floor) (x .gate) (old c) e)
 
 -- what is known of an answer to the three lists
-abbrev Tells-of : tie.After-three-of → Accepted → Type 0
-Tells-of c =
+abbrev ThreeAnswered-at : tie.After-three-of → Accepted → Type 0
+ThreeAnswered-at c =
     let t = third c .read-with-offsets3 .last in
     let o = second (third c) .read-with-offsets2 .last in
     let b = first (second (third c)) .read-with-offsets .last in
     let x = start-of c .args in
-    Tells (now (x .base)) (now (x .ours)) (now (x .theirs)) (b .1 .1 .0) (o .1 .1 .0) (t .1 .1 .0) (b .1 .0) (o .1 .0) (t .1 .0)
+    ThreeAnswered (now (x .base)) (now (x .ours)) (now (x .theirs)) (b .1 .1 .0) (o .1 .1 .0) (t .1 .1 .0) (b .1 .0) (o .1 .0) (t .1 .0)
 
-tells : (c : tie.After-three-of) → Tells-of c (c .three-of .result)
-tells c =
+three-at : (c : tie.After-three-of) → ThreeAnswered-at c (c .three-of .result)
+three-at c =
     let t = third c in
     let o = second t in
     let b = first o in
@@ -97,15 +97,15 @@ tells c =
     let base : Bytes (now (x .base)) = λ i. omega (arith, k .before .before .before .shared-slice-known .given i) in
     let ours : Bytes (now (x .ours)) = λ i. omega (arith, k .before .before .shared-slice-known2 .given i) in
     let theirs : Bytes (now (x .theirs)) = λ i. omega (arith, k .before .shared-slice-known3 .given i) in
-    subst (Tells-of c) (sym (c .three-of .ensures))
-    (three-told _ _ _ _ _ _ _ _ _
-    (list-told (now (x .base)) _ _ refl refl base (b .read-with-offsets .result) (b .read-with-offsets .ensures))
-    (list-told (now (x .ours)) _ _ refl refl ours (o .read-with-offsets2 .result) (o .read-with-offsets2 .ensures))
-    (list-told (now (x .theirs)) _ _ refl refl theirs (t .read-with-offsets3 .result) (t .read-with-offsets3 .ensures)))
+    subst (ThreeAnswered-at c) (sym (c .three-of .ensures))
+    (three-answered _ _ _ _ _ _ _ _ _
+    (list-answered (now (x .base)) _ _ refl refl base (b .read-with-offsets .result) (b .read-with-offsets .ensures))
+    (list-answered (now (x .ours)) _ _ refl refl ours (o .read-with-offsets2 .result) (o .read-with-offsets2 .ensures))
+    (list-answered (now (x .theirs)) _ _ refl refl theirs (t .read-with-offsets3 .result) (t .read-with-offsets3 .ensures)))
 
 -- the lists are read and accepted
-read : (c : tie.After-known-told) → Tells-of (answered-at c) (Lists (sizes c))
-read c = subst (Tells-of (answered-at c)) (c .before .c .given .1) (tells (answered-at c))
+read : (c : tie.After-known-told) → ThreeAnswered-at (answered-at c) (Lists (sizes c))
+read c = subst (ThreeAnswered-at (answered-at c)) (c .before .c .given .1) (three-at (answered-at c))
 
 accepted : (c : tie.After-known-told) → let x = entered c .args in acceptedLists (now (x .base)) (now (x .ours)) (now (x .theirs)) ≡ answered (lists (entered c))
 accepted c = let x = entered c .args in all-accepted (now (x .base)) (now (x .ours)) (now (x .theirs)) (read c)
@@ -182,7 +182,7 @@ returns-4 c =
     let k = c .before .before .before in
     let s = start-of k in
     let x = s .args in
-    promised s (lists-refused (now (x .base)) (now (x .ours)) (now (x .theirs)) (x .floor) (x .gate) (old s) (subst (Tells-of k) (c .before .c2 .given .1) (tells k)))
+    promised s (lists-refused (now (x .base)) (now (x .ours)) (now (x .theirs)) (x .floor) (x .gate) (old s) (subst (ThreeAnswered-at k) (c .before .c2 .given .1) (three-at k)))
 
 pub merge-spec : {M : Type 1} → statement M
 merge-spec =
