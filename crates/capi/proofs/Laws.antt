@@ -1,5 +1,5 @@
--- What C is told follows from what the call promises: `leaves-tells` of a call that writes a slice, `pairs-tell` of one that writes eigenpairs, and `gives-tells` of one
--- that gives a number.
+-- What C is told follows from what the call promises: `leaves-tells` of a call that writes a slice, `pairs-tell` of one that writes eigenpairs, `gives-tells` of one
+-- that gives a number, and `repair-tells` of one that repairs.
 use Prim.Native.Nat.{ℕ}
 use mathlib.Core.Path.{_≡_, refl, ap, _∙_}
 use mathlib.Core.List.{List}
@@ -9,7 +9,9 @@ use Rattle.dense.specs.declared.Written.{Written}
 use Rattle.dense.specs.declared.Number.{Number}
 use Rattle.dense.specs.Answer.{after, Leaves, given}
 use Rattle.eigen.specs.Eigen.{Eigenpairs, afterPairs}
+use Rattle.repair.specs.declared.Repaired.{Repaired}
 use Rattle.capi.specs.Told.{told, Tells, pairs}
+use Rattle.capi.specs.Repairs.{toldRepair}
 use Rattle.capi.specs.Private.{code, outcomeOf}
 
 after-told : (outcome : Outcome (List Float)) (old : List Float) → (code (after outcome old .0), after outcome old .1) ≡ told outcome old
@@ -43,3 +45,9 @@ outcome-given (answered v) = refl
 pub gives-tells : (outcome : Outcome Float) (old new : Float) (answer : Number) (r : ℕ) → (r, new) ≡ told (outcomeOf answer) old → answer ≡ given outcome → Tells outcome old r new
 unfolding Tells
 gives-tells outcome old new answer r h g = h ∙ ap (λ (o : Outcome Float). told o old) (ap outcomeOf g ∙ outcome-given outcome)
+
+-- a repair whose report is entered into three places, and the slice that it leaves
+pub repair-tells : (count : ℕ) (clip : Float) (mask : ℕ) {r : Repaired} {left : List Float} {to : ℕ × (ℕ × (Float × ℕ))} (outcome : Repaired × List Float)
+    → to ≡ toldRepair r count clip mask → (r, left) ≡ outcome → (to ≡ toldRepair (outcome .0) count clip mask) × (left ≡ outcome .1)
+repair-tells count clip mask outcome e repairs =
+    (e ∙ ap (λ (p : Repaired × List Float). toldRepair (p .0) count clip mask) repairs, ap (λ (p : Repaired × List Float). p .1) repairs)

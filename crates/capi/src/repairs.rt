@@ -45,7 +45,8 @@ fn enter_report(
     }
 }
 
-// The matrix nearest to cov, n by n, whose eigenvalues are not below min_eig, into out, and what was clipped.
+// The matrix nearest to cov, n by n, whose eigenvalues are not below min_eig, into out, and what was clipped. One entry is told apart, in the
+// same way: there a compiler sees that one truth of the mask is left, and makes no bits of the others.
 #[no_mangle]
 pub extern "C" fn pel_nearest_psd(
     cov: &[f64],
@@ -61,6 +62,10 @@ pub extern "C" fn pel_nearest_psd(
         (now («n_clipped» .entry)) (now («max_clip_magnitude» .entry)) (now («clipped_indices» .entry)) ⌝ }
     ensures { λ _. ⌜ now (out .exit) ≡ Repair.afterRepair (Repair.nearestPsd (now (cov .entry)) «min_eig» n (now (out .entry))) (now (out .entry)) .1 ⌝ }
 {
+    if n == 1 {
+        let single = regularize::nearest_psd(cov, min_eig, n, out);
+        return enter_report(single, n_clipped, max_clip_magnitude, clipped_indices);
+    }
     let repaired = regularize::nearest_psd(cov, min_eig, n, out);
     enter_report(repaired, n_clipped, max_clip_magnitude, clipped_indices)
 }
@@ -81,6 +86,10 @@ pub extern "C" fn pel_eigenvalue_floor(
         (now («n_clipped» .entry)) (now («max_clip_magnitude» .entry)) (now («clipped_indices» .entry)) ⌝ }
     ensures { λ _. ⌜ now (out .exit) ≡ Repair.afterRepair (Repair.nearestPsd (now (cov .entry)) «min_eig» n (now (out .entry))) (now (out .entry)) .1 ⌝ }
 {
+    if n == 1 {
+        let single = regularize::eigenvalue_floor(cov, min_eig, n, out);
+        return enter_report(single, n_clipped, max_clip_magnitude, clipped_indices);
+    }
     let repaired = regularize::eigenvalue_floor(cov, min_eig, n, out);
     enter_report(repaired, n_clipped, max_clip_magnitude, clipped_indices)
 }
