@@ -26,7 +26,7 @@ const ROUNDS: usize = 15;
 const LEAST: f64 = 2e8;
 
 /// Nanoseconds of one call, where a round makes `calls` of them: ours and theirs in turn, and the lower quartile of the rounds of each.
-/// The least of them would be that of a round in which the thread's clock stood still, as it does now and then on a virtual machine.
+/// The least of them can be that of a round in which the thread's clock stood still, as it did now and then on a virtual machine.
 pub fn typical(calls: usize, mut ours: impl FnMut(), mut theirs: impl FnMut()) -> (f64, f64) {
     let timed = |round: &mut dyn FnMut()| {
         let start = run_time();
