@@ -39,3 +39,7 @@ pub const FLOOR_AND_GATE: u8 = 18;
 pub const ROW_BUFFER: u8 = 19;
 
 pub const LIST_BUFFER: u8 = 20;
+
+pub const NO_CONFLICT: u8 = 21;
+
+pub const MERGED_COUNT: u8 = 22;
