@@ -18,10 +18,10 @@ pub const DELETED: u8 = 3;
 pub const CONFLICT: u8 = 4;
 
 // Where the tracks of base, ours and theirs start, and where the last one of each ends.
-pub(crate) struct Offsets {
-    pub(crate) base: [usize; 33],
-    pub(crate) ours: [usize; 33],
-    pub(crate) theirs: [usize; 33],
+pub struct Offsets {
+    pub base: [usize; 33],
+    pub ours: [usize; 33],
+    pub theirs: [usize; 33],
 }
 
 // The indices of a row.

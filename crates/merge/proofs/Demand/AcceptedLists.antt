@@ -127,6 +127,10 @@ module _ (lists : ThreeLists) (floor gate : Float) where
     written : length (flatMap rowBytes rows) ≡ 4 * all
     written = rows-length rows ∙ ap (λ (x : ℕ). 4 * x) (rows-count v pairings m n l)
 
+    -- The counts add up to the number of rows.
+    pub counts-all : rowsWith 3 rows + rowsWith 2 rows + rowsWith 1 rows ≡ length rows
+    counts-all = omega (arith, rows-met 3, rows-met 2, rows-met 1, all-rows v pairings m n l new given, rows-count v pairings m n l)
+
     -- ---- the pairs that they show
 
     shown-base-ours : baseWithOurs new all ≡ paired base-ours
