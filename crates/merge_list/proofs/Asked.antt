@@ -1,0 +1,67 @@
+-- The questions on the merged list: `asked-21`, `asked-22`, `asked-20` and `asked-list` say what is answered. `merge-refused`, `list-refused` and `list-written`: so the call answers.
+use Prim.Native.Nat.{ℕ, _<_, _≤_}
+use mathlib.Core.Path.{_≡_, refl}
+use mathlib.Core.List.{List}
+use lib.Ieee.{Float}
+use lib.ListN.{length}
+use borrow.Author.Tests.{le-leb, lt-leb, eq-eqb, ne-eqb}
+use Rattle.kernel.specs.Answer.{refused, answered}
+use Rattle.kernel.specs.Lists.{over}
+use Rattle.tracks.specs.Write.{listOf}
+use Rattle.merge.specs.Rows.{conflict}
+use Rattle.merge.specs.Merge.{MergedLists, merging, countsOf, rowsLeft}
+use Rattle.merge_list.specs.MergeList.{chosenList, withVerdict, takers, listOfRows, mergingList, afterMergeList}
+use Rattle.merge_list.specs.declared.MergedList.{MergedList}
+use Rattle.merge_list.specs.declared.MergedList.the-variants.{Written, Refused}
+
+module _ (room : ℕ) (m : MergedLists) where
+  pub asked-21 : (withVerdict conflict (m .rows) ≡ 0 → ⊥) → listOfRows room m ≡ refused 21
+  unfolding listOfRows
+  asked-21 h = rw (ne-eqb (withVerdict conflict (m .rows)) 0 h) refl
+
+  module _ (met-21 : withVerdict conflict (m .rows) ≡ 0) where
+    pub asked-22 : 32 < takers (m .rows) → listOfRows room m ≡ refused 22
+    unfolding listOfRows
+    asked-22 h = rw (eq-eqb (withVerdict conflict (m .rows)) 0 met-21, lt-leb (takers (m .rows)) 32 h) refl
+
+    module _ (met-22 : takers (m .rows) ≤ 32) where
+      pub asked-20 : room < length (listOf (chosenList m)) → listOfRows room m ≡ refused 20
+      unfolding listOfRows
+      asked-20 h =
+          rw (
+            eq-eqb (withVerdict conflict (m .rows)) 0 met-21,
+            le-leb (takers (m .rows)) 32 met-22,
+            lt-leb (length (listOf (chosenList m))) room h,
+          ) refl
+
+      pub asked-list : length (listOf (chosenList m)) ≤ room → listOfRows room m ≡ answered (listOf (chosenList m))
+      unfolding listOfRows
+      asked-list h =
+          rw (
+            eq-eqb (withVerdict conflict (m .rows)) 0 met-21,
+            le-leb (takers (m .rows)) 32 met-22,
+            le-leb (length (listOf (chosenList m))) room h,
+          ) refl
+
+-- ---- what the call answers
+
+module _ (base ours theirs : List ℕ) (floor gate : Float) (rows out : List ℕ) where
+  abbrev pub Answer : Type 0
+  Answer = MergedList × (List ℕ × List ℕ)
+
+  abbrev pub defined : Answer
+  defined = afterMergeList (mergingList base ours theirs floor gate (length rows) (length out)) rows out
+
+  pub merge-refused : {q : ℕ} → merging base ours theirs floor gate (length rows) ≡ refused q → _≡_ {A = Answer} (Refused q, (rows, out)) defined
+  unfolding mergingList
+  merge-refused e = rw e refl
+
+  module _ {m : MergedLists} (e : merging base ours theirs floor gate (length rows) ≡ answered m) where
+    pub list-refused : {q : ℕ} → listOfRows (length out) m ≡ refused q → _≡_ {A = Answer} (Refused q, (rows, out)) defined
+    unfolding mergingList
+    list-refused f = rw (e, f) refl
+
+    pub list-written : {l : List ℕ} → listOfRows (length out) m ≡ answered l
+        → _≡_ {A = Answer} (Written (countsOf (m .rows)) (length l), (rowsLeft (m .rows) rows, over out 0 l)) defined
+    unfolding mergingList
+    list-written f = rw (e, f) refl

@@ -1,0 +1,5 @@
+pub mod Verdicts
+pub mod Taken
+pub mod Chosen
+pub mod Asked
+pub mod Found

@@ -1,0 +1,185 @@
+-- `merge_list` meets its contract: the merge in a local array, the questions on its rows, and then both buffers.
+use borrow.Author.Needs.{needs}
+use Prim.Native.Nat.{ℕ, _+_, _*_, _≤_}
+use native.Mathlib.Omega.{arith}
+use mathlib.Core.Path.{_≡_, refl, sym, ap, subst, _∙_}
+use mathlib.Core.Bool.{Bool, true, false, cond}
+use mathlib.Core.List.{List, _++_, flatMap}
+use denote.Ref.{now}
+use lib.Dec.{ltb}
+use lib.ListN.{length, take, drop, replicate, length-append, length-drop}
+use lib.Seq.{length-take-le}
+use borrow.Author.Tests.{ltb-true, ltb-false}
+use Rattle.kernel.specs.Answer.{Outcome, answered}
+use Rattle.kernel.specs.Lists.{over}
+use Rattle.tracks.specs.Calls.{writeAnswer, writeBytes}
+use Rattle.tracks.proofs.Records.Bytes.{write-accepted, write-refused}
+use Rattle.merge.specs.Rows.{rowBytes}
+use Rattle.merge.specs.Merge.{MergedLists, merging, afterMerge}
+use Rattle.merge.specs.Demand3.{Demanded}
+use Rattle.merge.specs.declared.Counts.{Counts}
+use Rattle.merge.specs.declared.Merged.{Merged}
+use Rattle.merge.specs.declared.Merged.the-variants as merged
+use Rattle.merge_list.specs.MergeList.{listOfRows}
+use Rattle.merge_list.specs.Private.{shorter, rowsIn, found, ToList}
+use Rattle.merge_list.specs.declared.MergedList.the-variants.{Written, Refused}
+use Rattle.merge_list.proofs.Asked.{merge-refused, list-refused, list-written}
+use Rattle.merge_list.proofs.Found.{refusal-found, rows-room, rows-few, to-list, found-is, counts-are, rows-front, room-alike}
+use Rattle.merge_list.proofs.merge_list.Statement.{statement}
+use Rattle.merge_list.proofs.merge_list.Tie as tie
+
+-- ---- the merge in the array
+
+-- the array before the merge
+abbrev zeros : List ℕ
+zeros = replicate 384 0
+
+shorter-most : (n : ℕ) → (shorter n ≤ 384) × (shorter n ≤ n)
+shorter-most n = by (ltb n 384) refl
+  where
+    by : (b : Bool) → ltb n 384 ≡ b → (cond b n 384 ≤ 384) × (cond b n 384 ≤ n)
+    by true e = (omega (arith, ltb-true n 384 e), omega arith)
+    by false e = (omega arith, ltb-false n 384 e)
+
+room-most : (c : tie.After-row-room) → let x = c .before .before .before .before .before .before .args in (c .row-room .result ≤ 384) × (c .row-room .result ≤ length (now (x .rows)))
+room-most c =
+    let h = shorter-most (length (now (c .before .before .before .before .before .before .args .rows))) in
+    (omega (arith, c .row-room .ensures, h), omega (arith, c .row-room .ensures, h))
+
+lent : (c : tie.After-row-room) → length (take (c .row-room .result) zeros) ≡ c .row-room .result
+lent c = length-take-le (c .row-room .result) zeros (room-most c .0)
+
+-- the places, each from a later one
+abbrev start-of : tie.After-merge → tie.Start
+start-of c = c .before .before .before .before .before .before .before .before
+
+abbrev merged-at : tie.After-known-told → tie.After-merge
+merged-at c = c .before .before .before .before
+
+-- what was lent to the merge, and what it left there
+abbrev old : tie.After-merge → List ℕ
+old c = take (c .before .before .row-room .result) zeros
+
+abbrev new : tie.After-merge → List ℕ
+new c = c .merge .last .1 .1 .1 .1 .1 .0
+
+abbrev rest : tie.After-merge → List ℕ
+rest c = drop (c .before .before .row-room .result) zeros
+
+-- it is long enough, or as long as the caller's buffer
+room-is : (c : tie.After-merge) → let x = start-of c .args in
+    merging (now (x .base)) (now (x .ours)) (now (x .theirs)) (x .floor) (x .gate) (length (old c)) ≡ merging (now (x .base)) (now (x .ours)) (now (x .theirs)) (x .floor) (x .gate) (length (now (x .rows)))
+room-is c =
+    let x = start-of c .args in
+    let r = c .before .before in
+    ap (merging (now (x .base)) (now (x .ours)) (now (x .theirs)) (x .floor) (x .gate)) (lent r ∙ r .row-room .ensures)
+    ∙ room-alike (now (x .base)) (now (x .ours)) (now (x .theirs)) (x .floor) (x .gate) (length (now (x .rows)))
+
+-- ---- an answer of counts
+
+abbrev counts-of : tie.After-known-told → Counts
+counts-of c = c .before .m .given .0 .0
+
+told : (c : tie.After-known-told) → let a = merged-at c in let x = start-of a .args in
+    _≡_ {A = Merged × List ℕ} (merged.Counts (counts-of c), new a) (afterMerge (merging (now (x .base)) (now (x .ours)) (now (x .theirs)) (x .floor) (x .gate) (length (old a))) (old a))
+told c = (λ i. (sym (c .before .m .given .1) i, new (merged-at c))) ∙ merged-at c .merge .ensures .0
+
+demanded : (c : tie.After-known-told) → let a = merged-at c in let x = start-of a .args in
+    Demanded (now (x .base)) (now (x .ours)) (now (x .theirs)) (x .floor) (x .gate) (old a) (merged.Counts (counts-of c)) (new a)
+demanded c =
+    let a = merged-at c in
+    let x = start-of a .args in
+    subst (λ (r : Merged). Demanded (now (x .base)) (now (x .ours)) (now (x .theirs)) (x .floor) (x .gate) (old a) r (new a)) (c .before .m .given .1) (a .merge .ensures .1)
+
+few : (c : tie.After-known-told) → counts-of c .full + counts-of c .half + counts-of c .single ≤ 96
+few c = rows-few (rest (merged-at c)) (told c) (demanded c)
+
+-- the array afterwards, how many rows stand there, and what the merge found
+abbrev array : tie.After-known-told → List ℕ
+array c = new (merged-at c) ++ rest (merged-at c)
+
+abbrev total : tie.After-known-told → ℕ
+total c = counts-of c .full + counts-of c .half + counts-of c .single
+
+abbrev found-at : tie.After-known-told → MergedLists
+found-at c = let x = start-of (merged-at c) .args in found (now (x .base)) (now (x .ours)) (now (x .theirs)) (array c) (total c)
+
+front-long : (c : tie.After-known-told) → length (new (merged-at c)) ≡ merged-at c .before .before .row-room .result
+front-long c = demanded c (counts-of c) refl .of-buffer .same-length ∙ lent (merged-at c .before .before)
+
+array-long : (c : tie.After-known-told) → length (array c) ≡ 384
+array-long c =
+    let r = merged-at c .before .before in
+    omega (arith, length-append (new (merged-at c)) (rest (merged-at c)), length-drop (r .row-room .result) zeros, front-long c, room-most r .0)
+
+merged-is : (c : tie.After-known-told) → let x = start-of (merged-at c) .args in
+    merging (now (x .base)) (now (x .ours)) (now (x .theirs)) (x .floor) (x .gate) (length (now (x .rows))) ≡ answered (found-at c)
+merged-is c = sym (room-is (merged-at c)) ∙ found-is (rest (merged-at c)) (told c) (demanded c)
+
+write-chosen-requires : tie.Need-write-chosen-requires
+write-chosen-requires c κs = let k = c .before .before .before .before in to-list (rest (merged-at k)) (told k) (demanded k)
+
+-- ---- an answer of a length
+
+abbrev known : tie.After-known-told2 → tie.After-known-told
+known c = c .before .before .before .before .before .before .before .before .before .before
+
+abbrev listed : tie.After-known-told2 → tie.After-write-chosen
+listed c = c .before .before .before .before .before
+
+accepted : (c : tie.After-known-told2) → let x = start-of (merged-at (known c)) .args in
+    (l : List ℕ) × (listOfRows (length (now (x .out))) (found-at (known c)) ≡ answered l) × (c .before .written .given .0 .0 ≡ length l)
+accepted c = write-accepted _ (sym (listed c .write-chosen .ensures .0) ∙ c .before .written .given .1)
+
+rows-bytes : (c : tie.After-known-told) → take (4 * total c) (array c) ≡ flatMap rowBytes (rowsIn (array c) (total c))
+rows-bytes c = rows-front (rest (merged-at c)) (told c) (demanded c)
+
+room-in : (c : tie.After-known-told) → 4 * total c ≤ length (array c)
+room-in c = omega (arith, rows-few (rest (merged-at c)) (told c) (demanded c), array-long c)
+
+copy-bytes-requires : tie.Need-copy-bytes-requires
+copy-bytes-requires c κs =
+    let k = known (c .before .before) in
+    omega (
+      arith,
+      length-take-le (4 * total k) (array k) (room-in k),
+      rows-room (rest (merged-at k)) (told k) (demanded k),
+      front-long k,
+      room-most (merged-at k .before .before) .1,
+    )
+
+returns : tie.Need-returns
+returns c =
+    let k : tie.After-known-told2 = c .before .before .before .before .before in
+    let a = merged-at (known k) in
+    let x = start-of a .args in
+    let w = accepted k in
+    let rows-left = c .before .before .copy-bytes .ensures .1 ∙ ap (over (now (x .rows)) 0) (rows-bytes (known k)) in
+    let list-left = listed k .write-chosen .ensures .1 ∙ ap (λ (o : Outcome (List ℕ)). writeBytes o (now (x .out))) (w .1) in
+    (λ i. (Written (counts-are (rest a) (told (known k)) (demanded (known k)) i) (w .2 i), (rows-left i, list-left i)))
+    ∙ list-written (now (x .base)) (now (x .ours)) (now (x .theirs)) (x .floor) (x .gate) (now (x .rows)) (now (x .out)) (merged-is (known k)) (w .1)
+
+returns-2 : tie.Need-returns-2
+returns-2 c =
+    let k : tie.After-known-told = c .before .before .before .before .before .before .before .before .before .before in
+    let x = start-of (merged-at k) .args in
+    let e = write-refused _ (sym (c .before .before .before .before .before .write-chosen .ensures .0) ∙ c .before .written2 .given .1) in
+    let stays = c .before .before .before .before .before .write-chosen .ensures .1 ∙ ap (λ (o : Outcome (List ℕ)). writeBytes o (now (x .out))) e in
+    (λ i. (Refused (c .before .written2 .given .0 .0), (now (x .rows), stays i)))
+    ∙ list-refused (now (x .base)) (now (x .ours)) (now (x .theirs)) (x .floor) (x .gate) (now (x .rows)) (now (x .out)) (merged-is k) e
+
+returns-3 : tie.Need-returns-3
+returns-3 c =
+    let a = c .before .before .before .before in
+    let x = start-of a .args in
+    let e = refusal-found (old a) _ ((λ i. (sym (c .before .m2 .given .1) i, new a)) ∙ a .merge .ensures .0) in
+    merge-refused (now (x .base)) (now (x .ours)) (now (x .theirs)) (x .floor) (x .gate) (now (x .rows)) (now (x .out)) (sym (room-is a) ∙ e)
+
+pub merge-list-spec : {M : Type 1} → statement M
+merge-list-spec =
+    tie.close
+    (tie.spec (λ c κs. search needs) (λ c. room-most c .0) (λ c. sym (lent (c .before))) (λ c κs. search needs) (λ c. search needs)
+    (λ c. omega (arith, few (c .before))) (λ c. omega (arith, few (c .before .before)))
+    (λ c. sym (array-long (c .before .before .before))) write-chosen-requires (λ c. search needs) (λ c. omega (arith, few (known c))) (λ c. room-in (known c))
+    (λ c. sym (length-take-le (4 * total (known (c .before))) (array (known (c .before))) (room-in (known (c .before))))) copy-bytes-requires
+    (λ c. search needs) (λ c. search needs) (λ c. search needs) (λ c. search needs) returns (λ c. search needs) returns-2 returns-3)

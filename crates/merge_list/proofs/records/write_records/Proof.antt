@@ -1,0 +1,113 @@
+-- `write_records` meets its contract: before turn r the records of the first r rows are written. A turn writes three times, of which one at most writes a byte.
+use Prim.Native.Nat.{ℕ, _+_, _-_, _*_, _<_, _≤_}
+use native.Mathlib.Omega.{arith}
+use borrow.Author.Needs.{needs}
+use mathlib.Core.Path.{_≡_, refl, sym}
+use mathlib.Core.List.{List, _++_, flatMap}
+use denote.Ref.{now}
+use lib.ListN.{length}
+use Rattle.kernel.specs.Lists.{tabulate}
+use Rattle.tracks.proofs.Slices.Laid.{Laid, Laying, laid-none, laid-room, laid-more, laying-all}
+use Rattle.merge_list.specs.Private.{rowsIn, Sources, sources, recordsTaken}
+use Rattle.merge_list.proofs.Taken.{before, from-base, from-ours, from-theirs, taken-more, fits-base, fits-ours, fits-theirs}
+use Rattle.merge_list.proofs.records.write_records.Statement.{statement}
+use Rattle.merge_list.proofs.records.write_records.Tie as tie
+
+abbrev Inv-loop : tie.InvT-loop
+Inv-loop base ours theirs rows total out₀ base-offsets ours-offsets theirs-offsets at₀ r₀ out at r =
+    Laying out₀ 2 (λ k. recordsTaken (sources base ours theirs (record { base = base-offsets; ours = ours-offsets; theirs = theirs-offsets })) (rowsIn rows k)) total r at out
+
+abbrev μ-loop : tie.MeasureT-loop
+μ-loop base ours theirs rows total out₀ base-offsets ours-offsets theirs-offsets at₀ r₀ out at r = total - r
+
+loop-holds : tie.Need-loop-holds Inv-loop μ-loop
+unfolding tabulate flatMap
+loop-holds c = record { turns = omega arith; laid = laid-none }
+
+-- the places, each from a later one
+abbrev turn : tie.After-copy-record-arg Inv-loop μ-loop → tie.At-loop Inv-loop μ-loop
+turn c = c .before .before .before .before .before
+
+abbrev start-of : tie.At-loop Inv-loop μ-loop → tie.Start Inv-loop μ-loop
+start-of c = c .before .before .before .before .before .before .before .before .before
+
+abbrev first : tie.After-copy-record-arg2 Inv-loop μ-loop → tie.After-copy-record Inv-loop μ-loop
+first c = c .before .before .before .before .before
+
+abbrev second : tie.After-copy-record-arg3 Inv-loop μ-loop → tie.After-copy-record2 Inv-loop μ-loop
+second c = c .before .before .before .before .before
+
+abbrev lists : tie.At-loop Inv-loop μ-loop → Sources
+lists c = let x = start-of c .args in sources (now (x .base)) (now (x .ours)) (now (x .theirs)) (x .offsets)
+
+abbrev rows-of : tie.At-loop Inv-loop μ-loop → List ℕ
+rows-of c = now (start-of c .args .rows)
+
+-- the turn's row is one of the rows
+inside : (c : tie.After-copy-record-arg Inv-loop μ-loop) → turn c .loop .r < start-of (turn c) .args .total
+inside c = c .before .before .before .before .loop-test .taken
+
+-- what stands in the buffer after the first of the three, and after the second
+laid-base : (c : tie.After-copy-record Inv-loop μ-loop) → let t = turn (c .before) in let s = lists t in let r = t .loop .r in
+    Laid (now (start-of t .args .out)) 2 (before s (rows-of t) r ++ from-base s (rows-of t) r) (c .copy-record .result) (c .copy-record .last .1 .1 .1 .1 .0)
+laid-base c =
+    let t = turn (c .before) in
+    let e = c .copy-record .ensures in
+    laid-more (t .loop .inv .laid) _ refl (fits-base (lists t) (rows-of t) (now (start-of t .args .out)) (start-of t .pre .1) (inside (c .before))) (e .0) (e .1)
+
+laid-ours : (c : tie.After-copy-record2 Inv-loop μ-loop) → let t = turn (first (c .before) .before) in let s = lists t in let r = t .loop .r in
+    Laid (now (start-of t .args .out)) 2 ((before s (rows-of t) r ++ from-base s (rows-of t) r) ++ from-ours s (rows-of t) r) (c .copy-record2 .result) (c .copy-record2 .last .1 .1 .1 .1 .0)
+laid-ours c =
+    let b = first (c .before) in
+    let t = turn (b .before) in
+    let e = c .copy-record2 .ensures in
+    laid-more (laid-base b) _ refl (fits-ours (lists t) (rows-of t) (now (start-of t .args .out)) (start-of t .pre .1) (inside (b .before))) (e .0) (e .1)
+
+copy-record-requires : tie.Need-copy-record-requires Inv-loop μ-loop
+copy-record-requires c κs =
+    let t = turn c in
+    laid-room (t .loop .inv .laid) _ refl (fits-base (lists t) (rows-of t) (now (start-of t .args .out)) (start-of t .pre .1) (inside c))
+
+copy-record-requires-2 : tie.Need-copy-record-requires-2 Inv-loop μ-loop
+copy-record-requires-2 c κs =
+    let b = first c in
+    let t = turn (b .before) in
+    laid-room (laid-base b) _ refl (fits-ours (lists t) (rows-of t) (now (start-of t .args .out)) (start-of t .pre .1) (inside (b .before)))
+
+copy-record-requires-3 : tie.Need-copy-record-requires-3 Inv-loop μ-loop
+copy-record-requires-3 c κs =
+    let o = second c in
+    let b = first (o .before) in
+    let t = turn (b .before) in
+    laid-room (laid-ours o) _ (taken-more (lists t) (rows-of t) (t .loop .r)) (fits-theirs (lists t) (rows-of t) (now (start-of t .args .out)) (start-of t .pre .1) (inside (b .before)))
+
+loop-again : tie.Need-loop-again Inv-loop μ-loop
+loop-again c =
+    let last = c .before .before in
+    let o = second (last .before) in
+    let b = first (o .before) in
+    let t = turn (b .before) in
+    let e = last .copy-record3 .ensures in
+    record {
+      turns = omega (arith, inside (b .before));
+      laid =
+          laid-more (laid-ours o) _ (taken-more (lists t) (rows-of t) (t .loop .r))
+          (fits-theirs (lists t) (rows-of t) (now (start-of t .args .out)) (start-of t .pre .1) (inside (b .before))) (e .0) (e .1);
+    }
+
+-- the last table of offsets is an array of 33
+last-offsets : (s : tie.Start Inv-loop μ-loop) → length (s .args .offsets .theirs) ≡ 33
+last-offsets s = search needs
+
+same-length : tie.Need-same-length Inv-loop μ-loop
+same-length c = c .before .loop .inv .laid .size
+
+returns : tie.Need-returns Inv-loop μ-loop
+returns c = laying-all (c .before .loop .inv) (c .loop-test .left)
+
+pub write-records-spec : {M : Type 1} → statement M
+write-records-spec =
+    tie.close
+    (tie.spec Inv-loop μ-loop loop-holds (λ c. omega arith) (λ c. omega arith) (λ c. omega arith) (λ c. search needs) (λ c. omega arith) (λ c. omega arith) copy-record-requires
+    (λ c. search needs) (λ c. omega arith) (λ c. omega arith) (λ c. omega arith) copy-record-requires-2 (λ c. sym (last-offsets (c .before .before .before .before .before .before .before .before .before .before .before .before .before .before .before .before .before .before .before .before .before .before .before .before))) (λ c. omega arith) (λ c. omega arith) (λ c. omega arith)
+    copy-record-requires-3 (λ c. omega arith) (λ c. omega arith) loop-again same-length returns)

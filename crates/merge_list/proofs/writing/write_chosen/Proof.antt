@@ -1,0 +1,99 @@
+-- `write_chosen` meets its contract: the questions, and the list copied from the local array.
+use borrow.Author.Needs.{needs}
+use Prim.Native.Nat.{ℕ, _+_, _≤_}
+use native.Mathlib.Omega.{arith}
+use mathlib.Core.Path.{_≡_, refl, sym, ap, _∙_}
+use mathlib.Core.List.{List}
+use denote.Ref.{now}
+use lib.ListN.{length, take}
+use Rattle.kernel.specs.Answer.{Outcome}
+use Rattle.kernel.specs.Lists.{over}
+use Rattle.kernel.proofs.Lists.{take-over}
+use Rattle.tracks.specs.Write.{listOf}
+use Rattle.tracks.specs.Calls.{writeAnswer, writeBytes}
+use Rattle.tracks.specs.declared.write.WrittenList.{WrittenList}
+use Rattle.tracks.specs.declared.write.WrittenList.the-variants.{Length}
+use Rattle.merge.specs.Merge.{MergedLists}
+use Rattle.merge.specs.Rows.{conflict}
+use Rattle.merge_list.specs.MergeList.{chosenList, withVerdict, takers, listOfRows}
+use Rattle.merge_list.specs.Private.{found}
+use Rattle.merge_list.proofs.Asked.{asked-21, asked-22, asked-20, asked-list}
+use Rattle.merge_list.proofs.writing.write_chosen.Statement.{statement}
+use Rattle.merge_list.proofs.writing.write_chosen.Tie as tie
+
+-- the merge whose list is to be written, and what the definition answers
+abbrev merged : tie.Start → MergedLists
+merged c = let x = c .args in found (now (x .base)) (now (x .ours)) (now (x .theirs)) (now (x .rows)) (x .total)
+
+abbrev defined : tie.Start → Outcome (List ℕ)
+defined c = listOfRows (length (now (c .args .out))) (merged c)
+
+-- both promises, by what the definition answers
+promised : (c : tie.Start) {o : Outcome (List ℕ)} → defined c ≡ o → {r : WrittenList} {new : List ℕ} → r ≡ writeAnswer o → new ≡ writeBytes o (now (c .args .out))
+    → (r ≡ writeAnswer (defined c)) × (new ≡ writeBytes (defined c) (now (c .args .out)))
+promised c e p q = (p ∙ ap writeAnswer (sym e), q ∙ ap (λ (o : Outcome (List ℕ)). writeBytes o (now (c .args .out))) (sym e))
+
+returns : tie.Need-returns
+returns c =
+    let s = c .before .before .before .before .before .before .before in
+    promised s (asked-21 (length (now (s .args .out))) (merged s) (λ z. c .if1 .taken (c .before .with-verdict .ensures .0 ∙ z))) refl refl
+
+-- the places, each from a later one
+abbrev start-of : tie.After-with-verdict4 → tie.Start
+start-of c = c .before .before .before .before .before .before .before .before .before .before
+
+abbrev asked : tie.After-put-list → tie.After-with-verdict4
+asked c = c .before .before .before
+
+-- no row is a conflict, and so many take a track
+met-21 : (c : tie.After-with-verdict4) → withVerdict conflict (merged (start-of c) .rows) ≡ 0
+met-21 c = let e = c .before .before .before in sym (e .before .with-verdict .ensures .0) ∙ e .if1 .left
+
+counted : (c : tie.After-with-verdict4)
+    → c .before .before .with-verdict2 .result + c .before .with-verdict3 .result + c .with-verdict4 .result ≡ takers (merged (start-of c) .rows)
+counted c = omega (arith, c .before .before .with-verdict2 .ensures .0, c .before .with-verdict3 .ensures .0, c .with-verdict4 .ensures .0)
+
+returns-2 : tie.Need-returns-2
+returns-2 c =
+    let v = c .before in
+    let s = start-of v in
+    promised s (asked-22 (length (now (s .args .out))) (merged s) (met-21 v) (omega (arith, counted v, c .if2 .taken))) refl refl
+
+few : (c : tie.After-put-list) → takers (merged (start-of (asked c)) .rows) ≤ 32
+few c = omega (arith, counted (asked c), c .before .before .if2 .left)
+
+-- the list, and that it stands in the local array
+abbrev list-of : tie.After-put-list → List ℕ
+list-of c = listOf (chosenList (merged (start-of (asked c))))
+
+front : (c : tie.After-put-list) → take (c .put-list .result) (c .put-list .last .1 .1 .1 .1 .1 .1 .0) ≡ list-of c
+front c = let e = c .put-list .ensures .0 in ap (take (c .put-list .result)) (e .1) ∙ take-over _ (list-of c) (c .put-list .result) (omega (arith, e .0))
+
+returns-3 : tie.Need-returns-3
+returns-3 c =
+    let p = c .before .before in
+    let s = start-of (asked p) in
+    promised s (asked-20 (length (now (s .args .out))) (merged s) (met-21 (asked p)) (few p) (omega (arith, p .put-list .ensures .0 .0, c .if3 .taken))) refl refl
+
+slice-aggregate-copy-bytes : tie.Need-slice-aggregate-copy-bytes
+slice-aggregate-copy-bytes c = let p = c .before .before .before in omega (arith, p .put-list .ensures .0 .0, ap length (front p))
+
+copy-bytes-requires : tie.Need-copy-bytes-requires
+copy-bytes-requires c κs =
+    let p = c .before .before .before .before in
+    omega (arith, p .put-list .ensures .0 .0, ap length (front p), c .before .before .if3 .left)
+
+returns-4 : tie.Need-returns-4
+returns-4 c =
+    let p = c .before .before .before .before .before .before .before in
+    let s = start-of (asked p) in
+    let out = now (s .args .out) in
+    let long : p .put-list .result ≡ length (list-of p) = omega (arith, p .put-list .ensures .0 .0) in
+    promised s (asked-list (length out) (merged s) (met-21 (asked p)) (few p) (omega (arith, long, c .before .before .before .before .before .if3 .left))) (ap Length long)
+    (c .before .before .copy-bytes .ensures .1 ∙ ap (over out 0) (front p))
+
+pub write-chosen-spec : {M : Type 1} → statement M
+write-chosen-spec =
+    tie.close
+    (tie.spec (λ c κs. search needs) returns (λ c κs. search needs) (λ c κs. search needs) (λ c κs. search needs) (λ c. search needs) (λ c. search needs) returns-2
+    (λ c. search needs) (λ c κs. search needs) returns-3 (λ c. c .before .before .put-list .ensures .1) slice-aggregate-copy-bytes copy-bytes-requires (λ c. search needs) returns-4)

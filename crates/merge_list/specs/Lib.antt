@@ -1,0 +1,4 @@
+pub mod MergeList
+pub mod NobodyLost
+pub mod Examples
+pub mod Private
