@@ -1,11 +1,12 @@
--- What a written list is to its reader: `ReadsBack`, the tracks that the rows take and no others, and `NobodyLost`, each of them as the record that it was.
-use Prim.Native.Nat.{ℕ, _+_, _*_, _<_, _≤_}
+-- What a written list is to its reader: `ReadsBack`, these tracks and no others; `NobodyLost`, that each row's track stands in it, as the record that it was.
+use Prim.Native.Nat.{ℕ, _*_, _<_, _≤_}
 use mathlib.Core.Path.{_≡_}
 use mathlib.Core.Bool.{cond}
-use mathlib.Core.List.{List, [], _++_}
-use lib.Dec.{eqb, leb}
+use mathlib.Core.List.{List, []}
+use lib.Dec.{eqb}
 use lib.Ieee.{Float}
-use lib.ListN.{length, getD, take, drop}
+use lib.ListN.{length, getD, take}
+use Rattle.kernel.specs.Lists.{over}
 use Rattle.tracks.specs.Layout.{fields}
 use Rattle.tracks.specs.Read.{TrackList, reading, count}
 use Rattle.tracks.specs.Record.{offset, recordAt}
@@ -14,25 +15,31 @@ use Rattle.tracks.specs.declared.read.ReadList.the-variants.{Read}
 use Rattle.merge.specs.Rows.{Row, keep, takeOurs, takeTheirs}
 use Rattle.merge_list.specs.MergeList.{takers}
 
--- That `read_list` reads these tracks and this dimension out of a list, into any slice that is long enough, whatever it held.
+-- That `read_list` reads these tracks and this dimension out of a list, into any slice that is long enough, in front of what it held.
 abbrev pub ReadsBack : TrackList → List ℕ → Type 0
 ReadsBack c l =
     (values : List Float) → length (c .tracks) * fields (c .dimension) ≤ length values
-    → let v = doubles (joined (c .tracks)) in
-    (readAnswer (reading l (length values)) ≡ Read (length (c .tracks)) (c .dimension)) × (readValues (reading l (length values)) values ≡ v ++ drop (length v) values)
+    → (readAnswer (reading l (length values)) ≡ Read (length (c .tracks)) (c .dimension)) × (readValues (reading l (length values)) values ≡ over values 0 (doubles (joined (c .tracks))))
 
 -- The record of a row's track in the list that its verdict takes it from.
 unfoldable pub sourceRecord : List ℕ → List ℕ → List ℕ → Row → List ℕ
+unfolding recordAt offset
 sourceRecord base ours theirs w =
     cond (eqb (w .verdict) keep) (recordAt base (offset base (w .base)))
     (cond (eqb (w .verdict) takeOurs) (recordAt ours (offset ours (w .ours)))
     (cond (eqb (w .verdict) takeTheirs) (recordAt theirs (offset theirs (w .theirs)))
     []))
 
--- That no row's track is lost on the way from three lists into a list.
-pub record NobodyLost (base ours theirs : List ℕ) (rows : List Row) (l : List ℕ) : Type 0 where
+-- The place of row r's track in the list: as many rows before it take a track.
+abbrev pub placeOf : List Row → ℕ → ℕ
+placeOf rows r = takers (take r rows)
+
+-- That no track is lost, and none added, on the way from three lists into the list l of a merge's rows. (`none` stands for a row that is not there.)
+pub record NobodyLost (base ours theirs : List ℕ) (rows : List Row) (l : List ℕ) (none : Row) : Type 0 where
   -- There are as many tracks as rows of verdict 0, 1 and 2.
   pub as-many : count l ≡ takers rows
-  -- Each such row has its record in the list, byte for byte that of the list it is taken from; so many rows before it take a track, and that is its place.
-  pub in-place : (r : ℕ) (none : Row) → r < length rows → let w = getD rows r none in w .verdict ≤ takeTheirs
-      → (takers (take r rows) < count l) × (recordAt l (offset l (takers (take r rows))) ≡ sourceRecord base ours theirs w)
+  -- Each such row has its place in the list, and its record there is byte for byte that of the list it is taken from.
+  pub each-row : (r : ℕ) → r < length rows → getD rows r none .verdict ≤ takeTheirs
+      → (placeOf rows r < count l) × (recordAt l (offset l (placeOf rows r)) ≡ sourceRecord base ours theirs (getD rows r none))
+  -- Each track of the list has its place from such a row.
+  pub each-track : (j : ℕ) → j < count l → (r : ℕ) × (r < length rows) × (getD rows r none .verdict ≤ takeTheirs) × (placeOf rows r ≡ j)
