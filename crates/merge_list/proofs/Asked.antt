@@ -1,18 +1,22 @@
--- The questions on the merged list: `asked-21`, `asked-22`, `asked-20` and `asked-list` say what is answered. `merge-refused`, `list-refused` and `list-written`: so the call answers.
+-- The questions on the merged list: `asked-21`, `asked-22`, `asked-20` and `asked-list` say what is answered. `merge-refused` and `list-decides`:
+-- so the call answers.
 use Prim.Native.Nat.{ℕ, _<_, _≤_}
 use mathlib.Core.Path.{_≡_, refl}
-use mathlib.Core.List.{List}
+use mathlib.Core.List.{List, flatMap}
 use lib.Ieee.{Float}
 use lib.ListN.{length}
 use borrow.Author.Tests.{le-leb, lt-leb, eq-eqb, ne-eqb}
-use Rattle.kernel.specs.Answer.{refused, answered}
+use Rattle.kernel.specs.Answer.{Outcome, refused, answered}
 use Rattle.kernel.specs.Lists.{over}
+use Rattle.kernel.proofs.Lists.{over-none}
 use Rattle.tracks.specs.Write.{listOf}
-use Rattle.merge.specs.Rows.{conflict}
-use Rattle.merge.specs.Merge.{MergedLists, merging, countsOf, rowsLeft}
+use Rattle.tracks.specs.Calls.{writeAnswer, writeBytes}
+use Rattle.merge.specs.Rows.{conflict, rowBytes}
+use Rattle.merge.specs.Merge.{MergedLists, merging, countsOf}
 use Rattle.merge_list.specs.MergeList.{chosenList, withVerdict, takers, listOfRows, mergingList, afterMergeList}
+use Rattle.merge_list.specs.Private.{bytesIf, isWritten, answerWith}
 use Rattle.merge_list.specs.declared.MergedList.{MergedList}
-use Rattle.merge_list.specs.declared.MergedList.the-variants.{Written, Refused}
+use Rattle.merge_list.specs.declared.MergedList.the-variants.{Refused}
 
 module _ (room : ℕ) (m : MergedLists) where
   pub asked-21 : (withVerdict conflict (m .rows) ≡ 0 → ⊥) → listOfRows room m ≡ refused 21
@@ -56,12 +60,15 @@ module _ (base ours theirs : List ℕ) (floor gate : Float) (rows out : List ℕ
   unfolding mergingList
   merge-refused e = rw e refl
 
-  module _ {m : MergedLists} (e : merging base ours theirs floor gate (length rows) ≡ answered m) where
-    pub list-refused : {q : ℕ} → listOfRows (length out) m ≡ refused q → _≡_ {A = Answer} (Refused q, (rows, out)) defined
-    unfolding mergingList
-    list-refused f = rw (e, f) refl
-
-    pub list-written : {l : List ℕ} → listOfRows (length out) m ≡ answered l
-        → _≡_ {A = Answer} (Written (countsOf (m .rows)) (length l), (rowsLeft (m .rows) rows, over out 0 l)) defined
-    unfolding mergingList
-    list-written f = rw (e, f) refl
+  -- where it finds rows, the answer to their list decides
+  pub list-decides : {m : MergedLists} → merging base ours theirs floor gate (length rows) ≡ answered m
+      → let o = listOfRows (length out) m in
+      let b = isWritten (writeAnswer o) in
+      _≡_ {A = Answer} (answerWith (writeAnswer o) (countsOf (m .rows)), (over rows 0 (bytesIf b (flatMap rowBytes (m .rows))), writeBytes o out)) defined
+  unfolding mergingList
+  list-decides {m} e = by (listOfRows (length out) m) refl
+    where
+      by : (o : Outcome (List ℕ)) → listOfRows (length out) m ≡ o
+          → _≡_ {A = Answer} (answerWith (writeAnswer o) (countsOf (m .rows)), (over rows 0 (bytesIf (isWritten (writeAnswer o)) (flatMap rowBytes (m .rows))), writeBytes o out)) defined
+      by (refused q) f = rw (e, f) (λ i. (Refused q, (over-none rows 0 i, out)))
+      by (answered l) f = rw (e, f) refl

@@ -2,23 +2,18 @@
 -- list is the two bytes of count and dimension and those records. `chosen-accepted`: it is accepted, with those tracks, and so has at most 14,050 bytes (`list-size`).
 use Prim.Native.Nat.{ℕ, zero, suc, _+_, _<_, _≤_}
 use native.Mathlib.Omega.{arith}
-use native.Mathlib.Nat.{eq-or-lt-of-le}
-use native.Mathlib.Decide.{decLt}
 use mathlib.Core.Path.{_≡_, refl, sym, ap, subst, _∙_}
 use mathlib.Core.Bool.{true, cond}
 use mathlib.Core.List.{List, [], _∷_, _++_, flatMap, append-nil}
-use borrow.Author.Tests.{ne-eqb}
 use lib.Dec.{eqb}
-use lib.ListN.{length, getD, length-append, List·getD-append, replicate}
-use lib.Seq.{getD-append-add}
+use lib.ListN.{length, length-append, replicate}
 use Rattle.kernel.specs.Answer.{answered}
 use Rattle.kernel.specs.Bytes.{Bytes}
 use Rattle.kernel.specs.Lists.{tabulate}
-use Rattle.kernel.proofs.Lists.{length-tabulate}
 use Rattle.tracks.specs.Layout.{fields, countMet}
-use Rattle.tracks.specs.Read.{Track, TrackList, trackOf, contents}
+use Rattle.tracks.specs.Read.{Track, TrackList, contents}
 use Rattle.tracks.specs.Write.{recordOf, recordsOf, listOf}
-use Rattle.tracks.specs.Record.{offset, recordAt, trackRecord}
+use Rattle.tracks.specs.Record.{trackRecord}
 use Rattle.tracks.specs.Calls.{trackOffsets}
 use Rattle.tracks.proofs.Reading.Accepted.{contents-met}
 use Rattle.tracks.proofs.Slices.Lists.{flatMap-append, flatMap-more}
@@ -32,6 +27,7 @@ use Rattle.merge.specs.Rows.{Row, keep, takeOurs, takeTheirs}
 use Rattle.merge.specs.Private.{held, heldThree}
 use Rattle.merge.proofs.Readings.Tracks.{few-tracks}
 use Rattle.merge_list.specs.MergeList.{chosen, chosenList, withVerdict, takers}
+use Rattle.merge_list.proofs.Verdicts.{takes-none}
 use Rattle.merge_list.specs.Private.{rowIn, rowsIn, Sources, sources, recordTaken, recordsTaken, Takes, found, ToList}
 
 -- ---- how many they are
@@ -45,7 +41,7 @@ one-track lists w = by (w .verdict) refl
     by zero e = rw e refl
     by (suc zero) e = rw e refl
     by (suc (suc zero)) e = rw e refl
-    by (suc (suc (suc v))) e = rw (ne-eqb (w .verdict) keep (λ z. omega (arith, e, z)), ne-eqb (w .verdict) takeOurs (λ z. omega (arith, e, z)), ne-eqb (w .verdict) takeTheirs (λ z. omega (arith, e, z))) refl
+    by (suc (suc (suc v))) e = let n = takes-none (w .verdict) (omega (arith, e)) in rw (n .not-base, n .not-ours, n .not-theirs) refl
 
 pub takers-are : (lists : ThreeLists) (rows : List Row) → length (flatMap (chosen lists) rows) ≡ takers rows
 unfolding flatMap withVerdict
@@ -63,7 +59,8 @@ abbrev pub located : List ℕ → List ℕ → List ℕ → Sources
 located base ours theirs = sources base ours theirs (record { base = trackOffsets base zeros .1; ours = trackOffsets ours zeros .1; theirs = trackOffsets theirs zeros .1 })
 
 -- the record of track i of an accepted list, by the offsets that `track_offsets` leaves
-record-here : (l : List ℕ) → Bytes l → contents l ≡ answered (held l) → (i : ℕ) → i < trackCount (held l) → trackRecord l (trackOffsets l zeros .1) i ≡ recordOf (held l .dimension) (trackAt (held l) i)
+record-here : (l : List ℕ) → Bytes l → contents l ≡ answered (held l) → (i : ℕ) → i < trackCount (held l)
+    → trackRecord l (trackOffsets l zeros .1) i ≡ recordOf (held l .dimension) (trackAt (held l) i)
 record-here l h ok i lt = records-by-offsets l (held l) ok zeros (omega (arith, few-tracks l (held l) ok)) i lt ∙ record-fields l h (held l) ok i lt
 
 fits-append : (f : ℕ) (us vs : List Track) → Fits f us → Fits f vs → Fits f (us ++ vs)
@@ -94,7 +91,7 @@ module _ {base ours theirs rows : List ℕ} {total : ℕ} (hb : Bytes base) (ho 
             rw e
             (record-here theirs ht (p .theirs-read) (w .theirs) (t .of-theirs e) ∙ ap (λ (n : ℕ). recordOf n (trackAt (held theirs) (w .theirs))) (p .theirs-dimension)
             ∙ sym (append-nil _))
-        by (suc (suc (suc v))) e = rw (ne-eqb (w .verdict) keep (λ z. omega (arith, e, z)), ne-eqb (w .verdict) takeOurs (λ z. omega (arith, e, z)), ne-eqb (w .verdict) takeTheirs (λ z. omega (arith, e, z))) refl
+        by (suc (suc (suc v))) e = let n = takes-none (w .verdict) (omega (arith, e)) in rw (n .not-base, n .not-ours, n .not-theirs) refl
 
     -- and the track is one that a list can hold
     track-fits : Fits (fields d) (chosen lists w)
@@ -114,7 +111,7 @@ module _ {base ours theirs rows : List ℕ} {total : ℕ} (hb : Bytes base) (ho 
             (one _
             (subst (λ (n : ℕ). Fit (fields n) (trackAt (held theirs) (w .theirs) .values)) (p .theirs-dimension) (accepted-fit theirs ht (held theirs) (p .theirs-read) (w .theirs) (t .of-theirs e))))
         by (suc (suc (suc v))) e =
-            rw (ne-eqb (w .verdict) keep (λ z. omega (arith, e, z)), ne-eqb (w .verdict) takeOurs (λ z. omega (arith, e, z)), ne-eqb (w .verdict) takeTheirs (λ z. omega (arith, e, z))) (λ k lt. absurd (omega arith))
+            let n = takes-none (w .verdict) (omega (arith, e)) in rw (n .not-base, n .not-ours, n .not-theirs) (λ k lt. absurd (omega arith))
 
   -- the tracks of the first rows
   abbrev tracks-of : ℕ → List Track

@@ -12,13 +12,13 @@ use lib.ListN.{length, getD, take, length-append, List·getD-append}
 use lib.Seq.{take-append-le}
 use borrow.Author.Tests.{le-leb, ltb-false, eq-eqb, eqb-true}
 use Rattle.kernel.specs.Answer.{Outcome, refused, answered, andThen}
-use Rattle.kernel.proofs.Answers.{answered-inj, never}
+use Rattle.kernel.proofs.Answers.{never}
 use Rattle.kernel.proofs.Lists.{by-elements, take-over}
 use Rattle.tracks.specs.Read.{TrackList, contents}
 use Rattle.merge.specs.Tracks.{ThreeLists, trackCount}
-use Rattle.merge.specs.Rows.{Row, rowBytes, rowsWith, Equal, verdict, verdictOn, keep, takeOurs, takeTheirs, isTrack, tracksAmong}
+use Rattle.merge.specs.Rows.{Row, rowBytes, Equal, verdict, verdictOn, keep, takeOurs, takeTheirs, isTrack, tracksAmong}
 use Rattle.merge.specs.Merge.{acceptedLists, MergedLists, mergedLists, merging, oneDimension, roomFor, countsOf, rowsLeft, afterMerge}
-use Rattle.merge.specs.Buffer.{baseIn, oursIn, theirsIn, verdictIn, TrackOrNone}
+use Rattle.merge.specs.Buffer.{baseIn, oursIn, theirsIn, TrackOrNone}
 use Rattle.merge.specs.Demand3.{Demand3, Demanded}
 use Rattle.pairing.specs.Keys.{nobody}
 use Rattle.merge.specs.Private.{heldIn, held, heldThree}

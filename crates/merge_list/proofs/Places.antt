@@ -6,15 +6,15 @@ use mathlib.Core.Path.{_≡_, refl, sym, ap, _∙_}
 use mathlib.Core.Bool.{cond}
 use mathlib.Core.List.{List, [], _∷_, _++_, flatMap}
 use lib.Dec.{eqb}
-use lib.ListN.{length, getD, take, length-append}
+use lib.ListN.{length, getD, take}
 use lib.Seq.{getD-append-add}
-use borrow.Author.Tests.{eq-eqb, ne-eqb}
 use Rattle.tracks.specs.Read.{Track, trackOf}
 use Rattle.merge.specs.Tracks.{ThreeLists}
 use Rattle.merge.specs.Rows.{Row, keep, takeOurs, takeTheirs}
 use Rattle.merge_list.specs.MergeList.{chosen, withVerdict, takers}
 use Rattle.merge_list.specs.NobodyLost.{placeOf}
-use Rattle.merge_list.proofs.Chosen.{one-track, takers-are}
+use Rattle.merge_list.proofs.Verdicts.{takes-none}
+use Rattle.merge_list.proofs.Chosen.{one-track}
 
 -- how many tracks a row takes
 abbrev one : Row → ℕ
@@ -35,7 +35,7 @@ one-if w h = by (w .verdict) refl
     by (suc (suc (suc v))) e = absurd (omega (arith, e))
 
 none-else : (w : Row) → takeTheirs < w .verdict → one w ≡ 0
-none-else w h = rw (ne-eqb (w .verdict) keep (λ z. omega (arith, z)), ne-eqb (w .verdict) takeOurs (λ z. omega (arith, z)), ne-eqb (w .verdict) takeTheirs (λ z. omega (arith, z))) refl
+none-else w h = let n = takes-none (w .verdict) h in rw (n .not-base, n .not-ours, n .not-theirs) refl
 
 module _ (lists : ThreeLists) (none : Row) where
   abbrev tracks-of : List Row → List Track

@@ -9,7 +9,7 @@ use lib.ListN.{length, length-append}
 use Rattle.kernel.proofs.Lists.{tabulate-more}
 use Rattle.tracks.specs.Record.{trackRecord}
 use Rattle.tracks.proofs.Slices.Lists.{flatMap-more, flatMap-part}
-use Rattle.merge.specs.Rows.{Row, keep, takeOurs, takeTheirs}
+use Rattle.merge.specs.Rows.{keep, takeOurs, takeTheirs}
 use Rattle.merge_list.specs.Private.{rowIn, rowsIn, Sources, bytesIf, recordTaken, recordsTaken, RecordsFit}
 
 module _ (s : Sources) (rows : List ℕ) where

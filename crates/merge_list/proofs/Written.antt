@@ -10,19 +10,18 @@ use lib.Ieee.{Float}
 use lib.ListN.{length, getD, take}
 use Rattle.kernel.specs.Answer.{Outcome, refused, answered}
 use Rattle.kernel.specs.Bytes.{Bytes}
-use Rattle.kernel.specs.Lists.{over}
 use Rattle.kernel.proofs.Answers.{answered-inj, ask-met, and-then-met, through-met}
 use Rattle.kernel.proofs.Lists.{take-over, length-tabulate, getD-tabulate}
 use Rattle.tracks.specs.Layout.{countMet}
-use Rattle.tracks.specs.Read.{Track, TrackList, trackOf, contents, count}
+use Rattle.tracks.specs.Read.{Track, trackOf, contents, count}
 use Rattle.tracks.specs.Write.{recordOf, listOf}
 use Rattle.tracks.specs.Record.{offset, recordAt}
 use Rattle.tracks.proofs.Reading.Accepted.{contents-met}
 use Rattle.tracks.proofs.Reading.Known.{reading-fits}
 use Rattle.tracks.proofs.Records.Parts.{record-fields}
 use Rattle.tracks.proofs.RoundTrip.Sizes.{list-bytes}
-use Rattle.merge.specs.Tracks.{ThreeLists, trackAt, trackCount}
-use Rattle.merge.specs.Rows.{Row, keep, takeOurs, takeTheirs, conflict}
+use Rattle.merge.specs.Tracks.{ThreeLists, trackAt}
+use Rattle.merge.specs.Rows.{Row, takeTheirs, conflict}
 use Rattle.merge.specs.Merge.{MergedLists, merging, countsOf, rowsLeft, afterMerge}
 use Rattle.merge.specs.Private.{held, heldThree}
 use Rattle.merge.specs.declared.Counts.{Counts}
@@ -31,12 +30,12 @@ use Rattle.merge.specs.declared.Merged.the-variants as merged
 use Rattle.merge.proofs.Demand.EveryAnswer.{demanded}
 use Rattle.merge_list.specs.MergeList.{chosen, chosenList, withVerdict, takers, listOfRows, WrittenMerge, mergingList, afterMergeList}
 use Rattle.merge_list.specs.NobodyLost.{ReadsBack, sourceRecord, placeOf, NobodyLost}
-use Rattle.merge_list.specs.Private.{rowIn, rowsIn, Takes, found, ToList}
+use Rattle.merge_list.specs.Private.{rowIn, Takes, found, ToList}
 use Rattle.merge_list.specs.declared.MergedList.{MergedList}
 use Rattle.merge_list.specs.declared.MergedList.the-variants.{Written, Refused}
 use Rattle.merge_list.proofs.Chosen.{takers-are, chosen-accepted}
 use Rattle.merge_list.proofs.Found.{to-list, found-is}
-use Rattle.merge_list.proofs.Places.{AtPlace, chosen-place, place-row}
+use Rattle.merge_list.proofs.Places.{chosen-place, place-row}
 
 -- ---- the list of what a merge found
 
@@ -154,7 +153,8 @@ module _ (base ours theirs : List ℕ) (hb : Bytes base) (ho : Bytes ours) (ht :
   each-row none r h v =
       let s = source (getD (m .rows) r none) (takes none r h) v in
       let q = chosen-place lists none (m .rows) r h (s .track) (s .is-chosen) in
-      let at : getD (chosenList m .tracks) (placeOf (m .rows) r) (trackOf []) ≡ s .track = ap (λ (x : ThreeLists). getD (flatMap (chosen x) (m .rows)) (placeOf (m .rows) r) (trackOf [])) lists-are ∙ q .1 in (
+      let at : getD (chosenList m .tracks) (placeOf (m .rows) r) (trackOf []) ≡ s .track =
+      ap (λ (x : ThreeLists). getD (flatMap (chosen x) (m .rows)) (placeOf (m .rows) r) (trackOf [])) lists-are ∙ q .1 in (
         omega (arith, q .0, as-many),
         record-fields l bytes-of (chosenList m) accepted (placeOf (m .rows) r) (omega (arith, q .0, many))
             ∙ (λ i. recordOf (lists-are i .base .dimension) (at i))
@@ -181,7 +181,8 @@ record Told (o : Outcome WrittenMerge) (rows out : List ℕ) (counts : Counts) (
   pub rows-are : rowsLeft (what .merged .rows) rows ≡ new
   pub list-is : take k list ≡ what .list
 
-told : (o : Outcome WrittenMerge) (rows out : List ℕ) {counts : Counts} {k : ℕ} {new list : List ℕ} → _≡_ {A = Answer} (afterMergeList o rows out) (Written counts k, (new, list)) → Told o rows out counts k new list
+told : (o : Outcome WrittenMerge) (rows out : List ℕ) {counts : Counts} {k : ℕ} {new list : List ℕ}
+    → _≡_ {A = Answer} (afterMergeList o rows out) (Written counts k, (new, list)) → Told o rows out counts k new list
 told (refused q) rows out {counts} {k} e =
     let f : Refused q ≡ Written counts k = ap (λ (x : Answer). x .0) e in
     let z : _≡_ {A = ℕ} 0 1 = cc in

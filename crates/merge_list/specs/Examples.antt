@@ -1,7 +1,6 @@
 -- Example k of document 01, written as a list: computed on the definitions, down from the bytes of its three lists, and read back.
 use Prim.Native.Nat.{ℕ}
 use mathlib.Core.Path.{_≡_, refl}
-use mathlib.Core.Bool.{true}
 use mathlib.Core.List.{List, [], _∷_, flatMap}
 use lib.Ieee as Ieee
 use lib.Ieee.{ofBits}

@@ -1,7 +1,7 @@
 -- The words of the private functions' contracts: no caller needs them, and no definition that a caller reads.
 use Prim.Native.Nat.{ℕ, _+_, _*_, _<_, _≤_}
 use mathlib.Core.Path.{_≡_}
-use mathlib.Core.Bool.{Bool, cond}
+use mathlib.Core.Bool.{Bool, true, false, cond}
 use mathlib.Core.List.{List, [], _++_, flatMap}
 use lib.Dec.{eqb, ltb}
 use lib.ListN.{length}
@@ -9,12 +9,17 @@ use Rattle.kernel.specs.Answer.{answered}
 use Rattle.kernel.specs.Lists.{tabulate}
 use Rattle.tracks.specs.Read.{contents}
 use Rattle.tracks.specs.Record.{trackRecord}
+use Rattle.tracks.specs.declared.write.WrittenList.{WrittenList}
+use Rattle.tracks.specs.declared.write.WrittenList.the-variants.{Length, Refused}
 use Rattle.merge.specs.Tracks.{ThreeLists, trackCount}
 use Rattle.merge.specs.Rows.{Row, keep, takeOurs, takeTheirs}
 use Rattle.merge.specs.Merge.{MergedLists}
 use Rattle.merge.specs.Buffer.{baseIn, oursIn, theirsIn, verdictIn}
 use Rattle.merge.specs.Private.{held, heldThree}
+use Rattle.merge.specs.declared.Counts.{Counts}
 use Rattle.merge_list.specs.MergeList.{takers}
+use Rattle.merge_list.specs.declared.MergedList.{MergedList}
+use Rattle.merge_list.specs.declared.MergedList.the-variants as merged
 use Rattle.merge.specs.declared.verdict.Offsets.{Offsets}
 
 -- A buffer's length, or that of the longest rows.
@@ -94,3 +99,12 @@ pub record ToPut (base ours theirs rows : List ℕ) (total count : ℕ) (list : 
   pub counted : count ≡ takers (rowsIn rows total)
   pub few : count ≤ 32
   pub room : length list ≡ 14050
+
+-- Whether a list is written, and the answer by that to the list and by a merge's counts.
+abbrev pub isWritten : WrittenList → Bool
+isWritten (Length n) = true
+isWritten (Refused q) = false
+
+abbrev pub answerWith : WrittenList → Counts → MergedList
+answerWith (Length n) counts = merged.Written counts n
+answerWith (Refused q) counts = merged.Refused q

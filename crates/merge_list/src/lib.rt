@@ -2,7 +2,7 @@
 ghost use mathlib.Core.Path.{_≡_};
 ghost use lib.ListN.{length};
 ghost use Rattle.merge_list.specs.MergeList.{mergingList, afterMergeList};
-ghost use Rattle.merge_list.specs.Private.{shorter};
+ghost use Rattle.merge_list.specs.Private.{shorter, isWritten, answerWith};
 
 mod records;
 mod writing;
@@ -33,6 +33,26 @@ fn row_room(n: usize) -> usize
     MOST_ROW_BYTES
 }
 
+// Whether a list is written.
+fn list_written(list: WrittenList) -> bool
+    ensures { λ r. ⌜ r ≡ isWritten list ⌝ }
+{
+    match list {
+        WrittenList::Length(_) => true,
+        WrittenList::Refused(_) => false,
+    }
+}
+
+// The answer, by that to the list and by the merge's counts.
+fn answer_with(list: WrittenList, counts: Counts) -> MergedList
+    ensures { λ r. ⌜ r ≡ answerWith list counts ⌝ }
+{
+    match list {
+        WrittenList::Length(length) => MergedList::Written { counts, length },
+        WrittenList::Refused(q) => MergedList::Refused(q),
+    }
+}
+
 // Merges ours and theirs over their base, as `merge` does, and writes the merged list. The rows go to the front of their buffer and
 // the list to the front of `out`; the rest of both stays. The rows are found in a local array, since a conflict among them refuses.
 pub fn merge_list(
@@ -54,14 +74,9 @@ pub fn merge_list(
     match m {
         Merged::Counts(counts) => {
             let total = counts.full + counts.half + counts.single;
-            let written = write_chosen(base, ours, theirs, &found, total, out);
-            match written {
-                WrittenList::Length(length) => {
-                    copy_bytes(&found[..4 * total], rows, 0);
-                    MergedList::Written { counts, length }
-                }
-                WrittenList::Refused(q) => MergedList::Refused(q),
-            }
+            let list = write_chosen(base, ours, theirs, &found, total, out);
+            copy_bytes(list_written(list), &found[..4 * total], rows, 0);
+            answer_with(list, counts)
         }
         Merged::Refused(q) => MergedList::Refused(q),
     }

@@ -1,5 +1,4 @@
 // The records that rows take, copied one after another.
-ghost use mathlib.Core.Path.{_≡_};
 ghost use Prim.Native.Nat.{_+_, _≤_};
 ghost use lib.ListN.{length};
 ghost use Rattle.tracks.specs.Record.{trackRecord};
@@ -11,18 +10,21 @@ use merge::verdict::TAKE_OURS;
 use merge::verdict::TAKE_THEIRS;
 use tracks::record::track_record;
 
-// Copies bytes into a slice from an index on, and gives the index after them.
-pub(crate) fn copy_bytes(from: &[u8], to: &mut [u8], at: usize) -> usize
-    requires { ⌜ at + length (now from) ≤ length (now to) ⌝ }
-    ensures { λ r. ⌜ Writes (now (from .entry)) (now (to .entry)) at r (now (to .exit)) ⌝ }
+// Copies bytes, where they are wanted, into a slice from an index on, and gives the index after them.
+pub(crate) fn copy_bytes(wanted: bool, from: &[u8], to: &mut [u8], at: usize) -> usize
+    requires { ⌜ at + length (bytesIf wanted (now from)) ≤ length (now to) ⌝ }
+    ensures { λ r. ⌜ Writes (bytesIf wanted (now (from .entry))) (now (to .entry)) at r (now (to .exit)) ⌝ }
 {
+    if !wanted {
+        return at;
+    }
     for i in 0..from.len() {
         to[at + i] = from[i];
     }
     at + from.len()
 }
 
-// Copies the record of track i of a list, where it is wanted.
+// The same of the record of track i of a list.
 fn copy_record(
     wanted: bool,
     list: &[u8],
@@ -34,10 +36,7 @@ fn copy_record(
     requires { ⌜ at + length (bytesIf wanted (trackRecord (now list) (now offsets) i)) ≤ length (now out) ⌝ }
     ensures { λ r. ⌜ Writes (bytesIf wanted (trackRecord (now (list .entry)) (now (offsets .entry)) i)) (now (out .entry)) at r (now (out .exit)) ⌝ }
 {
-    if !wanted {
-        return at;
-    }
-    copy_bytes(track_record(list, offsets, i as usize), out, at)
+    copy_bytes(wanted, track_record(list, offsets, i as usize), out, at)
 }
 
 // Writes the records that the first `total` rows take, after the two bytes of count and dimension, and gives where they end.
@@ -51,7 +50,8 @@ pub(crate) fn write_records(
     out: &mut [u8],
 ) -> usize
     requires { ⌜ RowsStand (now rows) total × RecordsFit (sources (now base) (now ours) (now theirs) offsets) (rowsIn (now rows) total) (now out) ⌝ }
-    ensures { λ r. ⌜ Writes (recordsTaken (sources (now (base .entry)) (now (ours .entry)) (now (theirs .entry)) offsets) (rowsIn (now (rows .entry)) total)) (now (out .entry)) 2 r (now (out .exit)) ⌝ }
+    ensures { λ r. ⌜ Writes (recordsTaken (sources (now (base .entry)) (now (ours .entry)) (now (theirs .entry)) offsets) (rowsIn (now (rows .entry)) total))
+        (now (out .entry)) 2 r (now (out .exit)) ⌝ }
 {
     let base_offsets = offsets.base;
     let ours_offsets = offsets.ours;

@@ -77,13 +77,14 @@ pub(crate) fn write_chosen(
     ensures { λ _. ⌜ now (out .exit)
         ≡ writeBytes (listOfRows (length (now (out .entry))) (found (now (base .entry)) (now (ours .entry)) (now (theirs .entry)) (now (rows .entry)) total)) (now (out .entry)) ⌝ }
 {
-    if with_verdict(rows, total, CONFLICT) != 0 {
-        return WrittenList::Refused(question::NO_CONFLICT);
-    }
+    let conflicts = with_verdict(rows, total, CONFLICT);
     let kept = with_verdict(rows, total, KEEP);
     let from_ours = with_verdict(rows, total, TAKE_OURS);
     let from_theirs = with_verdict(rows, total, TAKE_THEIRS);
     let count = kept + from_ours + from_theirs;
+    if conflicts != 0 {
+        return WrittenList::Refused(question::NO_CONFLICT);
+    }
     if count > 32 {
         return WrittenList::Refused(question::MERGED_COUNT);
     }
@@ -92,6 +93,6 @@ pub(crate) fn write_chosen(
     if out.len() < length {
         return WrittenList::Refused(question::LIST_BUFFER);
     }
-    copy_bytes(&list[..length], out, 0);
+    copy_bytes(true, &list[..length], out, 0);
     WrittenList::Length(length)
 }

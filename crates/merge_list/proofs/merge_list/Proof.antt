@@ -10,20 +10,16 @@ use lib.Dec.{ltb}
 use lib.ListN.{length, take, drop, replicate, length-append, length-drop}
 use lib.Seq.{length-take-le}
 use borrow.Author.Tests.{ltb-true, ltb-false}
-use Rattle.kernel.specs.Answer.{Outcome, answered}
+use Rattle.kernel.specs.Answer.{answered}
 use Rattle.kernel.specs.Lists.{over}
-use Rattle.tracks.specs.Calls.{writeAnswer, writeBytes}
-use Rattle.tracks.proofs.Records.Bytes.{write-accepted, write-refused}
 use Rattle.merge.specs.Rows.{rowBytes}
 use Rattle.merge.specs.Merge.{MergedLists, merging, afterMerge}
 use Rattle.merge.specs.Demand3.{Demanded}
 use Rattle.merge.specs.declared.Counts.{Counts}
 use Rattle.merge.specs.declared.Merged.{Merged}
 use Rattle.merge.specs.declared.Merged.the-variants as merged
-use Rattle.merge_list.specs.MergeList.{listOfRows}
-use Rattle.merge_list.specs.Private.{shorter, rowsIn, found, ToList}
-use Rattle.merge_list.specs.declared.MergedList.the-variants.{Written, Refused}
-use Rattle.merge_list.proofs.Asked.{merge-refused, list-refused, list-written}
+use Rattle.merge_list.specs.Private.{shorter, rowsIn, bytesIf, found, isWritten, answerWith}
+use Rattle.merge_list.proofs.Asked.{merge-refused, list-decides}
 use Rattle.merge_list.proofs.Found.{refusal-found, rows-room, rows-few, to-list, found-is, counts-are, rows-front, room-alike}
 use Rattle.merge_list.proofs.merge_list.Statement.{statement}
 use Rattle.merge_list.proofs.merge_list.Tie as tie
@@ -68,7 +64,8 @@ rest c = drop (c .before .before .row-room .result) zeros
 
 -- it is long enough, or as long as the caller's buffer
 room-is : (c : tie.After-merge) → let x = start-of c .args in
-    merging (now (x .base)) (now (x .ours)) (now (x .theirs)) (x .floor) (x .gate) (length (old c)) ≡ merging (now (x .base)) (now (x .ours)) (now (x .theirs)) (x .floor) (x .gate) (length (now (x .rows)))
+    merging (now (x .base)) (now (x .ours)) (now (x .theirs)) (x .floor) (x .gate) (length (old c))
+    ≡ merging (now (x .base)) (now (x .ours)) (now (x .theirs)) (x .floor) (x .gate) (length (now (x .rows)))
 room-is c =
     let x = start-of c .args in
     let r = c .before .before in
@@ -119,29 +116,31 @@ merged-is c = sym (room-is (merged-at c)) ∙ found-is (rest (merged-at c)) (tol
 write-chosen-requires : tie.Need-write-chosen-requires
 write-chosen-requires c κs = let k = c .before .before .before .before in to-list (rest (merged-at k)) (told k) (demanded k)
 
--- ---- an answer of a length
+-- ---- the rows into the caller's buffer
 
-abbrev known : tie.After-known-told2 → tie.After-known-told
-known c = c .before .before .before .before .before .before .before .before .before .before
+abbrev known : tie.After-write-chosen → tie.After-known-told
+known c = c .before .before .before .before .before
 
-abbrev listed : tie.After-known-told2 → tie.After-write-chosen
-listed c = c .before .before .before .before .before
-
-accepted : (c : tie.After-known-told2) → let x = start-of (merged-at (known c)) .args in
-    (l : List ℕ) × (listOfRows (length (now (x .out))) (found-at (known c)) ≡ answered l) × (c .before .written .given .0 .0 ≡ length l)
-accepted c = write-accepted _ (sym (listed c .write-chosen .ensures .0) ∙ c .before .written .given .1)
+room-in : (c : tie.After-known-told) → 4 * total c ≤ length (array c)
+room-in c = omega (arith, few c, array-long c)
 
 rows-bytes : (c : tie.After-known-told) → take (4 * total c) (array c) ≡ flatMap rowBytes (rowsIn (array c) (total c))
 rows-bytes c = rows-front (rest (merged-at c)) (told c) (demanded c)
 
-room-in : (c : tie.After-known-told) → 4 * total c ≤ length (array c)
-room-in c = omega (arith, rows-few (rest (merged-at c)) (told c) (demanded c), array-long c)
+abbrev listed : tie.After-list-written → tie.After-write-chosen
+listed c = c .before .before .before
+
+-- bytes that are wanted or not are no more than there are
+bytes-few : (b : Bool) (l : List ℕ) → length (bytesIf b l) ≤ length l
+bytes-few true l = omega arith
+bytes-few false l = omega arith
 
 copy-bytes-requires : tie.Need-copy-bytes-requires
 copy-bytes-requires c κs =
-    let k = known (c .before .before) in
+    let k = known (listed (c .before .before)) in
     omega (
       arith,
+      bytes-few (c .before .before .list-written .result) (take (4 * total k) (array k)),
       length-take-le (4 * total k) (array k) (room-in k),
       rows-room (rest (merged-at k)) (told k) (demanded k),
       front-long k,
@@ -150,26 +149,18 @@ copy-bytes-requires c κs =
 
 returns : tie.Need-returns
 returns c =
-    let k : tie.After-known-told2 = c .before .before .before .before .before in
-    let a = merged-at (known k) in
-    let x = start-of a .args in
-    let w = accepted k in
-    let rows-left = c .before .before .copy-bytes .ensures .1 ∙ ap (over (now (x .rows)) 0) (rows-bytes (known k)) in
-    let list-left = listed k .write-chosen .ensures .1 ∙ ap (λ (o : Outcome (List ℕ)). writeBytes o (now (x .out))) (w .1) in
-    (λ i. (Written (counts-are (rest a) (told (known k)) (demanded (known k)) i) (w .2 i), (rows-left i, list-left i)))
-    ∙ list-written (now (x .base)) (now (x .ours)) (now (x .theirs)) (x .floor) (x .gate) (now (x .rows)) (now (x .out)) (merged-is (known k)) (w .1)
+    let w = c .before .before .before .before .before .before in
+    let l = listed w .write-chosen in
+    let k = known (listed w) in
+    let x = start-of (merged-at k) .args in
+    let answer = c .answer-with .ensures ∙ (λ i. answerWith (l .ensures .0 i) (counts-are (rest (merged-at k)) (told k) (demanded k) i)) in
+    let fine = w .list-written .ensures ∙ ap isWritten (l .ensures .0) in
+    let left = c .before .before .before .copy-bytes .ensures .1 ∙ (λ i. over (now (x .rows)) 0 (bytesIf (fine i) (rows-bytes k i))) in
+    (λ i. (answer i, (left i, l .ensures .1 i)))
+    ∙ list-decides (now (x .base)) (now (x .ours)) (now (x .theirs)) (x .floor) (x .gate) (now (x .rows)) (now (x .out)) (merged-is k)
 
 returns-2 : tie.Need-returns-2
 returns-2 c =
-    let k : tie.After-known-told = c .before .before .before .before .before .before .before .before .before .before in
-    let x = start-of (merged-at k) .args in
-    let e = write-refused _ (sym (c .before .before .before .before .before .write-chosen .ensures .0) ∙ c .before .written2 .given .1) in
-    let stays = c .before .before .before .before .before .write-chosen .ensures .1 ∙ ap (λ (o : Outcome (List ℕ)). writeBytes o (now (x .out))) e in
-    (λ i. (Refused (c .before .written2 .given .0 .0), (now (x .rows), stays i)))
-    ∙ list-refused (now (x .base)) (now (x .ours)) (now (x .theirs)) (x .floor) (x .gate) (now (x .rows)) (now (x .out)) (merged-is k) e
-
-returns-3 : tie.Need-returns-3
-returns-3 c =
     let a = c .before .before .before .before in
     let x = start-of a .args in
     let e = refusal-found (old a) _ ((λ i. (sym (c .before .m2 .given .1) i, new a)) ∙ a .merge .ensures .0) in
@@ -180,6 +171,6 @@ merge-list-spec =
     tie.close
     (tie.spec (λ c κs. search needs) (λ c. room-most c .0) (λ c. sym (lent (c .before))) (λ c κs. search needs) (λ c. search needs)
     (λ c. omega (arith, few (c .before))) (λ c. omega (arith, few (c .before .before)))
-    (λ c. sym (array-long (c .before .before .before))) write-chosen-requires (λ c. search needs) (λ c. omega (arith, few (known c))) (λ c. room-in (known c))
-    (λ c. sym (length-take-le (4 * total (known (c .before))) (array (known (c .before))) (room-in (known (c .before))))) copy-bytes-requires
-    (λ c. search needs) (λ c. search needs) (λ c. search needs) (λ c. search needs) returns (λ c. search needs) returns-2 returns-3)
+    (λ c. sym (array-long (c .before .before .before))) write-chosen-requires (λ c κs. search needs) (λ c. omega (arith, few (known (listed c))))
+    (λ c. room-in (known (listed c))) (λ c. let k = known (listed (c .before)) in sym (length-take-le (4 * total k) (array k) (room-in k))) copy-bytes-requires
+    (λ c κs. search needs) (λ c. search needs) (λ c. search needs) (λ c. search needs) returns returns-2)

@@ -1,5 +1,5 @@
 -- `write_records` meets its contract: before turn r the records of the first r rows are written. A turn writes three times, of which one at most writes a byte.
-use Prim.Native.Nat.{ℕ, _+_, _-_, _*_, _<_, _≤_}
+use Prim.Native.Nat.{ℕ, _+_, _-_, _<_}
 use native.Mathlib.Omega.{arith}
 use borrow.Author.Needs.{needs}
 use mathlib.Core.Path.{_≡_, refl, sym}
@@ -53,7 +53,7 @@ laid-base : (c : tie.After-copy-record Inv-loop μ-loop) → let t = turn (c .be
 laid-base c =
     let t = turn (c .before) in
     let e = c .copy-record .ensures in
-    laid-more (t .loop .inv .laid) _ refl (fits-base (lists t) (rows-of t) (now (start-of t .args .out)) (start-of t .pre .1) (inside (c .before))) (e .0) (e .1)
+    laid-more (t .loop .inv .laid) (from-base (lists t) (rows-of t) (t .loop .r)) refl (fits-base (lists t) (rows-of t) (now (start-of t .args .out)) (start-of t .pre .1) (inside (c .before))) (e .0) (e .1)
 
 laid-ours : (c : tie.After-copy-record2 Inv-loop μ-loop) → let t = turn (first (c .before) .before) in let s = lists t in let r = t .loop .r in
     Laid (now (start-of t .args .out)) 2 ((before s (rows-of t) r ++ from-base s (rows-of t) r) ++ from-ours s (rows-of t) r) (c .copy-record2 .result) (c .copy-record2 .last .1 .1 .1 .1 .0)
@@ -61,8 +61,20 @@ laid-ours c =
     let b = first (c .before) in
     let t = turn (b .before) in
     let e = c .copy-record2 .ensures in
-    laid-more (laid-base b) _ refl (fits-ours (lists t) (rows-of t) (now (start-of t .args .out)) (start-of t .pre .1) (inside (b .before))) (e .0) (e .1)
+    laid-more (laid-base b) (from-ours (lists t) (rows-of t) (t .loop .r)) refl (fits-ours (lists t) (rows-of t) (now (start-of t .args .out)) (start-of t .pre .1) (inside (b .before))) (e .0) (e .1)
 
+-- and after the third: the records of one row more
+laid-theirs : (c : tie.After-copy-record3 Inv-loop μ-loop) → let t = turn (first (second (c .before) .before) .before) in
+    Laid (now (start-of t .args .out)) 2 (before (lists t) (rows-of t) (t .loop .r + 1)) (c .copy-record3 .result) (c .copy-record3 .last .1 .1 .1 .1 .0)
+laid-theirs c =
+    let o = second (c .before) in
+    let b = first (o .before) in
+    let t = turn (b .before) in
+    let e = c .copy-record3 .ensures in
+    laid-more (laid-ours o) (from-theirs (lists t) (rows-of t) (t .loop .r)) (taken-more (lists t) (rows-of t) (t .loop .r))
+    (fits-theirs (lists t) (rows-of t) (now (start-of t .args .out)) (start-of t .pre .1) (inside (b .before))) (e .0) (e .1)
+
+-- each of them fits
 copy-record-requires : tie.Need-copy-record-requires Inv-loop μ-loop
 copy-record-requires c κs =
     let t = turn c in
@@ -84,16 +96,7 @@ copy-record-requires-3 c κs =
 loop-again : tie.Need-loop-again Inv-loop μ-loop
 loop-again c =
     let last = c .before .before in
-    let o = second (last .before) in
-    let b = first (o .before) in
-    let t = turn (b .before) in
-    let e = last .copy-record3 .ensures in
-    record {
-      turns = omega (arith, inside (b .before));
-      laid =
-          laid-more (laid-ours o) _ (taken-more (lists t) (rows-of t) (t .loop .r))
-          (fits-theirs (lists t) (rows-of t) (now (start-of t .args .out)) (start-of t .pre .1) (inside (b .before))) (e .0) (e .1);
-    }
+    record { turns = omega (arith, inside (first (second (last .before) .before) .before)); laid = laid-theirs last }
 
 -- the last table of offsets is an array of 33
 last-offsets : (s : tie.Start Inv-loop μ-loop) → length (s .args .offsets .theirs) ≡ 33
@@ -109,5 +112,6 @@ pub write-records-spec : {M : Type 1} → statement M
 write-records-spec =
     tie.close
     (tie.spec Inv-loop μ-loop loop-holds (λ c. omega arith) (λ c. omega arith) (λ c. omega arith) (λ c. search needs) (λ c. omega arith) (λ c. omega arith) copy-record-requires
-    (λ c. search needs) (λ c. omega arith) (λ c. omega arith) (λ c. omega arith) copy-record-requires-2 (λ c. sym (last-offsets (c .before .before .before .before .before .before .before .before .before .before .before .before .before .before .before .before .before .before .before .before .before .before .before .before))) (λ c. omega arith) (λ c. omega arith) (λ c. omega arith)
+    (λ c. search needs) (λ c. omega arith) (λ c. omega arith) (λ c. omega arith) copy-record-requires-2
+    (λ c. sym (last-offsets (start-of (turn (first (c .before .before .before .before) .before))))) (λ c. omega arith) (λ c. omega arith) (λ c. omega arith)
     copy-record-requires-3 (λ c. omega arith) (λ c. omega arith) loop-again same-length returns)

@@ -33,38 +33,41 @@ promised : (c : tie.Start) {o : Outcome (List ℕ)} → defined c ≡ o → {r :
     → (r ≡ writeAnswer (defined c)) × (new ≡ writeBytes (defined c) (now (c .args .out)))
 promised c e p q = (p ∙ ap writeAnswer (sym e), q ∙ ap (λ (o : Outcome (List ℕ)). writeBytes o (now (c .args .out))) (sym e))
 
-returns : tie.Need-returns
-returns c =
-    let s = c .before .before .before .before .before .before .before in
-    promised s (asked-21 (length (now (s .args .out))) (merged s) (λ z. c .if1 .taken (c .before .with-verdict .ensures .0 ∙ z))) refl refl
-
 -- the places, each from a later one
 abbrev start-of : tie.After-with-verdict4 → tie.Start
-start-of c = c .before .before .before .before .before .before .before .before .before .before
+start-of c = c .before .before .before .before .before .before .before .before .before
 
-abbrev asked : tie.After-put-list → tie.After-with-verdict4
-asked c = c .before .before .before
+abbrev met : tie.After-put-list → tie.Else1
+met c = c .before .before .before
 
--- no row is a conflict, and so many take a track
-met-21 : (c : tie.After-with-verdict4) → withVerdict conflict (merged (start-of c) .rows) ≡ 0
-met-21 c = let e = c .before .before .before in sym (e .before .with-verdict .ensures .0) ∙ e .if1 .left
+-- so many rows are conflicts, and so many take a track
+conflicts : (c : tie.After-with-verdict4) → c .before .before .before .with-verdict .result ≡ withVerdict conflict (merged (start-of c) .rows)
+conflicts c = c .before .before .before .with-verdict .ensures .0
 
 counted : (c : tie.After-with-verdict4)
     → c .before .before .with-verdict2 .result + c .before .with-verdict3 .result + c .with-verdict4 .result ≡ takers (merged (start-of c) .rows)
 counted c = omega (arith, c .before .before .with-verdict2 .ensures .0, c .before .with-verdict3 .ensures .0, c .with-verdict4 .ensures .0)
 
+returns : tie.Need-returns
+returns c =
+    let s = start-of (c .before) in
+    promised s (asked-21 (length (now (s .args .out))) (merged s) (λ z. c .if1 .taken (conflicts (c .before) ∙ z))) refl refl
+
+met-21 : (c : tie.Else1) → withVerdict conflict (merged (start-of (c .before)) .rows) ≡ 0
+met-21 c = sym (conflicts (c .before)) ∙ c .if1 .left
+
 returns-2 : tie.Need-returns-2
 returns-2 c =
-    let v = c .before in
-    let s = start-of v in
-    promised s (asked-22 (length (now (s .args .out))) (merged s) (met-21 v) (omega (arith, counted v, c .if2 .taken))) refl refl
+    let e = c .before in
+    let s = start-of (e .before) in
+    promised s (asked-22 (length (now (s .args .out))) (merged s) (met-21 e) (omega (arith, counted (e .before), c .if2 .taken))) refl refl
 
-few : (c : tie.After-put-list) → takers (merged (start-of (asked c)) .rows) ≤ 32
-few c = omega (arith, counted (asked c), c .before .before .if2 .left)
+few : (c : tie.After-put-list) → takers (merged (start-of (met c .before)) .rows) ≤ 32
+few c = omega (arith, counted (met c .before), c .before .before .if2 .left)
 
 -- the list, and that it stands in the local array
 abbrev list-of : tie.After-put-list → List ℕ
-list-of c = listOf (chosenList (merged (start-of (asked c))))
+list-of c = listOf (chosenList (merged (start-of (met c .before))))
 
 front : (c : tie.After-put-list) → take (c .put-list .result) (c .put-list .last .1 .1 .1 .1 .1 .1 .0) ≡ list-of c
 front c = let e = c .put-list .ensures .0 in ap (take (c .put-list .result)) (e .1) ∙ take-over _ (list-of c) (c .put-list .result) (omega (arith, e .0))
@@ -72,8 +75,8 @@ front c = let e = c .put-list .ensures .0 in ap (take (c .put-list .result)) (e 
 returns-3 : tie.Need-returns-3
 returns-3 c =
     let p = c .before .before in
-    let s = start-of (asked p) in
-    promised s (asked-20 (length (now (s .args .out))) (merged s) (met-21 (asked p)) (few p) (omega (arith, p .put-list .ensures .0 .0, c .if3 .taken))) refl refl
+    let s = start-of (met p .before) in
+    promised s (asked-20 (length (now (s .args .out))) (merged s) (met-21 (met p)) (few p) (omega (arith, p .put-list .ensures .0 .0, c .if3 .taken))) refl refl
 
 slice-aggregate-copy-bytes : tie.Need-slice-aggregate-copy-bytes
 slice-aggregate-copy-bytes c = let p = c .before .before .before in omega (arith, p .put-list .ensures .0 .0, ap length (front p))
@@ -86,14 +89,14 @@ copy-bytes-requires c κs =
 returns-4 : tie.Need-returns-4
 returns-4 c =
     let p = c .before .before .before .before .before .before .before in
-    let s = start-of (asked p) in
+    let s = start-of (met p .before) in
     let out = now (s .args .out) in
     let long : p .put-list .result ≡ length (list-of p) = omega (arith, p .put-list .ensures .0 .0) in
-    promised s (asked-list (length out) (merged s) (met-21 (asked p)) (few p) (omega (arith, long, c .before .before .before .before .before .if3 .left))) (ap Length long)
+    promised s (asked-list (length out) (merged s) (met-21 (met p)) (few p) (omega (arith, long, c .before .before .before .before .before .if3 .left))) (ap Length long)
     (c .before .before .copy-bytes .ensures .1 ∙ ap (over out 0) (front p))
 
 pub write-chosen-spec : {M : Type 1} → statement M
 write-chosen-spec =
     tie.close
-    (tie.spec (λ c κs. search needs) returns (λ c κs. search needs) (λ c κs. search needs) (λ c κs. search needs) (λ c. search needs) (λ c. search needs) returns-2
+    (tie.spec (λ c κs. search needs) (λ c κs. search needs) (λ c κs. search needs) (λ c κs. search needs) (λ c. search needs) (λ c. search needs) returns returns-2
     (λ c. search needs) (λ c κs. search needs) returns-3 (λ c. c .before .before .put-list .ensures .1) slice-aggregate-copy-bytes copy-bytes-requires (λ c. search needs) returns-4)
