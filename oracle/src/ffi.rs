@@ -193,6 +193,24 @@ extern "C" {
         half: &mut usize,
         single: &mut usize,
     ) -> u32;
+    fn pel_merge_list(
+        base: *const u8,
+        base_len: usize,
+        ours: *const u8,
+        ours_len: usize,
+        theirs: *const u8,
+        theirs_len: usize,
+        floor: f64,
+        gate: f64,
+        rows: *mut u8,
+        rows_len: usize,
+        out: *mut u8,
+        out_len: usize,
+        full: &mut usize,
+        half: &mut usize,
+        single: &mut usize,
+        length: &mut usize,
+    ) -> u32;
     fn pel_winner(
         ours: *const u8,
         ours_len: usize,
@@ -433,6 +451,37 @@ pub fn merge(lists: [&[u8]; 3], within: (f64, f64), rows: &mut [u8], counts: [&m
             full,
             half,
             single,
+        )
+    }
+}
+
+/// The same, and the merged list goes to the second buffer; its length stands after the counts.
+pub fn merge_list(
+    lists: [&[u8]; 3],
+    within: (f64, f64),
+    rows: &mut [u8],
+    out: &mut [u8],
+    numbers: [&mut usize; 4],
+) -> u32 {
+    let ([base, ours, theirs], (floor, gate), [full, half, single, length]) = (lists, within, numbers);
+    unsafe {
+        pel_merge_list(
+            base.as_ptr(),
+            base.len(),
+            ours.as_ptr(),
+            ours.len(),
+            theirs.as_ptr(),
+            theirs.len(),
+            floor,
+            gate,
+            rows.as_mut_ptr(),
+            rows.len(),
+            out.as_mut_ptr(),
+            out.len(),
+            full,
+            half,
+            single,
+            length,
         )
     }
 }

@@ -1,5 +1,7 @@
-//! `oracle quick` or `oracle long`, with the topics or the matrix calls to run, or all; `oracle selftest` plants faults and expects
-//! each to be found; `oracle vectors` writes the frozen answers, and `oracle vectors check` compares them with those that stand.
+//! `oracle quick` or `oracle long`, with the topics, the matrix calls or `merge_list` to run, or all; `oracle selftest` plants faults
+//! and expects each to be found; `oracle vectors` writes the frozen answers, and `oracle vectors check` compares them with those that
+//! stand.
+use oracle::merge::list::run::{self as merged_lists, MERGE_LIST};
 use oracle::merge::{checks, program, run as merges};
 use oracle::{comparisons, dump, ffi, lists, matrix, number, selftest, source, tally, vectors};
 use std::process::ExitCode;
@@ -38,6 +40,9 @@ fn compare(long: bool, wanted: &dyn Fn(&str) -> bool) -> u64 {
         differences += merges::run(merges::amount(long), long);
         differences += program::run(if long { 2_000 } else { 300 });
     }
+    if wanted("merge") || wanted(MERGE_LIST) {
+        differences += merged_lists::run(merged_lists::amount(long), long);
+    }
     if wanted("dump") {
         differences += dump::run(long);
     }
@@ -64,9 +69,9 @@ fn main() -> ExitCode {
         }
         ["vectors", "check"] => ended(source::differences() + vectors::check()),
         [form @ ("quick" | "long"), ref topics @ ..] => {
-            let is_call = |word: &str| matrix::calls().any(|(_, call)| call.name == word);
+            let is_call = |word: &str| word == MERGE_LIST || matrix::calls().any(|(_, call)| call.name == word);
             if let Some(word) = topics.iter().find(|word| !TOPICS.contains(word) && !is_call(word)) {
-                return usage(&format!("{word} is no topic and no matrix call\n"));
+                return usage(&format!("{word} is no topic, no matrix call and not {MERGE_LIST}\n"));
             }
             if form == "long" {
                 tally::tell_progress();

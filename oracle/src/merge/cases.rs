@@ -48,7 +48,7 @@ pub const HERDS: &[(&str, Draw)] = &[
 ];
 
 /// A state and the lower triangle of a covariance, by its entries.
-fn track(state: Vec<f64>, mut entry: impl FnMut(usize, usize) -> f64) -> Track {
+pub fn track(state: Vec<f64>, mut entry: impl FnMut(usize, usize) -> f64) -> Track {
     let d = state.len();
     let mut fields = state;
     for i in 0..d {
@@ -199,6 +199,15 @@ fn gate_between(rng: &mut Rng, tracks: &[Vec<Track>; 3], d: usize, within: Withi
     }
 }
 
+/// The length of a row buffer that is long enough for so many tracks.
+pub fn room(rng: &mut Rng, tracks: usize) -> usize {
+    match rng.below(3) {
+        0 => 4 * tracks,
+        1 => 4 * tracks + 1 + rng.below(8) as usize,
+        _ => rng.one_of(&[4 * 3 * COUNTS, 4096]),
+    }
+}
+
 /// A merge that is answered.
 pub fn draw(rng: &mut Rng) -> Case {
     let d = 1 + rng.below(DIMENSIONS as u64) as usize;
@@ -216,12 +225,7 @@ pub fn draw_of(rng: &mut Rng, d: usize, n: usize) -> Case {
     if rng.below(4) == 0 {
         within.gate = gate_between(rng, &tracks, d, within);
     }
-    let needed: usize = 4 * tracks.iter().map(Vec::len).sum::<usize>();
-    let room = match rng.below(3) {
-        0 => needed,
-        1 => needed + 1 + rng.below(8) as usize,
-        _ => rng.one_of(&[4 * 3 * COUNTS, 4096]),
-    };
+    let room = room(rng, tracks.iter().map(Vec::len).sum());
     let lists = tracks.each_ref().map(|tracks| listed(tracks, d));
     Case { class, lists, within, room }
 }

@@ -1,7 +1,9 @@
 //! What the second merger itself is held to: examples worked out by hand, and document 01's sentences on rows and counts.
 use super::cases::listed;
+use super::list::reference::{merge_list, MergedList};
 use super::pairings::{by_order, by_size, by_trying, Candidate};
 use super::reference::{merge, Merged, Within, NONE};
+use crate::lists::{self, LONGEST};
 use crate::rng::Rng;
 
 /// Floor and gate of the program and of the examples.
@@ -21,8 +23,11 @@ pub fn text(answer: &Result<Merged, u32>) -> String {
     lines + &format!("{} {} {}\n", merged.full, merged.half, merged.single)
 }
 
-/// Lists of dimension 1 by their states and variances, and the lines by hand.
-type Example = ([&'static [(f64, f64)]; 3], &'static str);
+/// A list of dimension 1 by its states and variances.
+type Tracks = &'static [(f64, f64)];
+
+/// Three such lists, the lines by hand, and the merged list or the number that it is refused with.
+type Example = ([Tracks; 3], &'static str, Result<Tracks, u32>);
 
 const EXAMPLES: &[Example] = &[
     // k of document 01.
@@ -33,21 +38,27 @@ const EXAMPLES: &[Example] = &[
             &[(10.0, 1.0), (20.0, 1.0), (30.5, 1.0)],
         ],
         "0 0 0 0\n1 - 1 3\n2 1 2 2\n2 1 0\n",
+        Ok(&[(10.0, 1.0), (30.5, 1.0)]),
     ),
-    ([&[], &[], &[]], "0 0 0\n"),
+    ([&[], &[], &[]], "0 0 0\n", Ok(&[])),
     // Paired crosswise, not by place; theirs is left with nobody near.
-    ([&[(10.0, 1.0), (20.0, 1.0)], &[(20.0, 1.0), (10.0, 1.0)], &[(60.0, 1.0)]], "0 1 - 3\n1 0 - 3\n- - 0 2\n0 2 1\n"),
+    (
+        [&[(10.0, 1.0), (20.0, 1.0)], &[(20.0, 1.0), (10.0, 1.0)], &[(60.0, 1.0)]],
+        "0 1 - 3\n1 0 - 3\n- - 0 2\n0 2 1\n",
+        Ok(&[(60.0, 1.0)]),
+    ),
     // Ours 0 is as far from base 0 as from base 1, then theirs 0 as far as theirs 1: the lower place wins.
-    ([&[(0.0, 1.0), (4.0, 1.0)], &[(2.0, 1.0)], &[]], "0 0 - 4\n1 - - 3\n0 1 1\n"),
-    ([&[(4.0, 1.0)], &[], &[(6.0, 1.0), (2.0, 1.0)]], "0 - 0 4\n- - 1 2\n0 1 1\n"),
+    ([&[(0.0, 1.0), (4.0, 1.0)], &[(2.0, 1.0)], &[]], "0 0 - 4\n1 - - 3\n0 1 1\n", Err(21)),
+    ([&[(4.0, 1.0)], &[], &[(6.0, 1.0), (2.0, 1.0)]], "0 - 0 4\n- - 1 2\n0 1 1\n", Err(21)),
     // Base 1 and ours 0 are nearest; base 0 is left with ours 1, at d² 8.
-    ([&[(0.0, 1.0), (3.0, 1.0)], &[(2.0, 1.0), (4.0, 1.0)], &[]], "0 1 - 4\n1 0 - 4\n0 2 0\n"),
+    ([&[(0.0, 1.0), (3.0, 1.0)], &[(2.0, 1.0), (4.0, 1.0)], &[]], "0 1 - 4\n1 0 - 4\n0 2 0\n", Err(21)),
     // At the gate, d² 16, and past it.
-    ([&[(0.0, 0.5), (100.0, 0.5)], &[(4.0, 0.5), (104.25, 0.5)], &[]], "0 0 - 4\n1 - - 3\n- 1 - 1\n0 1 2\n"),
+    ([&[(0.0, 0.5), (100.0, 0.5)], &[(4.0, 0.5), (104.25, 0.5)], &[]], "0 0 - 4\n1 - - 3\n- 1 - 1\n0 1 2\n", Err(21)),
     // Both sides changed base alike; both added one track alike, and one differently.
     (
         [&[(0.0, 1.0)], &[(1.0, 1.0), (50.0, 1.0), (90.0, 1.0)], &[(90.5, 1.0), (50.0, 1.0), (1.0, 1.0)]],
         "0 0 2 1\n- 1 1 1\n- 2 0 4\n1 2 0\n",
+        Err(21),
     ),
     // Theirs stayed; both changed differently; a zero of the other sign is another record.
     (
@@ -57,20 +68,35 @@ const EXAMPLES: &[Example] = &[
             &[(0.0, 1.0), (52.0, 1.0), (90.0, 1.0)],
         ],
         "0 0 0 1\n1 1 1 4\n2 2 2 1\n3 0 0\n",
+        Err(21),
     ),
-    ([&[(0.0, 1.0)], &[(-0.0, 1.0)], &[(0.0, 1.0)]], "0 0 0 1\n1 0 0\n"),
-    ([&[], &[(0.0, 1.0)], &[(-0.0, 1.0)]], "- 0 0 4\n0 1 0\n"),
+    // Ours has changed base 1 and added one, theirs has changed base 0 and added another, and base 2 stays.
+    (
+        [
+            &[(0.0, 1.0), (50.0, 1.0), (90.0, 1.0)],
+            &[(70.0, 1.0), (90.0, 1.0), (51.0, 1.0), (0.0, 1.0)],
+            &[(50.0, 1.0), (90.0, 1.0), (1.0, 0.0), (20.0, 1.0)],
+        ],
+        "0 3 2 2\n1 2 0 1\n2 1 1 0\n- 0 - 1\n- - 3 2\n3 0 2\n",
+        Ok(&[(1.0, 0.0), (51.0, 1.0), (90.0, 1.0), (70.0, 1.0), (20.0, 1.0)]),
+    ),
+    ([&[(0.0, 1.0)], &[(-0.0, 1.0)], &[(0.0, 1.0)]], "0 0 0 1\n1 0 0\n", Ok(&[(-0.0, 1.0)])),
+    ([&[], &[(0.0, 1.0)], &[(-0.0, 1.0)]], "- 0 0 4\n0 1 0\n", Err(21)),
     // Theirs 1 is free of base and nearer to ours 0 than theirs 0, which base took; ours 0 is base's, too.
-    ([&[(0.0, 1.0)], &[(3.0, 1.0)], &[(0.5, 1.0), (3.0, 1.0)]], "0 0 0 4\n- - 1 2\n1 0 1\n"),
+    ([&[(0.0, 1.0)], &[(3.0, 1.0)], &[(0.5, 1.0), (3.0, 1.0)]], "0 0 0 4\n- - 1 2\n1 0 1\n", Err(21)),
     // The repair lifts a variance of 0 to the floor: d² 16, and 25 where it is 25 / 1.
-    ([&[(0.0, 0.0), (50.0, 0.0)], &[(4.0, 0.0), (55.0, 0.0)], &[]], "0 0 - 4\n1 - - 3\n- 1 - 1\n0 1 2\n"),
+    ([&[(0.0, 0.0), (50.0, 0.0)], &[(4.0, 0.0), (55.0, 0.0)], &[]], "0 0 - 4\n1 - - 3\n- 1 - 1\n0 1 2\n", Err(21)),
 ];
 
 fn examples() {
-    for (lists, wanted) in EXAMPLES {
-        let lists = lists.map(|tracks| listed(&tracks.iter().map(|(x, p)| vec![*x, *p]).collect::<Vec<_>>(), 1));
-        let answer = merge([&lists[0], &lists[1], &lists[2]], WITHIN, 384, by_size);
+    let of = |tracks: Tracks| listed(&tracks.iter().map(|(x, p)| vec![*x, *p]).collect::<Vec<_>>(), 1);
+    for (lists, wanted, merged) in EXAMPLES {
+        let lists = lists.map(of);
+        let lists = [&lists[0][..], &lists[1], &lists[2]];
+        let answer = merge(lists, WITHIN, 384, by_size);
         assert!(text(&answer) == *wanted, "the second merger answers\n{}where it is\n{wanted}", text(&answer));
+        let list = merge_list(lists, WITHIN, [384, LONGEST], by_size).map(|list| list.bytes);
+        assert!(list == merged.map(of), "the second merger writes {list:?} where the rows are\n{wanted}");
     }
 }
 
@@ -119,6 +145,16 @@ pub fn whole(merged: &Merged, counts: [usize; 3]) {
         pairs.sort_unstable();
         assert!(shown == pairs, "the rows show {shown:?}, paired are {pairs:?}");
     }
+}
+
+/// The list that the second merger writes: the second writer makes it of the tracks' fields, and the second reader finds these.
+pub fn list(list: &MergedList) {
+    let MergedList { count, dimension, bytes, values, .. } = list;
+    let made = lists::write(*count, *dimension, values);
+    assert!(made.as_ref() == Ok(bytes), "{bytes:?} is written where the tracks make {made:?}");
+    let read = lists::read(bytes).expect("a merged list that is accepted");
+    let bits = |values: &[f64]| values.iter().map(|x| x.to_bits()).collect::<Vec<u64>>();
+    assert!(read.dimension == *dimension && bits(&read.values) == bits(values), "other tracks in {bytes:?}");
 }
 
 pub fn run() {

@@ -87,6 +87,20 @@ pub fn fault(rng: &mut Rng, case: &mut Case, list: usize, question: u32) {
     }
 }
 
+/// One fault in some list, each time the next question's; answers the list.
+pub fn one_fault(rng: &mut Rng, case: &mut Case, time: u32) -> usize {
+    let list = rng.below(3) as usize;
+    fault(rng, case, list, FIRST + time % QUESTIONS);
+    list
+}
+
+/// Two faults in two lists, each time the next pair of questions.
+pub fn two_faults(rng: &mut Rng, case: &mut Case, time: u32) {
+    let list = one_fault(rng, case, time);
+    let other = (list + 1 + rng.below(2) as usize) % 3;
+    fault(rng, case, other, FIRST + time / QUESTIONS % QUESTIONS);
+}
+
 /// One bit of a list turned: a refusal of some number, or another list.
 pub fn turn_bit(rng: &mut Rng, case: &mut Case) {
     let list = &mut case.lists[rng.below(3) as usize];

@@ -30,7 +30,7 @@ fn across_the_gate(rng: &mut Rng, track: &mut Track, d: usize, within: Within) {
 }
 
 /// A zero gets the other sign, or a field its neighbour: equal to a distance, and another record.
-fn barely(rng: &mut Rng, track: &mut Track) {
+pub fn barely(rng: &mut Rng, track: &mut Track) {
     let zero = track.iter().position(|x| *x == 0.0);
     match zero {
         Some(at) if rng.below(2) == 0 => track[at] = -track[at],
@@ -49,9 +49,9 @@ fn exchange_states(rng: &mut Rng, tracks: &mut [Track], d: usize) {
     }
 }
 
-fn shuffle(rng: &mut Rng, tracks: &mut [Track]) {
-    for i in (1..tracks.len()).rev() {
-        tracks.swap(i, rng.below(i as u64 + 1) as usize);
+pub fn shuffle<T>(rng: &mut Rng, all: &mut [T]) {
+    for i in (1..all.len()).rev() {
+        all.swap(i, rng.below(i as u64 + 1) as usize);
     }
 }
 

@@ -1,7 +1,7 @@
 //! The library's merge and winner beside the second merger.
 use super::cases::{draw, draw_of, Case};
 use super::checks;
-use super::damage::{fault, turn_bit, FIRST, QUESTIONS};
+use super::damage::{one_fault, turn_bit, two_faults};
 use super::pairings::by_size;
 use super::reference::{merge, winner, Merged, Within};
 use crate::faults::{self, End, Fault, Kind, Met, Shape};
@@ -245,21 +245,12 @@ pub fn run(amount: u32, every: bool) -> u64 {
         seen: Seen::default(),
     };
     let mut rng = Rng::new(37);
-    let question = |turn: u32| FIRST + turn % QUESTIONS;
     for turn in 0..amount {
         let mut case = draw(&mut rng);
         match turn % 8 {
             0 => turn_bit(&mut rng, &mut case),
-            1 => {
-                let list = rng.below(3) as usize;
-                fault(&mut rng, &mut case, list, question(turn / 8));
-            }
-            2 | 3 => {
-                let list = rng.below(3) as usize;
-                fault(&mut rng, &mut case, list, question(turn / 8));
-                let other = (list + 1 + rng.below(2) as usize) % 3;
-                fault(&mut rng, &mut case, other, question(turn / 8 / QUESTIONS));
-            }
+            1 => drop(one_fault(&mut rng, &mut case, turn / 8)),
+            2 | 3 => two_faults(&mut rng, &mut case, turn / 8),
             _ => {}
         }
         compared.case(&mut rng, &case);

@@ -1,0 +1,204 @@
+//! The library's merge with its list beside the second one.
+use super::cases::{self, Buffer, Drawn, Plan};
+use super::reference::{length, merge_list, winners, written, MergedList, HEAD};
+use crate::ffi;
+use crate::lent::Lent;
+use crate::lists::{COUNTS, DIMENSIONS};
+use crate::merge::cases::Case;
+use crate::merge::checks;
+use crate::merge::pairings::by_size;
+use crate::merge::reference::merge;
+use crate::rng::Rng;
+use crate::tally::{self, Tally};
+
+pub const MERGE_LIST: &str = "merge_list";
+
+/// The merge's questions and then those of the list, in their order.
+const REFUSES: &[u32] = &[9, 10, 11, 12, 13, 14, 15, 16, 17, 18, 19, 21, 22, 20];
+
+/// What the merges that were compared had in them.
+#[derive(Default)]
+struct Seen {
+    written: u64,
+    /// Lists of no track, of 32, and those that their buffer just holds.
+    empty: u64,
+    most: u64,
+    exact: u64,
+    /// Records of base, ours and theirs, and rows that write none.
+    records: [u64; 3],
+    deleted: u64,
+    /// Refused by 21, by 22, and by 20.
+    refused: [u64; 3],
+}
+
+impl Seen {
+    fn answered(&mut self, wanted: &Result<MergedList, u32>, room: usize) {
+        let list = match wanted {
+            Ok(list) => list,
+            Err(number) => {
+                let place = [21, 22, 20].iter().position(|question| question == number);
+                return place.into_iter().for_each(|place| self.refused[place] += 1);
+            }
+        };
+        self.written += 1;
+        self.empty += u64::from(list.count == 0);
+        self.most += u64::from(list.count == COUNTS);
+        self.exact += u64::from(list.bytes.len() == room);
+        winners(&list.merged.rows).iter().for_each(|(list, _)| self.records[*list] += 1);
+        self.deleted += (list.merged.rows.len() - list.count) as u64;
+    }
+
+    fn print(&self) {
+        let [conflict, many, short] = self.refused;
+        println!(
+            "merge_list: {} lists written, {conflict} refused by 21, {many} by 22, {short} by 20; of those written {} have no track, {} have 32, {} fill their buffer",
+            self.written, self.empty, self.most, self.exact
+        );
+        let [base, ours, theirs] = self.records;
+        println!(
+            "merge_list: records {base} of base, {ours} of ours, {theirs} of theirs; {} rows without one",
+            self.deleted
+        );
+    }
+
+    /// Whether lists of every kind, records of all three lists and every refusal were there.
+    fn is_whole(&self) -> bool {
+        let lists = [self.written, self.empty, self.most, self.exact, self.deleted];
+        [&lists[..], &self.records, &self.refused].concat().iter().all(|n| *n > 0)
+    }
+}
+
+/// Whether the library's reader finds the tracks that the second merger chose.
+fn reads_back(list: &[u8], wanted: &MergedList) -> bool {
+    let mut values = Lent::<f64>::marked(wanted.values.len());
+    let (mut count, mut dimension) = (0, 0);
+    let number = ffi::read_list(list, values.slice_mut(), &mut count, &mut dimension);
+    (number, count, dimension) == (0, wanted.count, wanted.dimension) && values.begins_with(&wanted.values)
+}
+
+struct Compared {
+    lists: Tally,
+    seen: Seen,
+}
+
+impl Compared {
+    /// One merge with its list: the answer, both buffers and all other memory.
+    fn case(&mut self, drawn: &Drawn) {
+        let case = &drawn.case;
+        let merged = merge(case.slices(), case.within, case.room, by_size);
+        let needed = merged.as_ref().map_or(HEAD, |merged| length(case.slices(), &merged.rows));
+        let room = drawn.buffer.length(needed);
+        let wanted = merged.and_then(|merged| written(case.slices(), merged, room));
+        if let Some(planned) = drawn.planned {
+            let found = wanted.as_ref().map(|list| list.count).map_err(|number| *number);
+            assert!(found == planned, "drawn for {planned:?}, and {found:?}: {}", case.describe());
+        }
+
+        let [base, ours, theirs] = case.slices().map(Lent::holding);
+        let [mut rows, mut out] = [case.room, room].map(Lent::<u8>::marked);
+        let [mut full, mut half, mut single, mut length] = [0; 4].map(|_| Lent::<usize>::marked(1));
+        let lists = [base.slice(), ours.slice(), theirs.slice()];
+        let numbers = [full.one(), half.one(), single.one(), length.one()];
+        let within = (case.within.floor, case.within.gate);
+        let number = ffi::merge_list(lists, within, rows.slice_mut(), out.slice_mut(), numbers);
+
+        let number_wanted = wanted.as_ref().err().copied().unwrap_or(0);
+        let (rows_wanted, list_wanted, numbers_wanted) = match &wanted {
+            Ok(list) => {
+                checks::list(list);
+                let of = &list.merged;
+                (of.rows.as_flattened(), &list.bytes[..], vec![of.full, of.half, of.single, list.bytes.len()])
+            }
+            Err(_) => (&[][..], &[][..], vec![]),
+        };
+        let told = [&full, &half, &single, &length];
+        let agrees = number == number_wanted
+            && rows.begins_with(rows_wanted)
+            && out.begins_with(list_wanted)
+            && (0..4).all(|at| told[at].begins_with(numbers_wanted.get(at..at + 1).unwrap_or_default()));
+        let kept = [&base, &ours, &theirs].into_iter().all(Lent::is_untouched);
+        let list = out.slice().get(..length.slice()[0]);
+        let read = wanted.iter().all(|wanted| list.is_some_and(|list| reads_back(list, wanted)));
+        self.seen.answered(&wanted, room);
+        self.lists.refused(number_wanted);
+        self.lists.case(agrees && kept && read, || {
+            let numbers_told = told.map(|number| number.slice()[0]);
+            format!(
+                "answers {number}, {numbers_told:?}, not {number_wanted}, {numbers_wanted:?}, or other memory; rows {:?}, \
+                 not {rows_wanted:?}; list {:02x?}, not {list_wanted:02x?}; the lists {}, the list is {}\n    {room} bytes of list, {}",
+                &rows.slice()[..rows_wanted.len()],
+                &out.slice()[..list_wanted.len()],
+                if kept { "stay" } else { "are changed" },
+                if read { "read back" } else { "not read back" },
+                case.describe()
+            )
+        });
+    }
+
+    /// One list, lent three times, is its own merge.
+    fn one_list(&mut self, mut case: Case) {
+        case.lists = [0, 1, 2].map(|_| case.lists[0].clone());
+        let list = Lent::holding(&case.lists[0]);
+        let room = [4 * 3 * COUNTS, list.slice().len()];
+        let [mut rows, mut out] = room.map(Lent::<u8>::marked);
+        let [mut full, mut half, mut single, mut length] = [0; 4];
+        let numbers = [&mut full, &mut half, &mut single, &mut length];
+        let within = (case.within.floor, case.within.gate);
+        let number = ffi::merge_list([list.slice(); 3], within, rows.slice_mut(), out.slice_mut(), numbers);
+        let wanted = merge_list(case.slices(), case.within, room, by_size);
+        let merged = &wanted.as_ref().expect("a list without a conflict").merged;
+        let agrees = number == 0
+            && [full, half, single, length] == [merged.full, merged.half, merged.single, room[1]]
+            && rows.begins_with(merged.rows.as_flattened())
+            && out.begins_with(list.slice())
+            && list.is_untouched();
+        self.seen.answered(&wanted, room[1]);
+        self.lists.refused(0);
+        self.lists.case(agrees, || format!("one list three times: {}", case.describe()));
+    }
+}
+
+/// So many merges are drawn in the quick form, and in the long one.
+pub fn amount(long: bool) -> u32 {
+    if long {
+        100_000
+    } else {
+        6_000
+    }
+}
+
+/// So many merges of all kinds, and then lists of every count and dimension, or of some; answers the number of differences.
+pub fn run(amount: u32, every: bool) -> u64 {
+    let mut compared =
+        Compared { lists: Tally::refusing(MERGE_LIST, REFUSES, u64::from(amount / 200)), seen: Seen::default() };
+    let mut rng = Rng::new(47);
+    for turn in 0..amount {
+        let drawn = match turn % 10 {
+            at @ 0..=3 => cases::damaged(&mut rng, turn / 10 * 4 + at),
+            at @ 4..=5 => cases::any(&mut rng, at),
+            6 | 7 => cases::written(&mut rng),
+            at => cases::refused(&mut rng, turn / 10 * 2 + at % 2),
+        };
+        compared.case(&drawn);
+        compared.lists.done(turn as usize + 1, amount as usize);
+    }
+    for d in 1..=DIMENSIONS {
+        // Large merges of a high dimension take milliseconds.
+        let step = if every || d <= 3 { 1 } else { 8 };
+        for winners in (0..=COUNTS).step_by(step) {
+            let case = cases::draw_of(&mut rng, d, Plan { winners, ..Plan::default() });
+            compared.case(&Drawn { case: case.clone(), buffer: Buffer::By(0), planned: Some(Ok(winners)) });
+            compared.one_list(case);
+        }
+        compared.lists.done(d, DIMENSIONS);
+    }
+    if tally::is_quiet() {
+        return 0;
+    }
+    compared.seen.print();
+    let missed = u64::from(!compared.seen.is_whole());
+    if missed != 0 {
+        println!("merge_list: a kind of list or of refusal was never met");
+    }
+    compared.lists.close() + missed
+}
