@@ -3,6 +3,8 @@
 use crate::lent::Memory;
 use std::cell::Cell;
 
+mod merges;
+
 /// The first entry that is written, or the last.
 #[derive(Clone, Copy, Debug, PartialEq)]
 pub enum End {
@@ -29,6 +31,8 @@ pub enum Fault {
     Beside(usize, End),
     /// A refusal touches an entry.
     RefusalWrites(usize, End),
+    /// A part is written before this question is asked.
+    WrittenBefore(u32, usize),
     /// An answer, or a refusal, changes a slice that is only read.
     AnswerChangesInput(usize, End),
     RefusalChangesInput(usize, End),
@@ -46,6 +50,8 @@ pub enum Fault {
     RowLeftOut(End),
     /// One verdict stands for another.
     Verdict(u8, u8),
+    /// For rows of a verdict the merged list has the record of this list, or none.
+    Record(u8, Option<usize>),
 }
 
 /// A part of a result, and which of the faults it can have.
@@ -200,6 +206,9 @@ impl Met<'_> {
                 flip(*memory, place, 0);
             }
             Fault::RefusalWrites(part, end) if !answered => flip_end(self.writes[part].0, end),
+            Fault::WrittenBefore(question, part) if *self.number == question => {
+                flip_end(self.writes[part].0, End::First);
+            }
             Fault::RefusalChangesInput(slice, end) if !answered => flip_end(self.reads[slice], end),
             Fault::AnswerChangesInput(slice, end) if answered => flip_end(self.reads[slice], end),
             _ if answered => self.suffer_in_result(fault),
@@ -219,6 +228,7 @@ impl Met<'_> {
             Fault::PairExchanged(list) => return self.exchange_pair(list),
             Fault::RowLeftOut(end) => return self.leave_out_row(end),
             Fault::Verdict(from, to) => return self.change_verdict(from, to),
+            Fault::Record(verdict, from) => return self.write_other_records(verdict, from),
             _ => return,
         };
         let (memory, written) = &mut self.writes[part];
@@ -255,43 +265,6 @@ impl Met<'_> {
                     flip(*memory, *written as isize, 0);
                 }
             }
-        }
-    }
-
-    fn row(&self, row: isize, byte: isize) -> u8 {
-        self.writes[0].0.at(4 * row + byte) as u8
-    }
-
-    fn rows(&self) -> isize {
-        self.writes[0].1 as isize / 4
-    }
-
-    fn exchange_pair(&mut self, list: usize) {
-        let with: Vec<isize> = (0..self.rows()).filter(|row| self.row(*row, list as isize) != 255).collect();
-        if let [first, .., last] = with[..] {
-            let (a, b) = (4 * first + list as isize, 4 * last + list as isize);
-            let memory = &mut self.writes[0].0;
-            let (x, y) = (memory.at(a), memory.at(b));
-            memory.set(a, y);
-            memory.set(b, x);
-        }
-    }
-
-    /// The rows after it move up; its tracks' count is one less.
-    fn leave_out_row(&mut self, end: End) {
-        let Some(row) = end_of(self.rows() as usize, end) else { return };
-        let tracks = (0..3).filter(|list| self.row(row, *list) != 255).count();
-        let (memory, written) = &mut self.writes[0];
-        let last = *written as isize - 4;
-        (4 * row..last).for_each(|place| memory.set(place, memory.at(place + 4)));
-        (last..last + 4).for_each(|place| memory.set(place, memory.before(place)));
-        let count = &mut self.writes[4 - tracks].0;
-        count.set(0, count.at(0) - 1);
-    }
-
-    fn change_verdict(&mut self, from: u8, to: u8) {
-        if let Some(row) = (0..self.rows()).find(|row| self.row(*row, 3) == from) {
-            self.writes[0].0.set(4 * row + 3, u64::from(to));
         }
     }
 }

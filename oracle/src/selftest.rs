@@ -1,5 +1,6 @@
 //! Shows that the checks find faults: plants them one at a time and expects each to be told.
 use crate::faults::{self, Fault, Shape};
+use crate::merge::list::run as merged_lists;
 use crate::merge::run as merges;
 use crate::tally::{self, Found};
 use crate::{comparisons, lists, matrix, number};
@@ -30,6 +31,7 @@ fn topics() -> Vec<Topic> {
     let few = lists::Amount { each: 1, damaged: 40, random: 10_000, refused_writes: 10_000, all_short: false };
     add(lists::shapes().into(), Rc::new(move || lists::run(&few)));
     add(merges::shapes().into(), Rc::new(|| merges::run(5_000, false)));
+    add(vec![merged_lists::shape()], Rc::new(|| merged_lists::run(6_000, false)));
     all
 }
 

@@ -17,14 +17,25 @@ const WINNER: &str = "winner";
 /// The numbers of the lists' questions, and those of the merge.
 const REFUSES: &[u32] = &[9, 10, 11, 12, 13, 14, 15, 16, 17, 18, 19];
 
-/// What the two calls are lent, and the faults that only they can have.
-pub fn shapes() -> [Shape; 2] {
-    let ends = [End::First, End::Last].map(Fault::RowLeftOut);
-    let verdicts = (0..5).flat_map(|from| (0..5).filter(move |to| *to != from).map(move |to| Fault::Verdict(from, to)));
+/// Pairs of these of which both can be unmet, the earlier one first.
+pub fn orders() -> Vec<(u32, u32)> {
     // A list is refused before the next one is read, also where that one's number is lower; the merge's own questions follow.
     let among_lists = (9..=16).flat_map(|first| [9, 16].map(|later| (first, later)));
     let after_lists = (9..=16).flat_map(|first| [17, 18, 19].map(|later| (first, later)));
-    let orders = among_lists.filter(|(first, later)| first != later).chain(after_lists);
+    let of_lists = among_lists.filter(|(first, later)| first != later).chain(after_lists);
+    of_lists.chain([(17, 18), (17, 19), (18, 19)]).collect()
+}
+
+/// The faults that rows can have whose verdicts go up to this one.
+pub fn row_faults(last: u8) -> Vec<Fault> {
+    let ends = [End::First, End::Last].map(Fault::RowLeftOut);
+    let verdicts =
+        (0..=last).flat_map(|from| (0..5).filter(move |to| *to != from).map(move |to| Fault::Verdict(from, to)));
+    [0, 1, 2].map(Fault::PairExchanged).into_iter().chain(ends).chain(verdicts).collect()
+}
+
+/// What the two calls are lent, and the faults that only they can have.
+pub fn shapes() -> [Shape; 2] {
     [
         Shape {
             name: MERGE,
@@ -32,8 +43,8 @@ pub fn shapes() -> [Shape; 2] {
             writes: vec![Kind::Bytes, Kind::Whole, Kind::Whole, Kind::Whole],
             partly: vec![0],
             refuses: REFUSES,
-            orders: orders.chain([(17, 18), (17, 19), (18, 19)]).collect(),
-            others: [0, 1, 2].map(Fault::PairExchanged).into_iter().chain(ends).chain(verdicts).collect(),
+            orders: orders(),
+            others: row_faults(4),
         },
         Shape {
             name: WINNER,
@@ -48,7 +59,7 @@ pub fn shapes() -> [Shape; 2] {
 }
 
 /// The questions that are not met, each asked by itself.
-fn unmet(case: &Case) -> Vec<u32> {
+pub fn unmet(case: &Case) -> Vec<u32> {
     let byte = |at: usize| case.lists.iter().filter_map(move |list| list.get(at)).map(|byte| *byte as usize);
     let Within { floor, gate } = case.within;
     let questions = [

@@ -1,13 +1,15 @@
 //! The library's merge with its list beside the second one.
 use super::cases::{self, Buffer, Drawn, Plan};
 use super::reference::{length, merge_list, winners, written, MergedList, HEAD};
+use crate::faults::{self, Fault, Kind, Met, Shape};
 use crate::ffi;
 use crate::lent::Lent;
 use crate::lists::{COUNTS, DIMENSIONS};
 use crate::merge::cases::Case;
-use crate::merge::checks;
+use crate::merge::checks::{self, WITHIN};
 use crate::merge::pairings::by_size;
 use crate::merge::reference::merge;
+use crate::merge::run as merges;
 use crate::rng::Rng;
 use crate::tally::{self, Tally};
 
@@ -15,6 +17,38 @@ pub const MERGE_LIST: &str = "merge_list";
 
 /// The merge's questions and then those of the list, in their order.
 const REFUSES: &[u32] = &[9, 10, 11, 12, 13, 14, 15, 16, 17, 18, 19, 21, 22, 20];
+
+/// What the call is lent, and the faults that only it can have.
+pub fn shape() -> Shape {
+    let writes = vec![Kind::Bytes, Kind::Whole, Kind::Whole, Kind::Whole, Kind::Bytes, Kind::Whole];
+    // A buffer without room for a count and a dimension is too short for any list.
+    let before_list = (9..=19).map(|first| (first, 20));
+    let of_rows = [18, 19].into_iter().flat_map(|first| [21, 22].map(|later| (first, later)));
+    let of_list = [(21, 22), (21, 20), (22, 20)];
+    let early = [21, 22, 20].into_iter().flat_map(|n| (0..writes.len()).map(move |part| Fault::WrittenBefore(n, part)));
+    let left_out = [0, 1, 2].map(|verdict| Fault::Record(verdict, None));
+    // Where all three lists have the record, each is the right one.
+    let wrong = [(1, 0), (1, 2), (2, 0), (2, 1), (3, 0), (3, 1), (3, 2)];
+    let wrong = wrong.map(|(verdict, list)| Fault::Record(verdict, Some(list)));
+    let others = merges::row_faults(3).into_iter().chain(early).chain(left_out).chain(wrong).collect();
+    let orders = merges::orders().into_iter().chain(before_list).chain(of_rows).chain(of_list).collect();
+    Shape { name: MERGE_LIST, reads: 3, writes, partly: vec![0, 4], refuses: REFUSES, orders, others }
+}
+
+/// The questions that are not met, each asked by itself: those of the list where the lists can be merged, under a floor and a gate
+/// that are good and with room for all rows.
+fn unmet(case: &Case, room: usize) -> Vec<u32> {
+    let mut unmet = merges::unmet(case);
+    let within = if unmet.contains(&18) { WITHIN } else { case.within };
+    let rows = merge(case.slices(), within, 4 * 3 * COUNTS, by_size).map(|merged| merged.rows);
+    let questions = [
+        (21, rows.iter().flatten().all(|row| row[3] != 4)),
+        (22, rows.iter().all(|rows| winners(rows).len() <= COUNTS)),
+        (20, room >= rows.as_ref().map_or(HEAD, |rows| length(case.slices(), rows))),
+    ];
+    unmet.extend(questions.iter().filter(|(_, met)| !met).map(|(question, _)| *question));
+    unmet
+}
 
 /// What the merges that were compared had in them.
 #[derive(Default)]
@@ -94,13 +128,13 @@ impl Compared {
             assert!(found == planned, "drawn for {planned:?}, and {found:?}: {}", case.describe());
         }
 
-        let [base, ours, theirs] = case.slices().map(Lent::holding);
+        let [mut base, mut ours, mut theirs] = case.slices().map(Lent::holding);
         let [mut rows, mut out] = [case.room, room].map(Lent::<u8>::marked);
         let [mut full, mut half, mut single, mut length] = [0; 4].map(|_| Lent::<usize>::marked(1));
         let lists = [base.slice(), ours.slice(), theirs.slice()];
         let numbers = [full.one(), half.one(), single.one(), length.one()];
         let within = (case.within.floor, case.within.gate);
-        let number = ffi::merge_list(lists, within, rows.slice_mut(), out.slice_mut(), numbers);
+        let mut number = ffi::merge_list(lists, within, rows.slice_mut(), out.slice_mut(), numbers);
 
         let number_wanted = wanted.as_ref().err().copied().unwrap_or(0);
         let (rows_wanted, list_wanted, numbers_wanted) = match &wanted {
@@ -111,6 +145,20 @@ impl Compared {
             }
             Err(_) => (&[][..], &[][..], vec![]),
         };
+        faults::plant(MERGE_LIST, || Met {
+            number: &mut number,
+            also: if number_wanted == 0 { vec![] } else { unmet(case, room) },
+            wrong: vec![],
+            reads: vec![&mut base, &mut ours, &mut theirs],
+            writes: vec![
+                (&mut rows, rows_wanted.len()),
+                (&mut full, 1),
+                (&mut half, 1),
+                (&mut single, 1),
+                (&mut out, list_wanted.len()),
+                (&mut length, 1),
+            ],
+        });
         let told = [&full, &half, &single, &length];
         let agrees = number == number_wanted
             && rows.begins_with(rows_wanted)
