@@ -5,6 +5,7 @@
 mod comparisons;
 mod lists;
 mod matrix;
+mod merge_list;
 mod merging;
 mod pairing;
 mod power;
@@ -18,7 +19,7 @@ fn main() {
     let model = about.lines().find_map(|line| line.strip_prefix("model name")?.split_once(": "));
     println!("machine: {}", model.map_or("unknown", |(_, name)| name));
     let words: Vec<String> = env::args().skip(1).collect();
-    let topics: [(&str, fn()); 8] = [
+    let topics: [(&str, fn()); 9] = [
         ("root", root::run),
         ("matrix", matrix::run),
         ("rotating", matrix::run_rotating),
@@ -27,6 +28,7 @@ fn main() {
         ("lists", lists::run),
         ("pairing", pairing::run),
         ("merging", merging::run),
+        ("merge_list", merge_list::run),
     ];
     for (topic, run) in topics {
         if words.is_empty() || words.iter().any(|word| word == topic) {

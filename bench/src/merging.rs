@@ -9,12 +9,12 @@ use oracle::merge::reference::{merge, Merged};
 use oracle::rng::Rng;
 use std::hint::black_box;
 
-const ROOM: usize = 4 * 3 * 32;
+pub const ROOM: usize = 4 * 3 * 32;
 
-type Track = Vec<f64>;
+pub type Track = Vec<f64>;
 
 /// A track with a definite covariance, far from the others.
-fn track(rng: &mut Rng, d: usize) -> Track {
+pub fn track(rng: &mut Rng, d: usize) -> Track {
     let mut fields: Track = (0..d).map(|_| rng.unit() * 100.0).collect();
     for i in 0..d {
         fields.extend((0..i).map(|_| rng.unit() * 0.5));
@@ -24,7 +24,7 @@ fn track(rng: &mut Rng, d: usize) -> Track {
 }
 
 /// Base with one track in ten moved, the first of them at `changed`, and one deleted.
-fn side(rng: &mut Rng, base: &[Track], changed: usize, deleted: usize) -> Vec<Track> {
+pub fn side(rng: &mut Rng, base: &[Track], changed: usize, deleted: usize) -> Vec<Track> {
     let mut tracks = base.to_vec();
     for track in tracks.iter_mut().skip(changed).step_by(10) {
         track[0] += 0.5 + rng.unit() * 0.25;
