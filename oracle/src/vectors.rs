@@ -17,6 +17,8 @@ use std::fs;
 use std::hint::black_box;
 use std::path::{Path, PathBuf};
 
+mod merged_lists;
+
 /// A program's input, and what it must write on it.
 struct Frozen {
     bytes: Vec<u8>,
@@ -387,8 +389,8 @@ fn track_lists() -> Frozen {
     frozen
 }
 
-/// A merge with its rows, counts and untouched bytes.
-fn merge_record(frozen: &mut Frozen, case: &Case, answer: &Result<Merged, u32>) {
+/// What is told of a merge, and its rows with untouched bytes.
+fn merge_numbers(case: &Case, answer: Result<&Merged, &u32>) -> (Vec<u64>, Vec<u8>) {
     let mut rows = vec![BYTE_BEFORE; case.room];
     let (told, full, half, single) = match answer {
         Ok(merged) => {
@@ -398,11 +400,16 @@ fn merge_record(frozen: &mut Frozen, case: &Case, answer: &Result<Merged, u32>) 
         }
         Err(number) => (*number, 0, 0, 0),
     };
-    let [base, ours, theirs] = case.slices();
-    let lengths = [base.len(), ours.len(), theirs.len()].map(|n| n as u64);
+    let lengths = case.slices().map(|list| list.len() as u64);
     let within = [case.within.floor.to_bits(), case.within.gate.to_bits(), case.room as u64, u64::from(told)];
-    let given = [&lengths[..], &within, &[full, half, single].map(|n| n as u64)].concat();
-    data_record(frozen, 0, 10, &given, &[base, ours, theirs, &rows]);
+    ([&lengths[..], &within, &[full, half, single].map(|n| n as u64)].concat(), rows)
+}
+
+/// A merge with its rows and counts.
+fn merge_record(frozen: &mut Frozen, case: &Case, answer: &Result<Merged, u32>) {
+    let (numbers, rows) = merge_numbers(case, answer.as_ref());
+    let [base, ours, theirs] = case.slices();
+    data_record(frozen, 0, 10, &numbers, &[base, ours, theirs, &rows]);
 }
 
 /// The winner of a row.
@@ -447,7 +454,7 @@ fn merge_cases(rng: &mut Rng) -> Vec<Case> {
     cases
 }
 
-/// Frozen merges, and the winners of some rows. Every verdict, every refusal and some ties are there.
+/// Frozen merges, the winners of some rows, and merges with their lists. Every verdict, every refusal and some ties are there.
 fn merging() -> Frozen {
     let mut rng = Rng::new(59);
     let mut frozen = Frozen::new();
@@ -476,6 +483,7 @@ fn merging() -> Frozen {
     assert!(answered().any(|merged| merged.pairings.iter().any(|pairing| pairing.ties() > 0)), "no tie");
     frozen.lines.push_str(&format!("{} merges, 0 differences\n", cases.len()));
     frozen.lines.push_str(&format!("{} winners, 0 differences\n", winners.len()));
+    merged_lists::append(&mut frozen);
     frozen
 }
 

@@ -149,9 +149,15 @@ pub fn draw_of(rng: &mut Rng, d: usize, plan: Plan) -> Case {
 }
 
 /// Large merges of a high dimension take milliseconds.
-fn dimension(rng: &mut Rng, winners: usize) -> usize {
-    let most = if winners > 8 && rng.below(16) != 0 { 3 } else { DIMENSIONS };
+fn dimension(rng: &mut Rng, winners: usize, most: usize) -> usize {
+    let most = if winners > 8 && rng.below(16) != 0 { most.min(3) } else { most };
     1 + upto(rng, most - 1)
+}
+
+/// A merge whose list has so many tracks of a dimension.
+pub fn written_of(rng: &mut Rng, d: usize, winners: usize, deleted: usize) -> Drawn {
+    let case = draw_of(rng, d, Plan { winners, deleted, conflicts: 0 });
+    Drawn { case, buffer: rng.one_of(ENOUGH), planned: Some(Ok(winners)) }
 }
 
 /// A merge whose list is written.
@@ -163,13 +169,12 @@ pub fn written(rng: &mut Rng) -> Drawn {
         _ => upto(rng, 6),
     };
     let deleted = if rng.below(16) == 0 { COUNTS } else { upto(rng, 3) };
-    let d = dimension(rng, winners.max(deleted));
-    let case = draw_of(rng, d, Plan { winners, deleted, conflicts: 0 });
-    Drawn { case, buffer: rng.one_of(ENOUGH), planned: Some(Ok(winners)) }
+    let d = dimension(rng, winners.max(deleted), DIMENSIONS);
+    written_of(rng, d, winners, deleted)
 }
 
 /// Questions that are not met at once, in their order.
-const UNMET: &[&[u32]] = &[
+pub const UNMET: &[&[u32]] = &[
     &[21],
     &[22],
     &[20],
@@ -185,8 +190,8 @@ const UNMET: &[&[u32]] = &[
     &[19, 20],
 ];
 
-/// A merge whose list is refused, each time by the next of these.
-pub fn refused(rng: &mut Rng, time: u32) -> Drawn {
+/// A merge of up to so many dimensions whose list is refused, each time by the next of these.
+pub fn refused(rng: &mut Rng, time: u32, dimensions: usize) -> Drawn {
     let unmet = UNMET[time as usize % UNMET.len()];
     let is_unmet = |question: u32| unmet.contains(&question);
     let conflicts = if is_unmet(21) { 1 + upto(rng, 1) } else { 0 };
@@ -197,7 +202,7 @@ pub fn refused(rng: &mut Rng, time: u32) -> Drawn {
         1 + upto(rng, most - 1)
     };
     let deleted = if rng.below(8) == 0 { COUNTS } else { upto(rng, 3) };
-    let d = dimension(rng, winners.max(deleted));
+    let d = dimension(rng, winners.max(deleted), dimensions);
     let mut case = draw_of(rng, d, Plan { winners, deleted, conflicts });
     for question in unmet.iter().filter(|question| **question < 20) {
         fault(rng, &mut case, 0, *question);
@@ -205,7 +210,7 @@ pub fn refused(rng: &mut Rng, time: u32) -> Drawn {
     Drawn { case, buffer: rng.one_of(if is_unmet(20) { SHORT } else { ENOUGH }), planned: Some(Err(unmet[0])) }
 }
 
-fn with_any_buffer(rng: &mut Rng, case: Case) -> Drawn {
+pub fn with_any_buffer(rng: &mut Rng, case: Case) -> Drawn {
     let buffers = if rng.below(4) == 0 { SHORT } else { ENOUGH };
     Drawn { case, buffer: rng.one_of(buffers), planned: None }
 }

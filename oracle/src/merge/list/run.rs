@@ -225,7 +225,7 @@ pub fn run(amount: u32, every: bool) -> u64 {
             at @ 0..=3 => cases::damaged(&mut rng, turn / 10 * 4 + at),
             at @ 4..=5 => cases::any(&mut rng, at),
             6 | 7 => cases::written(&mut rng),
-            at => cases::refused(&mut rng, turn / 10 * 2 + at % 2),
+            at => cases::refused(&mut rng, turn / 10 * 2 + at % 2, DIMENSIONS),
         };
         compared.case(&drawn);
         compared.lists.done(turn as usize + 1, amount as usize);
