@@ -80,7 +80,9 @@ enum {
     PEL_QUESTION_ONE_DIMENSION = 17,      /* have all three lists one dimension? */
     PEL_QUESTION_FLOOR_AND_GATE = 18,     /* is the floor finite and above 0, the gate finite and not below 0? */
     PEL_QUESTION_ROW_BUFFER = 19,         /* has the buffer four bytes for each track of the three lists? */
-    PEL_QUESTION_LIST_BUFFER = 20         /* is the buffer long enough for the list? */
+    PEL_QUESTION_LIST_BUFFER = 20,        /* is the buffer long enough for the list? */
+    PEL_QUESTION_NO_CONFLICT = 21,        /* has no row verdict 4? */
+    PEL_QUESTION_MERGED_COUNT = 22        /* would at most 32 tracks be written? */
 };
 
 /* Numbers. None of these refuses. */
@@ -199,6 +201,15 @@ void pel_record(const uint8_t *list, size_t list_len, size_t offset, size_t *sta
 uint32_t pel_merge(const uint8_t *base, size_t base_len, const uint8_t *ours, size_t ours_len, const uint8_t *theirs,
                    size_t theirs_len, double floor, double gate, uint8_t *rows, size_t rows_len, size_t *full,
                    size_t *half, size_t *single);
+/* Merges as pel_merge does, to the same rows and counts, and writes the merged list to the front of out: its dimension is that
+   of the three lists, and each row in order gives base's record for PEL_KEEP, ours' for PEL_TAKE_OURS, theirs' for
+   PEL_TAKE_THEIRS, byte for byte, and none for PEL_DELETED. A row with PEL_CONFLICT refuses the call, and pel_merge shows it.
+   *length is the list's length, at most PEL_MAX_LIST_BYTES, so that many bytes of out always do. The bytes past the list stay.
+   Asks 9 to 16 of base, of ours and of theirs, 17, 18, 19, 21, 22, 20. */
+uint32_t pel_merge_list(const uint8_t *base, size_t base_len, const uint8_t *ours, size_t ours_len,
+                        const uint8_t *theirs, size_t theirs_len, double floor, double gate, uint8_t *rows,
+                        size_t rows_len, uint8_t *out, size_t out_len, size_t *full, size_t *half, size_t *single,
+                        size_t *length);
 /* The winning record of a row of four bytes: its list, PEL_OURS or PEL_THEIRS, and its start and length there. All three are 0
    where there is none: another verdict, no such track, a list that is refused, a row of another length. Asks nothing. */
 void pel_winner(const uint8_t *ours, size_t ours_len, const uint8_t *theirs, size_t theirs_len, const uint8_t *row,
