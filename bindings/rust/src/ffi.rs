@@ -374,6 +374,63 @@ pub(crate) fn merge(lists: [&[u8]; 3], floor: f64, gate: f64, rows: &mut [u8]) -
     .map(|()| [full, half, single])
 }
 
+/// The numbers of rows with three, two and one track, and the length of the merged list.
+pub(crate) fn merge_list(
+    lists: [&[u8]; 3],
+    floor: f64,
+    gate: f64,
+    rows: &mut [u8],
+    out: &mut [u8],
+) -> Result<([usize; 3], usize), Refusal> {
+    type B = *const u8;
+    type W = *mut u8;
+    type N = *mut usize;
+    extern "C" {
+        fn pel_merge_list(
+            _: B,
+            _: usize,
+            _: B,
+            _: usize,
+            _: B,
+            _: usize,
+            _: f64,
+            _: f64,
+            _: W,
+            _: usize,
+            _: W,
+            _: usize,
+            _: N,
+            _: N,
+            _: N,
+            _: N,
+        ) -> u32;
+    }
+    let [b, o, t] = lists;
+    let (mut full, mut half, mut single, mut length) = (0, 0, 0, 0);
+    // SAFETY: each slice is lent with its own length, the two that are written are apart, and the places are four local numbers.
+    told(unsafe {
+        pel_merge_list(
+            b.as_ptr(),
+            b.len(),
+            o.as_ptr(),
+            o.len(),
+            t.as_ptr(),
+            t.len(),
+            floor,
+            gate,
+            rows.as_mut_ptr(),
+            rows.len(),
+            out.as_mut_ptr(),
+            out.len(),
+            &mut full,
+            &mut half,
+            &mut single,
+            &mut length,
+        )
+    })
+    .map(|()| ([full, half, single], length))
+}
+
 /// Whose record wins (1 ours, 2 theirs, 0 nobody's), its start and its length.
 pub(crate) fn winner(ours: &[u8], theirs: &[u8], row: [u8; 4]) -> (u32, usize, usize) {
     type B = *const u8;

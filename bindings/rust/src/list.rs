@@ -2,7 +2,7 @@
 use crate::{ffi, Refusal};
 
 /// The bytes of the largest list, and the values of one.
-const LARGEST: usize = 14_050;
+pub(crate) const LARGEST: usize = 14_050;
 const VALUES: usize = 32 * 54;
 
 /// A track: its state, and the lower triangle of its covariance row by row.

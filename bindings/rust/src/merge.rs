@@ -1,5 +1,9 @@
 //! The merge of three lists.
+use crate::list::LARGEST;
 use crate::{ffi, List, Refusal};
+
+/// The bytes of the most rows: 96 of four bytes.
+const ROWS: usize = 4 * 96;
 
 /// What a row says of its tracks.
 #[derive(Clone, Copy, Debug, PartialEq, Eq, Hash)]
@@ -62,14 +66,46 @@ pub struct Merge {
     pub single: usize,
 }
 
+impl Merge {
+    /// The rows at the front of a buffer, of which so many have three, two and one track.
+    fn new(buffer: &[u8], [full, half, single]: [usize; 3]) -> Merge {
+        let row = |bytes: &[u8]| Row::new([bytes[0], bytes[1], bytes[2], bytes[3]]);
+        let rows = buffer.chunks_exact(4).take(full + half + single).map(row).collect();
+        Merge { rows, full, half, single }
+    }
+}
+
 /// Merges ours and theirs over their base: tracks are paired where their squared distance is at most the gate, under covariances
 /// whose eigenvalues are raised to the floor.
 pub fn merge(base: &List, ours: &List, theirs: &List, floor: f64, gate: f64) -> Result<Merge, Refusal> {
-    let mut buffer = [0; 4 * 96];
-    let [full, half, single] = ffi::merge([base.bytes(), ours.bytes(), theirs.bytes()], floor, gate, &mut buffer)?;
-    let row = |bytes: &[u8]| Row::new([bytes[0], bytes[1], bytes[2], bytes[3]]);
-    let rows = buffer.chunks_exact(4).take(full + half + single).map(row).collect();
-    Ok(Merge { rows, full, half, single })
+    let mut buffer = [0; ROWS];
+    let counts = ffi::merge([base, ours, theirs].map(List::bytes), floor, gate, &mut buffer)?;
+    Ok(Merge::new(&buffer, counts))
+}
+
+/// The same merge, and the merged list: in the order of the rows base's record where the verdict is to keep, ours' or theirs' where
+/// it takes one, and nothing where it is deleted, each byte for byte. A conflict is refused with 21, and more than 32 tracks with 22.
+///
+/// ```
+/// use pelosumba::{merge_list, List, Track};
+///
+/// let collar = |at| Track { state: vec![at], triangle: vec![1.0] };
+/// let base = List::write(1, &[collar(10.0), collar(20.0), collar(30.0)])?;
+/// let ours = List::write(1, &[collar(10.0), collar(30.0)])?;
+/// let theirs = List::write(1, &[collar(10.0), collar(20.0), collar(30.5)])?;
+/// let (merged, list) = merge_list(&base, &ours, &theirs, 1.0, 16.0)?;
+/// assert_eq!((merged.rows.len(), list.tracks()), (3, &[collar(10.0), collar(30.5)][..]));
+///
+/// // A side without tracks has deleted what theirs has changed.
+/// let refused = merge_list(&base, &List::write(1, &[])?, &theirs, 1.0, 16.0).unwrap_err();
+/// assert_eq!(refused.to_string(), "no 21: has no row verdict 4?");
+/// # Ok::<(), pelosumba::Refusal>(())
+/// ```
+pub fn merge_list(base: &List, ours: &List, theirs: &List, floor: f64, gate: f64) -> Result<(Merge, List), Refusal> {
+    let (mut buffer, mut bytes) = ([0; ROWS], vec![0; LARGEST]);
+    let lists = [base, ours, theirs].map(List::bytes);
+    let (counts, length) = ffi::merge_list(lists, floor, gate, &mut buffer, &mut bytes)?;
+    Ok((Merge::new(&buffer, counts), List::read(&bytes[..length])?))
 }
 
 /// The winning record's own bytes, a part of ours or of theirs; none for a verdict that takes neither.

@@ -1,7 +1,7 @@
 //! Why a call refused.
 use std::fmt;
 
-/// The first of document 01's questions that is not met. A refusal has changed nothing.
+/// The first question that is not met. A refusal has changed nothing.
 #[derive(Clone, Copy, Debug, PartialEq, Eq, Hash)]
 pub struct Refusal {
     number: u32,
@@ -9,7 +9,7 @@ pub struct Refusal {
 
 impl Refusal {
     /// All questions in words: number 1 is the first.
-    pub const QUESTIONS: [&'static str; 20] = [
+    pub const QUESTIONS: [&'static str; 22] = [
         "is each side 1 to 16?",
         "has each slice its length?",
         "is every entry finite?",
@@ -30,6 +30,8 @@ impl Refusal {
         "is the floor finite and above 0, the gate finite and not below 0?",
         "has the buffer four bytes for each track of the three lists?",
         "is the buffer long enough for the list?",
+        "has no row verdict 4?",
+        "would at most 32 tracks be written?",
     ];
 
     /// The refusal that a call of C answers; 0 is none.

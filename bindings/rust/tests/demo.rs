@@ -1,5 +1,5 @@
 //! The lists of the folder demo: what they hold, how they are merged, and what a merger by place would have done.
-use pelosumba::{merge, List, Track, Verdict};
+use pelosumba::{merge, merge_list, List, Track, Verdict};
 
 fn read(name: &str) -> List {
     let folder = concat!(env!("CARGO_MANIFEST_DIR"), "/../../demo/");
@@ -38,6 +38,21 @@ fn by_distance() {
         (None, None, Some(5), Verdict::TakeTheirs),
     ];
     assert_eq!(rows, wanted);
+}
+
+/// The conflict refuses the list. Where ours leaves that collar as it was, each other verdict has its rows in the list.
+#[test]
+fn into_a_list() {
+    let [base, ours, theirs] = lists();
+    assert_eq!(merge_list(&base, &ours, &theirs, 1.0, 16.0).unwrap_err().number(), 21);
+    let mut tracks = ours.tracks().to_vec();
+    tracks[3] = base.tracks()[4].clone();
+    let ours = List::write(2, &tracks).unwrap();
+    let (merged, list) = merge_list(&base, &ours, &theirs, 1.0, 16.0).unwrap();
+    assert_eq!(merged, merge(&base, &ours, &theirs, 1.0, 16.0).unwrap());
+    let [b, o, t] = [&base, &ours, &theirs].map(|list| list.records().collect::<Vec<_>>());
+    assert_eq!(list.records().collect::<Vec<_>>(), [b[0], b[2], o[2], t[4], o[4], t[5]]);
+    assert_eq!((list.dimension(), list.tracks().len()), (2, 6));
 }
 
 /// Tracks of one index taken together: the last line of demo/run.

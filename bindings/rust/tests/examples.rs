@@ -1,6 +1,6 @@
 //! Document 01's examples, and refusals, through the crate.
 use pelosumba::kernel::{self, Comparison};
-use pelosumba::{merge, winner, List, Track, Verdict};
+use pelosumba::{merge, merge_list, winner, List, Track, Verdict};
 
 fn list(states: &[f64]) -> List {
     let track = |x: &f64| Track { state: vec![*x], triangle: vec![1.0] };
@@ -71,6 +71,11 @@ fn case_k() {
     assert_eq!(merged.rows[2].verdict, Verdict::TakeTheirs);
     assert_eq!(winner(&ours, &theirs, &merged.rows[2]), theirs.records().nth(2));
     assert_eq!(winner(&ours, &theirs, &merged.rows[0]), None);
+    let (rows, written) = merge_list(&base, &ours, &theirs, 1.0, 16.0).unwrap();
+    assert_eq!((rows, &written), (merged, &list(&[10.0, 30.5])));
+    let taken = [base.records().next(), theirs.records().nth(2)].map(Option::unwrap);
+    assert_eq!(written.records().collect::<Vec<_>>(), taken);
+    assert_eq!(written.bytes(), [&[2, 1], taken[0], taken[1]].concat());
 }
 
 #[test]

@@ -1,5 +1,5 @@
 //! Every refusal that the crate can meet, by its number, with the memory that was lent left alone; and the questions in words.
-use pelosumba::{kernel, merge, List, Refusal, Track};
+use pelosumba::{kernel, merge, merge_list, List, Refusal, Track};
 use std::slice::from_ref;
 
 fn number<T: std::fmt::Debug>(answer: Result<T, Refusal>) -> u32 {
@@ -121,7 +121,30 @@ fn of_a_merge() {
     assert_eq!(number(merge(&one, &one, &flat, 1.0, 16.0)), 17);
     for (floor, gate) in [(0.0, 16.0), (f64::NAN, 16.0), (f64::INFINITY, 16.0), (1.0, -1.0), (1.0, f64::NAN)] {
         assert_eq!(number(merge(&one, &one, &one, floor, gate)), 18);
+        assert_eq!(number(merge_list(&one, &one, &one, floor, gate)), 18);
     }
+}
+
+#[test]
+fn of_a_merge_into_a_list() {
+    // Tracks so far apart that none are paired, but those of one number.
+    let list = |numbers: std::ops::Range<u8>, by: f64| {
+        let track = |i| Track { state: vec![100.0 * f64::from(i) + by], triangle: vec![1.0] };
+        List::write(1, &numbers.map(track).collect::<Vec<_>>()).unwrap()
+    };
+    let none = list(0..0, 0.0);
+    let refused = |base: &List, ours: &List, theirs: &List| number(merge_list(base, ours, theirs, 1.0, 16.0));
+    assert_eq!(refused(&none, &none, &List::write(2, &[]).unwrap()), 17);
+    // Changed on both sides, changed on one and deleted on the other, added on both.
+    assert_eq!(refused(&list(0..1, 0.0), &list(0..1, 1.0), &list(0..1, 2.0)), 21);
+    assert_eq!(refused(&list(0..1, 0.0), &list(0..1, 1.0), &none), 21);
+    assert_eq!(refused(&none, &list(0..1, 1.0), &list(0..1, 2.0)), 21);
+    // 32 tracks can be written and 33 cannot, however many were deleted; a conflict is asked for first.
+    let (merged, written) = merge_list(&list(40..60, 0.0), &list(0..16, 0.0), &list(16..32, 0.0), 1.0, 16.0).unwrap();
+    assert_eq!((merged.rows.len(), written.tracks().len()), (52, 32));
+    assert_eq!(refused(&none, &list(0..16, 0.0), &list(16..33, 0.0)), 22);
+    assert_eq!(refused(&none, &list(0..32, 0.0), &list(1..33, 0.0)), 22);
+    assert_eq!(refused(&none, &list(0..32, 0.0), &list(31..60, 1.0)), 21);
 }
 
 /// The words are those of docs/FORMAT.md: a row `| 9 | Are there two bytes? | .. |` for each question.
