@@ -107,7 +107,7 @@ static void comparisons(void)
 /* ---- lists */
 
 static double values[PEL_MAX_VALUES + 100];
-static uint8_t list[PEL_MAX_LIST_BYTES], rows[PEL_MAX_ROW_BYTES];
+static uint8_t list[PEL_MAX_LIST_BYTES], merged[PEL_MAX_LIST_BYTES], rows[PEL_MAX_ROW_BYTES];
 static size_t count, dimension, length, full, half, single;
 
 static uint32_t write_ones(size_t tracks, size_t d, size_t out_len)
@@ -195,6 +195,39 @@ static void merges(void)
        PEL_ANSWERED);
 }
 
+/* ---- merges into a list */
+
+static uint32_t into_list(const uint8_t *base, size_t base_len, const uint8_t *ours, size_t ours_len, const uint8_t *theirs,
+                          size_t theirs_len, size_t out_len)
+{
+    return pel_merge_list(base, base_len, ours, ours_len, theirs, theirs_len, 1.0, 16.0, rows, PEL_MAX_ROW_BYTES, merged,
+                          out_len, &full, &half, &single, &length);
+}
+
+static void merged_lists(void)
+{
+    /* Added on both sides, near each other and not alike. The length of the buffer is asked for last. */
+    uint8_t ours[100], theirs[100];
+    const uint8_t none[2] = {0, 1};
+    const size_t ours_len = five(10, 30, 50, 70, 90, ours), theirs_len = five(11, 31, 51, 71, 91, theirs);
+    IS(into_list(none, 2, ours, ours_len, theirs, theirs_len, 0), PEL_QUESTION_NO_CONFLICT);
+
+    /* As many tracks of ours as a list can have, without and with others of theirs. */
+    IS(write_ones(PEL_MAX_TRACKS, 1, PEL_MAX_LIST_BYTES), PEL_ANSWERED);
+    const size_t ones_len = length;
+    IS(into_list(none, 2, list, ones_len, none, 2, PEL_MAX_LIST_BYTES), PEL_ANSWERED);
+    IS(merged[0], PEL_MAX_TRACKS);
+    IS(into_list(none, 2, list, ones_len, theirs, theirs_len, 0), PEL_QUESTION_MERGED_COUNT);
+
+    /* The largest list, kept. */
+    IS(write_ones(PEL_MAX_TRACKS, PEL_MAX_DIMENSION, PEL_MAX_LIST_BYTES), PEL_ANSWERED);
+    const size_t list_len = length;
+    IS(into_list(list, list_len, list, list_len, list, list_len, PEL_MAX_LIST_BYTES - 1), PEL_QUESTION_LIST_BUFFER);
+    IS(into_list(list, list_len, list, list_len, list, list_len, PEL_MAX_LIST_BYTES), PEL_ANSWERED);
+    IS(length, PEL_MAX_LIST_BYTES);
+    IS(memcmp(merged, list, PEL_MAX_LIST_BYTES), 0);
+}
+
 int main(void)
 {
     char version[40];
@@ -204,6 +237,7 @@ int main(void)
     comparisons();
     lists();
     merges();
+    merged_lists();
     printf("the header's numbers: %u as the library has them, %u not\n", held, wrong);
     return wrong != 0;
 }

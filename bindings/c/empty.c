@@ -14,17 +14,18 @@ static int null;
 #define IS_EMPTY(k) (empty >> (k)&1)
 #define SLICE(k, pointer, length) (IS_EMPTY(k) && null ? NULL : (pointer)), (IS_EMPTY(k) ? 0 : (length))
 
-/* What is read: a covariance of order 3 and a list of one track of dimension 1. */
+/* What is read: a covariance of order 3, and lists of dimension 1 with one track and with none. */
 static const double in[9] = {4, 1, 0, 1, 3, 1, 0, 1, 2};
 static const uint8_t list[11] = {1, 1, 2, 0, 0, 0, 0, 0, 0, 0xF0, 0x3F};
+static const uint8_t none[2] = {0, 1};
 static const uint8_t row[4] = {255, 0, 255, 1};
 
 /* What is written; no bytes lie between the fields. */
 static struct written {
     uint32_t answer, kind, mask, spare;
     double numbers[2], out[9], more[9];
-    size_t sizes[3];
-    uint8_t bytes[24];
+    size_t sizes[4];
+    uint8_t bytes[24], list[24];
 } w;
 
 #define A SLICE(0, in, 9)
@@ -78,7 +79,7 @@ static uint32_t reading(void)
 }
 static uint32_t reading_none(void)
 {
-    return pel_read_list((const uint8_t[]){0, 1}, 2, SLICE(0, w.out, 2), &w.sizes[0], &w.sizes[1]);
+    return pel_read_list(none, 2, SLICE(0, w.out, 2), &w.sizes[0], &w.sizes[1]);
 }
 static uint32_t writing(void) { return pel_write_list(1, 1, SLICE(0, in, 2), SLICE(1, w.bytes, 24), &w.sizes[0]); }
 static uint32_t writing_none(void)
@@ -97,9 +98,18 @@ static uint32_t merge(void)
 }
 static uint32_t merge_none(void)
 {
-    static const uint8_t none[2] = {0, 1};
     return pel_merge(none, 2, none, 2, none, 2, 1.0, 16.0, SLICE(0, w.bytes, 24), &w.sizes[0], &w.sizes[1],
                      &w.sizes[2]);
+}
+static uint32_t merge_list(void)
+{
+    return pel_merge_list(SLICE(0, list, 11), SLICE(1, list, 11), SLICE(2, list, 11), 1.0, 16.0, SLICE(3, w.bytes, 24),
+                          SLICE(4, w.list, 24), &w.sizes[0], &w.sizes[1], &w.sizes[2], &w.sizes[3]);
+}
+static uint32_t merge_list_none(void)
+{
+    return pel_merge_list(none, 2, none, 2, none, 2, 1.0, 16.0, SLICE(0, w.bytes, 24), SLICE(1, w.list, 24), &w.sizes[0],
+                          &w.sizes[1], &w.sizes[2], &w.sizes[3]);
 }
 static uint32_t winner(void)
 {
@@ -149,6 +159,8 @@ static const struct {
     {"record", record, 1},
     {"merge", merge, 4},
     {"merge of no track", merge_none, 1},
+    {"merge_list", merge_list, 5},
+    {"merge_list of no track", merge_list_none, 2},
     {"winner", winner, 3},
 };
 

@@ -1,4 +1,5 @@
-/* A merge from C: three lists are written, merged and shown, and the winning records' places are told.
+/* A merge from C: three lists are written, merged and shown, and the winning records' places are told. Then the merged list is
+ * written and read.
  *
  *     cc -Wall -Wextra -Werror -I include bindings/c/example.c target/staticlib/libcapi.a -o example && ./example
  */
@@ -12,20 +13,38 @@ static const char *const VERDICTS[] = {
     [PEL_DELETED] = "deleted", [PEL_CONFLICT] = "conflict",
 };
 
+/* Whether a call has refused; then the question's number is shown. */
+static int refused(uint32_t question)
+{
+    if (question != PEL_ANSWERED) {
+        printf("no %u\n", (unsigned)question);
+    }
+    return question != PEL_ANSWERED;
+}
+
 /* A list of dimension 1 with variances of 1, and its length. */
 static size_t write_list(const double *states, size_t count, uint8_t *list)
 {
     double values[2 * TRACKS];
-    size_t length = 0;
+    size_t length;
     for (size_t i = 0; i < count; i++) {
         values[2 * i] = states[i];
         values[2 * i + 1] = 1.0;
     }
-    uint32_t question = pel_write_list(count, 1, values, 2 * count, list, PEL_MAX_LIST_BYTES, &length);
-    if (question != PEL_ANSWERED) {
-        printf("no %u\n", (unsigned)question);
+    return refused(pel_write_list(count, 1, values, 2 * count, list, PEL_MAX_LIST_BYTES, &length)) ? 0 : length;
+}
+
+/* The states of a list of dimension 1. */
+static void show_states(const uint8_t *list, size_t list_len)
+{
+    double values[2 * TRACKS];
+    size_t count, dimension;
+    if (!refused(pel_read_list(list, list_len, values, 2 * TRACKS, &count, &dimension))) {
+        for (size_t i = 0; i < count; i++) {
+            printf(" %.1f", values[2 * i]);
+        }
+        printf("\n");
     }
-    return length;
 }
 
 static void show_index(uint8_t index)
@@ -46,10 +65,8 @@ int main(void)
 
     uint8_t rows[PEL_MAX_ROW_BYTES];
     size_t full, half, single;
-    const uint32_t question = pel_merge(base, base_len, ours, ours_len, theirs, theirs_len, 1.0, 16.0, rows, sizeof rows,
-                                        &full, &half, &single);
-    if (question != PEL_ANSWERED) {
-        printf("no %u\n", (unsigned)question);
+    if (refused(pel_merge(base, base_len, ours, ours_len, theirs, theirs_len, 1.0, 16.0, rows, sizeof rows, &full, &half,
+                          &single))) {
         return 1;
     }
     for (size_t r = 0; r < full + half + single; r++) {
@@ -67,5 +84,15 @@ int main(void)
         printf("\n");
     }
     printf("%zu of three tracks, %zu of two, %zu of one\n", full, half, single);
+
+    /* The same merge, and the list of what its rows keep and take. */
+    static uint8_t merged[PEL_MAX_LIST_BYTES];
+    size_t merged_len;
+    if (refused(pel_merge_list(base, base_len, ours, ours_len, theirs, theirs_len, 1.0, 16.0, rows, sizeof rows, merged,
+                               sizeof merged, &full, &half, &single, &merged_len))) {
+        return 1;
+    }
+    printf("the merged list, %zu bytes:", merged_len);
+    show_states(merged, merged_len);
     return 0;
 }

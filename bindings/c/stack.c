@@ -14,7 +14,7 @@ enum { SIDE = PEL_MAX_SIDE, ENTRIES = SIDE * SIDE, STACK = 1 << 20, PAINT = 0xA5
 static const double unit[9] = {1, 0, 0, 0, 1, 0, 0, 0, 1};
 static double a[ENTRIES], x[SIDE], out[ENTRIES], more[ENTRIES], values[PEL_MAX_VALUES], first, second;
 static uint8_t list[PEL_MAX_LIST_BYTES], written[PEL_MAX_LIST_BYTES], rows[PEL_MAX_ROW_BYTES];
-static size_t list_len, number, other, third;
+static size_t list_len, number, other, third, fourth;
 static uint32_t bits, answer;
 
 #define A a, ENTRIES
@@ -63,6 +63,11 @@ static void merge(void)
 {
     answer = pel_merge(list, list_len, list, list_len, list, list_len, 1.0, 16.0, rows, sizeof rows, &number, &other, &third);
 }
+static void merge_list(void)
+{
+    answer = pel_merge_list(list, list_len, list, list_len, list, list_len, 1.0, 16.0, rows, sizeof rows, written,
+                            sizeof written, &number, &other, &third, &fourth);
+}
 static void winner(void)
 {
     static const uint8_t row[4] = {PEL_NO_TRACK, 0, PEL_NO_TRACK, PEL_TAKE_OURS};
@@ -107,6 +112,7 @@ static const struct {
     {"write_list", write_list},
     {"record", record},
     {"merge", merge},
+    {"merge_list", merge_list},
     {"winner", winner},
 };
 
