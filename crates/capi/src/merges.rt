@@ -1,11 +1,13 @@
-// The merge, and the winner of a row.
+// The merge, with its list or without, and the winner of a row.
 ghost use mathlib.Core.Path.{_≡_};
 ghost use lib.ListN as ListN;
 ghost use Rattle.merge.specs.Merge as Merge;
-ghost use Rattle.capi.specs.Merges.{toldMerge, inNumbers, toldWinner};
+ghost use Rattle.merge_list.specs.MergeList as MergeList;
+ghost use Rattle.capi.specs.Merges.{toldMerge, toldMergedList, inNumbers, toldWinner};
 use merge::Merged;
 use merge::winner;
 use merge::winner::WinningPart;
+use merge_list::MergedList;
 
 // The code of a merge, and its numbers of rows into their places.
 fn enter_counts(answer: Merged, full: &mut usize, half: &mut usize, single: &mut usize) -> u32
@@ -47,6 +49,62 @@ pub extern "C" fn pel_merge(
         full,
         half,
         single,
+    )
+}
+
+// The code of a merge with its list, and its numbers of rows and the list's length into their places.
+fn enter_merged_list(
+    answer: MergedList,
+    full: &mut usize,
+    half: &mut usize,
+    single: &mut usize,
+    length: &mut usize,
+) -> u32
+    ensures { λ r. ⌜ (r, (now (full .exit), (now (half .exit), (now (single .exit), now (length .exit)))))
+        ≡ toldMergedList answer (now (full .entry)) (now (half .entry)) (now (single .entry)) (now (length .entry)) ⌝ }
+{
+    match answer {
+        MergedList::Written { counts, length: n } => {
+            *length = n;
+            enter_counts(Merged::Counts(counts), full, half, single)
+        }
+        MergedList::Refused(question) => question as u32,
+    }
+}
+
+// Merges as pel_merge does, and writes the merged list: the rows go to the front of their slice, the list to the front of out, and the
+// numbers of rows and the list's length to their places.
+#[no_mangle]
+pub extern "C" fn pel_merge_list(
+    base: &[u8],
+    ours: &[u8],
+    theirs: &[u8],
+    floor: f64,
+    gate: f64,
+    rows: &mut [u8],
+    out: &mut [u8],
+    full: &mut usize,
+    half: &mut usize,
+    single: &mut usize,
+    length: &mut usize,
+) -> u32
+    ensures { λ r. ⌜ (r, (now (full .exit), (now (half .exit), (now (single .exit), now (length .exit)))))
+        ≡ toldMergedList
+        (MergeList.afterMergeList
+        (MergeList.mergingList (now (base .entry)) (now (ours .entry)) (now (theirs .entry)) floor gate (ListN.length (now (rows .entry))) (ListN.length (now (out .entry))))
+        (now (rows .entry)) (now (out .entry)) .0)
+        (now (full .entry)) (now (half .entry)) (now (single .entry)) (now (length .entry)) ⌝ }
+    ensures { λ _. ⌜ (now (rows .exit), now (out .exit))
+        ≡ MergeList.afterMergeList
+        (MergeList.mergingList (now (base .entry)) (now (ours .entry)) (now (theirs .entry)) floor gate (ListN.length (now (rows .entry))) (ListN.length (now (out .entry))))
+        (now (rows .entry)) (now (out .entry)) .1 ⌝ }
+{
+    enter_merged_list(
+        merge_list::merge_list(base, ours, theirs, floor, gate, rows, out),
+        full,
+        half,
+        single,
+        length,
     )
 }
 
