@@ -6,7 +6,7 @@ ghost use lib.Dec.{eqb};
 ghost use lib.ListN.{take};
 ghost use Rattle.pairing.specs.Keys.{fromKeys, nobody};
 ghost use Rattle.merge.specs.Merge.{partnersIn};
-ghost use Rattle.merge.specs.Private.{ThreeValues, KeysFor, termsOf, partnersOf, pairingsIn, pairedValues};
+ghost use Rattle.merge.specs.Private.{TwoValues, ThreeValues, KeysFor, termsOf, partnersOf, partnersBetween, pairingsIn, pairedValues};
 use crate::NO_TRACK;
 use crate::keys::Terms;
 use crate::keys::keys_between;
@@ -49,6 +49,24 @@ fn partners_by(keys: &[f64], m: usize, n: usize) -> Partners
     Partners { firsts, seconds }
 }
 
+// The partners of m tracks of one list and n of another, among those that are free by their partners in earlier pairings. The keys lie
+// in its frame, so that three pairings take room for those of one.
+fn pair_lists(
+    us: &[f64],
+    us_partners: [u8; 32],
+    m: usize,
+    vs: &[f64],
+    vs_partners: [u8; 32],
+    n: usize,
+    terms: Terms,
+) -> Partners
+    requires { ⌜ TwoValues terms (now us) m (now vs) n ⌝ }
+    ensures { λ r. ⌜ partnersOf r m n ≡ partnersBetween terms (now (us .entry)) «us_partners» m (now (vs .entry)) «vs_partners» n ⌝ }
+{
+    let keys = keys_between(us, us_partners, m, vs, vs_partners, n, terms);
+    partners_by(&keys, m, n)
+}
+
 // Pairs base with ours, base with theirs, and then those of ours and of theirs that have no base track.
 pub(crate) fn pair_all(
     base_values: &[f64],
@@ -68,13 +86,11 @@ pub(crate) fn pair_all(
     let f = fields(d);
     let terms = Terms { d, f, floor, gate };
     let free = [NO_TRACK; 32];
-    let keys = keys_between(base_values, free, m, ours_values, free, n, terms);
-    let base_ours = partners_by(&keys, m, n);
-    let keys = keys_between(base_values, free, m, theirs_values, free, l, terms);
-    let base_theirs = partners_by(&keys, m, l);
+    let base_ours = pair_lists(base_values, free, m, ours_values, free, n, terms);
+    let base_theirs = pair_lists(base_values, free, m, theirs_values, free, l, terms);
     let ours_base = base_ours.seconds;
     let theirs_base = base_theirs.seconds;
-    let keys = keys_between(
+    let ours_theirs = pair_lists(
         ours_values,
         ours_base,
         n,
@@ -83,7 +99,6 @@ pub(crate) fn pair_all(
         l,
         terms,
     );
-    let ours_theirs = partners_by(&keys, n, l);
     Pairings {
         base_ours,
         base_theirs,

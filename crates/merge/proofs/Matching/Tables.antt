@@ -1,6 +1,6 @@
 -- The pairings by values: `all-paired` puts them together from three pairings of two lists each, and `paired-values` says that they are those of the lists, where the values hold
 -- the fields of the lists' tracks (`Holds`). `tables-front`: partners that stand in front of two tables.
-use Prim.Native.Nat.{ℕ, _*_, _<_, _≤_}
+use Prim.Native.Nat.{ℕ, _<_, _≤_}
 use native.Mathlib.Omega.{arith}
 use mathlib.Core.Path.{_≡_, refl, sym, ap, _∙_}
 use mathlib.Core.Bool.{Bool, true}
@@ -115,13 +115,13 @@ front-free table n i k = ap (λ (x : ℕ). eqb x nobody) (sym (getD-take n table
 
 module _ (terms : Terms) where
   -- partners by keys, where the tables p and p', q and q' say the same of those who are free
-  between : (us vs : List Float) (p q p' q' : List ℕ) (m n : ℕ) (keys : List Float) (t : TableOf.Partners) → ((i : ℕ) → i < m → isFree p i ≡ isFree p' i) → ((j : ℕ) → j < n → isFree q j ≡ isFree q' j)
-      → keys ≡ keysBetween terms us p m vs q n → partnersOf t m n ≡ partnersIn (fromKeys keys m n) → partnersOf t m n ≡ partnersBetween terms us p' m vs q' n
+  between : (us vs : List Float) (p q p' q' : List ℕ) (m n : ℕ) (t : TableOf.Partners) → ((i : ℕ) → i < m → isFree p i ≡ isFree p' i) → ((j : ℕ) → j < n → isFree q j ≡ isFree q' j)
+      → partnersOf t m n ≡ partnersBetween terms us p m vs q n → partnersOf t m n ≡ partnersBetween terms us p' m vs q' n
   unfolding partnersBetween partnersIn
-  between us vs p q p' q' m n keys t x y e h =
-      h ∙ ap (λ (k : List Float). partnersIn (fromKeys k m n)) (e ∙ matrix-ext m n _ _ (λ i j hi hj. rw (x i hi, y j hj) refl))
+  between us vs p q p' q' m n t x y h =
+      h ∙ ap (λ (k : List Float). partnersIn (fromKeys k m n)) (matrix-ext m n _ _ (λ i j hi hj. rw (x i hi, y j hj) refl))
 
-  module _ (us vs ws : List Float) (sizes : Sizes) (hm : sizes .base ≤ 32) (hn : sizes .ours ≤ 32) (hl : sizes .theirs ≤ 32) (bo bt ot : TableOf.Partners) (k1 k2 k3 : List Float) where
+  module _ (us vs ws : List Float) (sizes : Sizes) (hm : sizes .base ≤ 32) (hn : sizes .ours ≤ 32) (hl : sizes .theirs ≤ 32) (bo bt ot : TableOf.Partners) where
     abbrev m : ℕ
     m = sizes .base
 
@@ -131,14 +131,13 @@ module _ (terms : Terms) where
     abbrev l : ℕ
     l = sizes .theirs
 
-    pub all-paired : take (m * n) k1 ≡ keysBetween terms us new m vs new n → partnersOf bo m n ≡ partnersIn (fromKeys (take (m * n) k1) m n)
-        → take (m * l) k2 ≡ keysBetween terms us new m ws new l → partnersOf bt m l ≡ partnersIn (fromKeys (take (m * l) k2) m l)
-        → take (n * l) k3 ≡ keysBetween terms vs (bo .seconds) n ws (bt .seconds) l → partnersOf ot n l ≡ partnersIn (fromKeys (take (n * l) k3) n l)
+    pub all-paired : partnersOf bo m n ≡ partnersBetween terms us new m vs new n → partnersOf bt m l ≡ partnersBetween terms us new m ws new l
+        → partnersOf ot n l ≡ partnersBetween terms vs (bo .seconds) n ws (bt .seconds) l
         → pairingsIn (record { «base_ours» = bo; «base_theirs» = bt; «ours_theirs» = ot }) sizes ≡ pairedValues terms us vs ws sizes
-    all-paired e1 h1 e2 h2 e3 h3 =
+    all-paired of-bo of-bt of-ot =
         let third : Partners → Partners → Partners = λ x y. partnersBetween terms vs (x .seconds) n ws (y .seconds) l in
-        let p = between us vs new new (nobodies m) (nobodies n) m n (take (m * n) k1) bo (λ i k. new-free m i hm k) (λ j k. new-free n j hn k) e1 h1 in
-        let q = between us ws new new (nobodies m) (nobodies l) m l (take (m * l) k2) bt (λ i k. new-free m i hm k) (λ j k. new-free l j hl k) e2 h2 in
-        let last = between vs ws (bo .seconds) (bt .seconds) (take n (bo .seconds)) (take l (bt .seconds)) n l (take (n * l) k3) ot (front-free (bo .seconds) n) (front-free (bt .seconds) l) e3 h3 in
+        let p = between us vs new new (nobodies m) (nobodies n) m n bo (λ i k. new-free m i hm k) (λ j k. new-free n j hn k) of-bo in
+        let q = between us ws new new (nobodies m) (nobodies l) m l bt (λ i k. new-free m i hm k) (λ j k. new-free l j hl k) of-bt in
+        let last = between vs ws (bo .seconds) (bt .seconds) (take n (bo .seconds)) (take l (bt .seconds)) n l ot (front-free (bo .seconds) n) (front-free (bt .seconds) l) of-ot in
         let r = last ∙ (λ x. third (p x) (q x)) in
         λ x. record { baseOurs = p x; baseTheirs = q x; oursTheirs = r x }
