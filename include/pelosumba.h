@@ -21,9 +21,9 @@
 #include <stdint.h>
 
 /* The edition of this header and of the library beside it. */
-#define PEL_VERSION "0.1.0"
+#define PEL_VERSION "0.2.0"
 #define PEL_VERSION_MAJOR 0
-#define PEL_VERSION_MINOR 1
+#define PEL_VERSION_MINOR 2
 #define PEL_VERSION_PATCH 0
 
 #ifdef __cplusplus
