@@ -109,7 +109,7 @@ fn key_row(
     );
 }
 
-// The keys of m tracks of one list and n of another, in m rows of n, in front of the array.
+// The keys of m tracks of one list and n of another, in m rows of n, in front of room for those of the longest lists.
 pub(crate) fn keys_between(
     us: &[f64],
     us_partners: [u8; 32],
@@ -118,11 +118,11 @@ pub(crate) fn keys_between(
     vs_partners: [u8; 32],
     n: usize,
     terms: Terms,
-) -> [f64; 1024]
-    requires { ⌜ TwoValues terms (now us) m (now vs) n ⌝ }
-    ensures { λ r. ⌜ KeysInFront (m * n) (keysBetween terms (now (us .entry)) «us_partners» m (now (vs .entry)) «vs_partners» n) r ⌝ }
+    keys: &mut [f64],
+)
+    requires { ⌜ TwoValues terms (now us) m (now vs) n × (length (now keys) ≡ 1024) ⌝ }
+    ensures { λ _. ⌜ KeysInFront (m * n) (keysBetween terms (now (us .entry)) «us_partners» m (now (vs .entry)) «vs_partners» n) (now (keys .exit)) ⌝ }
 {
-    let mut keys = [0.0f64; 1024];
     let f = terms.f;
     for i in 0..m {
         let u = row(us, f, i);
@@ -138,5 +138,4 @@ pub(crate) fn keys_between(
             &mut keys[start..end],
         );
     }
-    keys
 }

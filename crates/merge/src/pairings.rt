@@ -63,7 +63,8 @@ fn pair_lists(
     requires { ⌜ TwoValues terms (now us) m (now vs) n ⌝ }
     ensures { λ r. ⌜ partnersOf r m n ≡ partnersBetween terms (now (us .entry)) «us_partners» m (now (vs .entry)) «vs_partners» n ⌝ }
 {
-    let keys = keys_between(us, us_partners, m, vs, vs_partners, n, terms);
+    let mut keys = [0.0f64; 1024];
+    keys_between(us, us_partners, m, vs, vs_partners, n, terms, &mut keys);
     partners_by(&keys, m, n)
 }
 

@@ -5,8 +5,7 @@ use native.Mathlib.Omega.{arith}
 use mathlib.Core.List.{List}
 use mathlib.Core.Path.{_≡_, ap, subst, _∙_}
 use lib.Ieee.{Float}
-use lib.ListN.{length, take, length-replicate}
-use Rattle.kernel.specs.Constants.{nought}
+use lib.ListN.{length, take}
 use Rattle.kernel.specs.Lists.{tabulate}
 use Rattle.dense.proofs.Fill.{FilledRows}
 use Rattle.dense.specs.Matrix.{rowOf, matrix}
@@ -24,18 +23,18 @@ record Before (f : ℕ → ℕ → Float) (m n : ℕ) (old : List Float) (i : �
   rows : FilledRows f n old i new
 
 abbrev Inv-loop : tie.InvT-loop
-Inv-loop us m vs vs-partners n terms us-partners keys₀ f i₀ keys i =
+Inv-loop us m vs vs-partners n terms keys₀ us-partners f i₀ keys i =
     Before (λ i j. keyAmong terms (isFree us-partners i) (isFree vs-partners j) (rowOf us (terms .f) i) (rowOf vs (terms .f) j)) m n keys₀ i keys
 
 abbrev μ-loop : tie.MeasureT-loop
-μ-loop us m vs vs-partners n terms us-partners keys₀ f i₀ keys i = m - i
+μ-loop us m vs vs-partners n terms keys₀ us-partners f i₀ keys i = m - i
 
 abbrev entered : tie.In-loop Inv-loop μ-loop → tie.Start Inv-loop μ-loop
-entered c = c .before .before .before .before
+entered c = c .before .before .before .before .before
 
 -- the row of keys lies within the array
 few : (c : tie.In-loop Inv-loop μ-loop) → c .before .loop .i * entered c .args .n + entered c .args .n ≤ 1024
-few c = let s = entered c in omega (arith, row-within (s .args .m) (s .args .n) {i = c .before .loop .i} (omega arith), mul-le-mul (s .pre .firsts .few) (s .pre .seconds .few))
+few c = let s = entered c in omega (arith, row-within (s .args .m) (s .args .n) {i = c .before .loop .i} (omega arith), mul-le-mul (s .pre .0 .firsts .few) (s .pre .0 .seconds .few))
 
 within : (c : tie.In-loop Inv-loop μ-loop) → c .before .loop .i * entered c .args .n + entered c .args .n ≤ length (c .before .loop .keys)
 within c = let v = c .before .loop .inv in omega (arith, few c, v .long, v .rows .size)
@@ -47,12 +46,12 @@ key-at s u i j =
     keyAmong (x .terms) (isFree (x .t2) i) (isFree (x .vs-partners) j) u (rowOf (x .vs .now) (x .terms .f) j)
 
 loop-holds : tie.Need-loop-holds Inv-loop μ-loop
-loop-holds c = record { turns = omega arith; long = length-replicate 1024 nought; rows = rows-none _ _ _ }
+loop-holds c = record { turns = omega arith; long = c .before .before .before .pre .1; rows = rows-none _ _ _ }
 
 row-requires : tie.Need-row-requires Inv-loop μ-loop
 row-requires c κs =
     let s = entered c in
-    omega (arith, row-within (s .args .m) (s .args .terms .f) {i = c .before .loop .i} (omega arith), s .pre .firsts .long)
+    omega (arith, row-within (s .args .m) (s .args .terms .f) {i = c .before .loop .i} (omega arith), s .pre .0 .firsts .long)
 
 key-row-requires : tie.Need-key-row-requires Inv-loop μ-loop
 key-row-requires c κs =
@@ -60,15 +59,15 @@ key-row-requires c κs =
     let in-loop = found .before in
     let s = entered in-loop in
     record {
-      compares = s .pre .compares;
+      compares = s .pre .0 .compares;
       track = found .row .ensures .0;
-      others = s .pre .seconds;
+      others = s .pre .0 .seconds;
       room = length-part (in-loop .before .loop .keys) (s .args .n) (in-loop .before .loop .i) (within in-loop);
     }
 
 loop-again : tie.Need-loop-again Inv-loop μ-loop
 loop-again c =
-    let made = c .before in
+    let made = c .before .before in
     let found = made .before .before in
     let in-loop = found .before in
     let s = entered in-loop in
@@ -78,10 +77,13 @@ loop-again c =
     let rows = rows-more _ (s .args .n) i (within in-loop) (made .key-row .ensures ∙ ap row (found .row .ensures .1)) (v .rows) in
     record { turns = omega arith; long = v .long; rows = rows }
 
+same-length : tie.Need-same-length Inv-loop μ-loop
+same-length c = c .before .loop .inv .rows .size
+
 returns : tie.Need-returns Inv-loop μ-loop
 returns c =
     let turn = c .before in
-    let s = turn .before .before .before in
+    let s = turn .before .before .before .before in
     let x = s .args in
     let whole : ℕ → Type 0 = λ k. take (k * x .n) (turn .loop .keys) ≡ matrix k (x .n) (λ i. key-at s (rowOf (x .us .now) (x .terms .f) i) i) in
     let v = turn .loop .inv in
@@ -91,5 +93,5 @@ pub keys-between-spec : {M : Type 1} → statement M
 keys-between-spec =
     tie.close
     (tie.spec Inv-loop μ-loop loop-holds row-requires (λ c. omega (arith, few (c .before))) (λ c. omega (arith, few (c .before)))
-    (λ c. omega (arith, entered (c .before) .pre .firsts .few)) (λ c. omega (arith, few (c .before))) (λ c. omega (arith, within (c .before))) (λ c. omega (arith, within (c .before)))
-    (λ c. omega (arith, within (c .before))) key-row-requires (λ c. omega arith) (λ c. omega arith) loop-again returns)
+    (λ c. omega (arith, entered (c .before) .pre .0 .firsts .few)) (λ c. omega (arith, few (c .before))) (λ c. omega (arith, within (c .before))) (λ c. omega (arith, within (c .before)))
+    (λ c. omega (arith, within (c .before))) key-row-requires (λ c. omega arith) (λ c. omega arith) loop-again same-length returns)

@@ -53,7 +53,8 @@ laid-base : (c : tie.After-copy-record Inv-loop μ-loop) → let t = turn (c .be
 laid-base c =
     let t = turn (c .before) in
     let e = c .copy-record .ensures in
-    laid-more (t .loop .inv .laid) (from-base (lists t) (rows-of t) (t .loop .r)) refl (fits-base (lists t) (rows-of t) (now (start-of t .args .out)) (start-of t .pre .1) (inside (c .before))) (e .0) (e .1)
+    laid-more (t .loop .inv .laid) (from-base (lists t) (rows-of t) (t .loop .r)) refl
+    (fits-base (lists t) (rows-of t) (now (start-of t .args .out)) (start-of t .pre .1) (inside (c .before))) (e .0) (e .1)
 
 laid-ours : (c : tie.After-copy-record2 Inv-loop μ-loop) → let t = turn (first (c .before) .before) in let s = lists t in let r = t .loop .r in
     Laid (now (start-of t .args .out)) 2 ((before s (rows-of t) r ++ from-base s (rows-of t) r) ++ from-ours s (rows-of t) r) (c .copy-record2 .result) (c .copy-record2 .last .1 .1 .1 .1 .0)
