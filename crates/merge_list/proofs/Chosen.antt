@@ -1,4 +1,4 @@
--- The tracks that rows take. `takers-are`: there are as many as rows that take one. `records-chosen`: the records that rows take are those of their tracks; `list-shape`: so the merged
+-- The tracks that rows take. `takers-are`: there are as many as rows that take one. `record-chosen`: the record that a row takes is that of its track; `list-shape`: so the merged
 -- list is the two bytes of count and dimension and those records. `chosen-accepted`: it is accepted, with those tracks, and so has at most 14,050 bytes (`list-size`).
 use Prim.Native.Nat.{ℕ, zero, suc, _+_, _<_, _≤_}
 use native.Mathlib.Omega.{arith}

@@ -1,7 +1,7 @@
 -- Example k of document 01, written as a list: computed on the definitions, down from the bytes of its three lists, and read back.
 use Prim.Native.Nat.{ℕ}
 use mathlib.Core.Path.{_≡_, refl}
-use mathlib.Core.List.{List, [], _∷_, flatMap}
+use mathlib.Core.List.{List, [], _∷_, _++_, flatMap}
 use lib.Ieee as Ieee
 use lib.Ieee.{ofBits}
 use lib.ListN.{replicate}
@@ -28,16 +28,17 @@ use Rattle.merge_list.specs.declared.MergedList.the-variants.{Written}
 abbrev pub list-k : List ℕ
 list-k = 2 ∷ 1 ∷ unitTrack 0 0x24 0x40 (unitTrack 0x80 0x3E 0x40 [])
 
--- a buffer with four bytes more than the list
+-- The merge of example k into 33 bytes for rows, as in `merge-k`, and some for the list.
 unfoldable pub written-k : ℕ → Outcome WrittenMerge
 unfolding mergingList listOfRows merging acceptedLists mergedLists contents floorAndGate mergedRows pairingsOf partnersIn firstPartners secondPartners
     comparison candidacy compared trackCovariance byRank byIndex rowsOf selected tabulate
 written-k room = mergingList base-k ours-k theirs-k one gate-k 33 room
 
+-- In a buffer with four bytes more than the list, the list and the bytes that stay; counts and rows are those of `merge-k`.
 pub merge-list-k : afterMergeList (written-k 40) buffer-k (replicate 40 7)
     ≡ (
       Written (record { full = 2; half = 1; single = 0 }) 36,
-      (0 ∷ 0 ∷ 0 ∷ 0 ∷ 1 ∷ 255 ∷ 1 ∷ 3 ∷ 2 ∷ 1 ∷ 2 ∷ 2 ∷ replicate 21 7, 2 ∷ 1 ∷ unitTrack 0 0x24 0x40 (unitTrack 0x80 0x3E 0x40 (replicate 4 7))),
+      (0 ∷ 0 ∷ 0 ∷ 0 ∷ 1 ∷ 255 ∷ 1 ∷ 3 ∷ 2 ∷ 1 ∷ 2 ∷ 2 ∷ replicate 21 7, list-k ++ replicate 4 7),
     )
 unfolding written-k chosenList chosen withVerdict listOf recordsOf recordOf mapOf mapByte packed storedBytes fieldBytes bytes
     verdictOn verdict equalTracks sameBytes rowsWith tracksAmong flatMap over word ofBits Ieee.div Ieee.mul Ieee.sub Ieee.add Ieee.lt Ieee.le Ieee.eq Ieee.neg Ieee.isNan
