@@ -142,7 +142,7 @@ fn write_fields(v: &[f64], out: &mut [u8], start: usize) -> usize
 }
 
 // Writes the own bytes of a track of dimension d.
-fn write_record(v: &[f64], d: usize, out: &mut [u8], at: usize) -> usize
+pub(crate) fn write_record(v: &[f64], d: usize, out: &mut [u8], at: usize) -> usize
     requires { ⌜ (d ≤ 9) × (at + length (recordOf d (trackOfDoubles (now v))) ≤ length (now out)) ⌝ }
     ensures { λ r. ⌜ Writes (recordOf d (trackOfDoubles (now (v .entry)))) (now (out .entry)) at r (now (out .exit)) ⌝ }
 {

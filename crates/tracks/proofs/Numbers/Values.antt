@@ -1,17 +1,20 @@
 -- Laws of values and their bits, and of tracks and their values one after another. `patterns-doubles` and `doubles-patterns` lead from bits to values and
--- back, `joined-tracks` and `tracks-joined` from tracks to their values and back. `all-more`, `all-not` and `all-at`: when all values are finite.
-use Prim.Native.Nat.{ℕ, zero, suc, _+_, _*_, _^_, _<_}
+-- back, `joined-tracks` and `tracks-joined` from tracks to their values and back. `all-more`, `all-not`, `all-at` and `finite-all`: when all values are finite.
+use Prim.Native.Nat.{ℕ, zero, suc, _+_, _*_, _/_, _%_, _^_, _<_}
 use native.Mathlib.Omega.{arith}
 use native.Mathlib.Nat.{zero-mul, suc-mul, le-of-suc-le-suc, add-comm}
 use mathlib.Core.Path.{_≡_, refl, sym, ap, _∙_, subst}
-use mathlib.Core.Bool.{Bool, true, false, not, _&&_}
+use mathlib.Core.Bool.{Bool, true, false, not, _&&_, cond}
 use mathlib.Core.List.{List, [], _∷_, _++_, flatMap}
-use lib.Dec.{T}
+use lib.Dec.{T, eqb, leb}
+use borrow.Author.Tests.{ltb-false}
 use lib.ListN.{length, getD, take, drop, length-map, List·getD-map}
 use lib.Seq.{take-add, take-all, take-at, drop-at, drop-drop, ext-getD, getD-drop}
-use lib.Ieee.{Float, nan, inf, fin, binary64, fits, ne, isNan, ofBits, toBits}
+use lib.Ieee.{Float, nan, inf, fin, binary64, fits, ne, isNan, ofFields, ofBits, toBits}
 use lib.Ieee.Compare.{differs-from-itself}
-use lib.Ieee.Bits.{ofBits-toBits, toBits-ofBits, toBits-lt, nanBits-is}
+use lib.Ieee.Bits.{ofBits-toBits, ofBits-fits, toBits-ofBits, toBits-lt, nanBits-is}
+use lib.Ieee.Fits.{nan-fits}
+use Rattle.kernel.specs.Number.{finite}
 use Rattle.tracks.specs.Layout.{finiteBits}
 use Rattle.tracks.specs.Read.{Track, trackOf}
 use Rattle.tracks.specs.Write.{allFinite, tracksOf}
@@ -64,6 +67,12 @@ pub doubles-patterns : (v : List Float) → Doubles v → doubles (patterns v) �
 doubles-patterns [] h = refl
 doubles-patterns (x ∷ v) h = rw (ofBits-toBits binary64 x (h 0), doubles-patterns v (λ i. h (suc i))) refl
 
+-- what bits stand for are doubles
+pub bits-doubles : (w : List ℕ) → Doubles (doubles w)
+bits-doubles [] i = nan-fits binary64
+bits-doubles (x ∷ w) zero = ofBits-fits binary64 x
+bits-doubles (x ∷ w) (suc i) = bits-doubles w i
+
 pub patterns-words : (v : List Float) → Doubles v → Words (patterns v)
 patterns-words [] h i = omega arith
 patterns-words (x ∷ v) h zero = toBits-lt binary64 x (h 0)
@@ -96,6 +105,37 @@ all-at v i e h = split (finiteBits (getD v i 0)) refl
     split : (b : Bool) → finiteBits (getD v i 0) ≡ b → finiteBits (getD v i 0) ≡ true
     split true p = p
     split false p = let z : true ≡ false = sym e ∙ all-not v i h p in let y : _≡_ {A = ℕ} 0 1 = cc in absurd (omega arith)
+
+-- an exponent whose bits are all ones is that of an infinity or of a NaN
+not-finite : (s : Bool) (t : ℕ) → finite (ofFields binary64 s 2047 t) ≡ false
+unfolding ofFields
+not-finite s t = by (eqb t 0)
+  where
+    by : (b : Bool) → finite (cond b (inf s) nan) ≡ false
+    by true = refl
+    by false = refl
+
+finite-bits : (x : Float) → T (fits binary64 x) → finite x ≡ true → finiteBits (toBits binary64 x) ≡ true
+unfolding ofBits
+finite-bits x h e = split (finiteBits b) refl
+  where
+    b : ℕ
+    b = toBits binary64 x
+
+    split : (c : Bool) → finiteBits b ≡ c → finiteBits b ≡ true
+    split true p = p
+    split false p =
+        let high : b % 2 ^ 63 / 2 ^ 52 ≡ 2047 = omega (arith, ltb-false (b % 2 ^ 63) (2047 * 2 ^ 52) p) in
+        let z : finite x ≡ false =
+        ap finite (sym (ofBits-toBits binary64 x h)) ∙ ap (λ (n : ℕ). finite (ofFields binary64 (leb (2 ^ 63) b) n (b % 2 ^ 52))) high ∙ not-finite (leb (2 ^ 63) b) (b % 2 ^ 52) in
+        let y : _≡_ {A = ℕ} 0 1 = cc in
+        absurd (omega arith)
+
+-- finite doubles meet question 14
+pub finite-all : (v : List Float) → Doubles v → ((k : ℕ) → k < length v → finite (getD v k nan) ≡ true) → allFinite (patterns v) ≡ true
+unfolding allFinite
+finite-all [] h p = refl
+finite-all (x ∷ v) h p = rw (finite-bits x (h 0) (p 0 (omega arith)), finite-all v (λ i. h (suc i)) (λ k lt. p (suc k) (omega arith))) refl
 
 pub all-take : (n : ℕ) (v : List ℕ) → allFinite v ≡ true → allFinite (take n v) ≡ true
 unfolding allFinite
