@@ -1,0 +1,3 @@
+pub mod Fusion
+pub mod Examples
+pub mod Private
