@@ -4,6 +4,7 @@ pub mod Order
 pub mod Shown
 pub mod AcceptedLists
 pub mod EveryAnswer
+pub mod FusedRows
 pub mod Sequences
 pub mod Listings
 pub mod Listed

@@ -1,5 +1,6 @@
 pub mod Matching
 pub mod Readings
+pub mod FusedVerdicts
 pub mod Buffers
 pub mod Demand
 pub mod Winning

@@ -4,3 +4,4 @@ pub mod Located
 pub mod ThreeAnswers
 pub mod AllRead
 pub mod Asked
+pub mod Passed

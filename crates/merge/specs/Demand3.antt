@@ -12,7 +12,7 @@ use Rattle.tracks.specs.Read.{TrackList, contents, count}
 use Rattle.pairing.specs.Pairing.{Pair, Pairs, has, In, Candidates, ShareTrack, Pairing, freeSecond, blocking}
 use Rattle.merge.specs.Tracks.{ThreeLists, trackCount, trackAt, equalTracks}
 use Rattle.merge.specs.Candidates.{candidatesOf, CandidatePair, EarlierPair, among}
-use Rattle.merge.specs.Rows.{verdictOn}
+use Rattle.merge.specs.Fused.{mergedVerdict}
 use Rattle.merge.specs.Buffer.{baseIn, oursIn, theirsIn, verdictIn, tracksIn, TrackOrNone, howMany, baseWithOurs, baseWithTheirs, oursWithTheirs, Before}
 use Rattle.merge.specs.declared.Counts.{Counts}
 use Rattle.merge.specs.declared.Merged.{Merged}
@@ -44,8 +44,8 @@ pub record MergeRows (lists : ThreeLists) (floor gate : Float) (n : ℕ) (buffer
   pub some-track : (r : ℕ) → r < n → 1 ≤ tracksIn buffer r
   -- The rows of base tracks come first, then those that ours leads, then those of theirs alone; in each group the index rises.
   pub rows-order : (q r : ℕ) → q < r → r < n → Before buffer q r
-  -- The verdict of each row is that on its three indices; two tracks are equal where all bits of their fields are.
-  pub verdicts : (r : ℕ) → r < n → verdictIn buffer r ≡ verdictOn lists (baseIn buffer r) (oursIn buffer r) (theirsIn buffer r)
+  -- The verdict of each row is that on its three indices, 01's but for a fused row's 5; two tracks are equal where all bits of their fields are.
+  pub verdicts : (r : ℕ) → r < n → verdictIn buffer r ≡ mergedVerdict lists floor (baseIn buffer r) (oursIn buffer r) (theirsIn buffer r)
   pub equal : (c d : TrackList) (i j : ℕ) → T (equalTracks c i d j) ↔ (trackAt c i ≡ trackAt d j)
   -- Which pairs are candidates, and which of two comes earlier, in words: both follow from two lists, floor and gate alone.
   pub candidate : (c d : TrackList) (p : Pair) → In (candidatesOf c d floor gate .candidate) p ↔ CandidatePair c d floor gate p

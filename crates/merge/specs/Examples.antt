@@ -18,6 +18,7 @@ use Rattle.pairing.specs.Keys.{firstPartners, secondPartners}
 use Rattle.merge.specs.Tracks.{equalTracks}
 use Rattle.merge.specs.Candidates.{comparison, candidacy, byRank}
 use Rattle.merge.specs.Rows.{Row, rowsWith, verdict, verdictOn, tracksAmong, selected, rowsOf}
+use Rattle.merge.specs.Fused.{mergedVerdict}
 use Rattle.merge.specs.Merge.{partnersIn, pairingsOf, mergedRows, acceptedLists, mergedLists, MergedLists, merging, afterMerge}
 use Rattle.merge.specs.Winner.{placeIn, winning, winnerBytes}
 use Rattle.merge.specs.declared.Merged.the-variants.{Counts}
@@ -54,7 +55,7 @@ outcome-k = merging base-k ours-k theirs-k one gate-k 33
 
 -- The three rows, then the bytes that stay, and two rows with three tracks, one with two.
 pub merge-k : afterMerge outcome-k buffer-k ≡ (Counts (record { full = 2; half = 1; single = 0 }), 0 ∷ 0 ∷ 0 ∷ 0 ∷ 1 ∷ 255 ∷ 1 ∷ 3 ∷ 2 ∷ 1 ∷ 2 ∷ 2 ∷ replicate 21 7)
-unfolding outcome-k verdictOn verdict equalTracks sameBytes rowsWith tracksAmong flatMap over word ofBits Ieee.div Ieee.mul Ieee.sub Ieee.add Ieee.lt Ieee.le Ieee.eq Ieee.neg Ieee.isNan
+unfolding outcome-k mergedVerdict verdictOn verdict equalTracks sameBytes rowsWith tracksAmong flatMap over word ofBits Ieee.div Ieee.mul Ieee.sub Ieee.add Ieee.lt Ieee.le Ieee.eq Ieee.neg Ieee.isNan
 merge-k = refl
 
 -- A buffer of one byte less than they ask for is refused.

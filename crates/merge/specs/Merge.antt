@@ -12,7 +12,8 @@ use Rattle.pairing.specs.Pairing.{Candidates}
 use Rattle.pairing.specs.Keys.{firstPartners, secondPartners, isFree}
 use Rattle.merge.specs.Tracks.{ThreeLists, trackCount}
 use Rattle.merge.specs.Candidates.{candidatesOf, among}
-use Rattle.merge.specs.Rows.{Row, rowBytes, rowsWith, verdictOn, Partners, Pairings, rowsOf}
+use Rattle.merge.specs.Rows.{Row, rowBytes, rowsWith, Partners, Pairings, rowsOf}
+use Rattle.merge.specs.Fused.{mergedVerdict}
 use Rattle.merge.specs.declared.Counts.{Counts}
 use Rattle.merge.specs.declared.Merged.{Merged}
 use Rattle.merge.specs.declared.Merged.the-variants as merged
@@ -33,7 +34,7 @@ pairingsOf lists floor gate =
 
 unfoldable pub mergedRows : ThreeLists → Float → Float → List Row
 mergedRows lists floor gate =
-    rowsOf (verdictOn lists) (pairingsOf lists floor gate) (trackCount (lists .base)) (trackCount (lists .ours)) (trackCount (lists .theirs))
+    rowsOf (mergedVerdict lists floor) (pairingsOf lists floor gate) (trackCount (lists .base)) (trackCount (lists .ours)) (trackCount (lists .theirs))
 
 -- ---- the questions
 

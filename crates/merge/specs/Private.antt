@@ -1,14 +1,15 @@
 -- The words of the private functions' contracts: no caller needs them, and no definition that a caller reads.
 use Prim.Native.Nat.{ℕ, _+_, _*_, _<_, _≤_}
 use mathlib.Core.Path.{_≡_}
-use mathlib.Core.Bool.{Bool, cond, _&&_}
+use mathlib.Core.Bool.{Bool, true, cond, _&&_}
 use mathlib.Core.List.{List, [], _∷_, flatMap}
 use lib.Dec.{eqb}
 use lib.ListN.{length, getD, take}
 use lib.Ieee.{Float, nan}
 use Rattle.kernel.specs.Answer.{Outcome, refused, answered}
 use Rattle.kernel.specs.Lists.{over, tabulate}
-use Rattle.dense.specs.Matrix.{rowOf, matrix}
+use Rattle.dense.specs.Matrix.{nth, rowOf, matrix, isSide}
+use Rattle.fusion.specs.Fusion.{Fusing, none, track, fused}
 use Rattle.tracks.specs.Layout.{fields}
 use Rattle.tracks.specs.Read.{TrackList, contents}
 use Rattle.tracks.specs.Record.{offset}
@@ -21,10 +22,13 @@ use Rattle.pairing.specs.Keys.{nobody, fromKeys, isFree}
 use Rattle.pairing.specs.Private.{nobodies}
 use Rattle.merge.specs.Tracks.{ThreeLists, trackCount, trackAt}
 use Rattle.merge.specs.Candidates.{candidacyOf, rank}
-use Rattle.merge.specs.Rows.{Row, rowBytes, rowAt, keep, verdictOn, rowsOf, selected, Partners, Pairings}
+use Rattle.merge.specs.Rows.{Row, rowBytes, rowAt, isTrack, keep, conflict, verdictOn, rowsOf, selected, Partners, Pairings}
+use Rattle.merge.specs.Fused.{fuse, fusion}
 use Rattle.merge.specs.Merge.{partnersIn, pairingsOf}
-use Rattle.merge.specs.Buffer.{TrackOrNone, baseIn, oursIn, theirsIn, tracksIn, howMany}
+use Rattle.merge.specs.Buffer.{TrackOrNone, baseIn, oursIn, theirsIn, verdictIn, tracksIn, howMany}
 use Rattle.merge.specs.declared.Counts.{Counts}
+use Rattle.merge.specs.declared.Merged.{Merged}
+use Rattle.merge.specs.declared.Merged.the-variants as merged
 use Rattle.merge.specs.declared.keys.Terms.{Terms}
 use Rattle.merge.specs.declared.pairings.Partners as TableOf
 use Rattle.merge.specs.declared.pairings.Pairings as TablesOf
@@ -316,3 +320,62 @@ pub record ToWrite (base ours theirs : List ℕ) (offsets : Offsets) (sizes : Si
   pub sized : SizesOf (heldThree base ours theirs) sizes
   pub paired : Paired (heldThree base ours theirs) p sizes
   pub room : 4 * (sizes .base + sizes .ours + sizes .theirs) ≤ length rows
+
+-- ---- the pass over the verdicts
+
+-- That tracks of dimension d can be fused by their values: base's own, and those of track j of ours and track k of theirs, where they are there.
+pub record RowToFuse (d j k : ℕ) (base ours theirs : List Float) : Type 0 where
+  pub sided : isSide d ≡ true
+  pub few : d ≤ 9
+  pub of-base : length base ≡ fields d
+  pub of-ours : isTrack j ≡ true → j * fields d + fields d ≤ length ours
+  pub of-theirs : isTrack k ≡ true → k * fields d + fields d ≤ length theirs
+
+-- That the rows of base's tracks can be passed over. Base's values are as long as its tracks' fields.
+pub record RowsToFuse (base ours theirs : List Float) (sizes : Sizes) (rows : List ℕ) : Type 0 where
+  pub sided : isSide (sizes .dimension) ≡ true
+  pub few : sizes .dimension ≤ 9
+  pub few-base : sizes .base ≤ 32
+  pub of-base : length base ≡ sizes .base * fields (sizes .dimension)
+  pub of-ours : Values ours (sizes .ours) (fields (sizes .dimension))
+  pub of-theirs : Values theirs (sizes .theirs) (fields (sizes .dimension))
+  pub room : 4 * sizes .base ≤ length rows
+  pub ours-indices : (r : ℕ) → r < sizes .base → TrackOrNone (sizes .ours) (oursIn rows r)
+  pub theirs-indices : (r : ℕ) → r < sizes .base → TrackOrNone (sizes .theirs) (theirsIn rows r)
+
+-- The fusion over a base track by its fields of track j of ours and track k of theirs, by their lists' values.
+abbrev pub fusionOf : ℕ → Float → List Float → List Float → ℕ → List Float → ℕ → Fusing
+fusionOf d floor base ours j theirs k = fused d floor base (rowOf ours (fields d) j) (rowOf theirs (fields d) k)
+
+-- The verdict and the base track's fields after the pass, by the verdict v before it, both indices and the fusion.
+abbrev pub byFusion : ℕ → Fusing → List Float → ℕ × List Float
+byFusion v none old = (v, old)
+byFusion v (track t) old = (fuse, t)
+
+abbrev pub afterFusion : ℕ → ℕ → ℕ → Fusing → List Float → ℕ × List Float
+afterFusion v j k o old = cond (eqb v conflict && (isTrack j && isTrack k)) (byFusion v o old) (v, old)
+
+-- The same of row r of a buffer, which is that of base track r.
+abbrev pub passAt : ℕ → Float → List Float → List Float → List Float → List ℕ → ℕ → ℕ × List Float
+passAt d floor base ours theirs rows r =
+    let own = rowOf base (fields d) r in
+    let j = oursIn rows r in
+    let k = theirsIn rows r in
+    afterFusion (verdictIn rows r) j k (fusionOf d floor own ours j theirs k) own
+
+abbrev pub passedRow : ℕ → Float → List Float → List Float → List Float → List ℕ → ℕ → Row
+passedRow d floor base ours theirs rows r =
+    record { base = baseIn rows r; ours = oursIn rows r; theirs = theirsIn rows r; verdict = passAt d floor base ours theirs rows r .0 }
+
+-- The rows of all base tracks after the pass, and base's values.
+abbrev pub passedRows : Sizes → Float → List Float → List Float → List Float → List ℕ → List Row
+passedRows sizes floor base ours theirs rows = tabulate (sizes .base) (passedRow (sizes .dimension) floor base ours theirs rows)
+
+abbrev pub passedValues : Sizes → Float → List Float → List Float → List Float → List ℕ → List Float
+passedValues sizes floor base ours theirs rows = matrix (sizes .base) (fields (sizes .dimension)) (λ r. nth (passAt (sizes .dimension) floor base ours theirs rows r .1))
+
+-- That the fused tracks of an answered merge stand in values, each in the place of its base track.
+abbrev pub FusedStand : List ℕ → List ℕ → List ℕ → Float → Merged → List ℕ → List Float → Type 0
+FusedStand base ours theirs floor r rows values =
+    (counts : Counts) → r ≡ merged.Counts counts → (q : ℕ) → q < counts .full + counts .half + counts .single → verdictIn rows q ≡ fuse
+    → fusion (heldThree base ours theirs) floor (baseIn rows q) (oursIn rows q) (theirsIn rows q) ≡ track (rowOf values (fields (held base .dimension)) (baseIn rows q))

@@ -6,6 +6,8 @@ ghost use Rattle.merge.specs.Demand3.{Demanded};
 
 mod counting;
 mod equality;
+mod fusing;
+pub mod inside;
 mod keys;
 mod pairings;
 mod questions;
@@ -14,14 +16,7 @@ pub mod verdict;
 pub mod winner;
 mod writing;
 
-use compare::questions::is_floor_and_gate;
-use kernel::question;
-use pairings::pair_all;
-use questions::Accepted;
-use questions::three_of;
-use tracks::read::read_with_offsets;
-use verdict::Offsets;
-use writing::write_merge;
+use inside::merge_fused;
 
 // What stands in a row for no track.
 pub const NO_TRACK: u8 = pairing::NOBODY;
@@ -51,40 +46,6 @@ pub fn merge(
     ensures { λ r. ⌜ (r, now (rows .exit)) ≡ afterMerge (merging (now (base .entry)) (now (ours .entry)) (now (theirs .entry)) floor gate (length (now (rows .entry)))) (now (rows .entry)) ⌝ }
     ensures { λ r. ⌜ Demanded (now (base .entry)) (now (ours .entry)) (now (theirs .entry)) floor gate (now (rows .entry)) r (now (rows .exit)) ⌝ }
 {
-    let mut base_values = [0.0f64; 1728];
-    let mut base_offsets = [0usize; 33];
-    let mut ours_values = [0.0f64; 1728];
-    let mut ours_offsets = [0usize; 33];
-    let mut theirs_values = [0.0f64; 1728];
-    let mut theirs_offsets = [0usize; 33];
-    let b = read_with_offsets(base, &mut base_values, &mut base_offsets);
-    let o = read_with_offsets(ours, &mut ours_values, &mut ours_offsets);
-    let t = read_with_offsets(theirs, &mut theirs_values, &mut theirs_offsets);
-    let c = three_of(b, o, t);
-    match c {
-        Accepted::Lists(sizes) => {
-            if !is_floor_and_gate(floor, gate) {
-                return Merged::Refused(question::FLOOR_AND_GATE);
-            }
-            if rows.len() < 4 * (sizes.base + sizes.ours + sizes.theirs) {
-                return Merged::Refused(question::ROW_BUFFER);
-            }
-            let pairings = pair_all(
-                &base_values,
-                &ours_values,
-                &theirs_values,
-                sizes,
-                floor,
-                gate,
-            );
-            let offsets = Offsets {
-                base: base_offsets,
-                ours: ours_offsets,
-                theirs: theirs_offsets,
-            };
-            let counts = write_merge(base, ours, theirs, offsets, sizes, pairings, rows);
-            Merged::Counts(counts)
-        }
-        Accepted::Refused(q) => Merged::Refused(q),
-    }
+    let mut values = [0.0f64; 1728];
+    merge_fused(base, ours, theirs, floor, gate, rows, &mut values)
 }

@@ -17,6 +17,8 @@ pub const DELETED: u8 = 3;
 
 pub const CONFLICT: u8 = 4;
 
+pub const FUSE: u8 = 5;
+
 // Where the tracks of base, ours and theirs start, and where the last one of each ends.
 pub struct Offsets {
     pub base: [usize; 33],

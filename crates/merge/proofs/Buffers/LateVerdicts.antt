@@ -1,16 +1,19 @@
--- Rows whose verdicts are decided after their indices stand: `rows-decided`, what is written then is the rows with these verdicts. `rows-front`: rows depend on the front of the
+-- Rows whose verdicts are decided after their indices stand: `rows-decided`, what is written then is the rows with these verdicts; `base-decided`,
+-- the same of rows of base tracks alone. `counts-alike`: verdicts play no part in the counts. `rows-front`: rows depend on the front of the
 -- tables of partners alone.
 use Prim.Native.Nat.{ℕ, zero, suc, _+_, _<_}
 use native.Mathlib.Omega.{arith}
 use mathlib.Core.Path.{_≡_, refl, sym, ap, _∙_}
-use mathlib.Core.Bool.{Bool, _&&_, cond}
-use mathlib.Core.List.{List, [], _∷_, _++_}
-use lib.ListN.{length, getD, drop}
+use mathlib.Core.Bool.{Bool, true, false, _&&_, cond}
+use mathlib.Core.List.{List, [], _∷_, _++_, append-assoc}
+use lib.ListN.{length, getD, drop, length-append}
 use lib.Seq.{getD-take, drop-at}
 use Rattle.kernel.specs.Lists.{tabulate, over}
-use Rattle.kernel.proofs.Lists.{tabulate-ext, by-elements}
+use Rattle.kernel.proofs.Lists.{length-tabulate, tabulate-ext, by-elements}
+use Rattle.tracks.proofs.Slices.Lists.{flatMap-append}
 use Rattle.pairing.specs.Keys.{nobody}
-use Rattle.merge.specs.Rows.{Row, rowAt, Pairings, selected, withoutBase, remaining, baseRow, oursRow, theirsRow, rowsOf}
+use Rattle.merge.specs.Rows.{Row, rowBytes, rowsWith, rowAt, Pairings, selected, withoutBase, remaining, baseRow, oursRow, theirsRow, rowsOf}
+use Rattle.merge.specs.Merge.{countsOf}
 use Rattle.merge.specs.Buffer.{baseIn, oursIn, theirsIn}
 use Rattle.merge.specs.Private.{rowsBy, rowsBytes, Appended, tablesIn, pairingsIn}
 use Rattle.merge.specs.declared.pairings.Pairings as TablesOf
@@ -54,6 +57,15 @@ over-again : (old a b : List ℕ) → length a ≡ length b → over (over old 0
 unfolding over
 over-again old a b e = ap (λ (rest : List ℕ). b ++ rest) (drop-at a (drop (0 + length a) old) (0 + length b) (omega arith) ∙ ap (λ (k : ℕ). drop (0 + k) old) e)
 
+front-again : (old a b r : List ℕ) → length a ≡ length b → over (over old 0 (a ++ r)) 0 b ≡ over old 0 (b ++ r)
+unfolding over
+front-again old a b r e =
+    let x = drop (0 + length (a ++ r)) old in
+    ap (λ (z : List ℕ). b ++ drop (0 + length b) z) (append-assoc a r x)
+    ∙ ap (λ (z : List ℕ). b ++ z) (drop-at a (r ++ x) (0 + length b) (omega arith))
+    ∙ sym (append-assoc b r x)
+    ∙ ap (λ (k : ℕ). (b ++ r) ++ drop (0 + k) old) (length-append a r ∙ ap (λ (k : ℕ). k + length r) e ∙ sym (length-append b r))
+
 module _ (u v : ℕ → ℕ → ℕ → ℕ) (p : Pairings) (m n l : ℕ) where
   -- row r of a buffer with its verdict
   abbrev decided : List ℕ → ℕ → Row
@@ -92,3 +104,67 @@ module _ (u v : ℕ → ℕ → ℕ → ℕ) (p : Pairings) (m n l : ℕ) where
         next = omega (arith, all, rows-count v p m n l);
         bytes = e ∙ (λ x. over (a .bytes x) 0 (rowsBytes (same x))) ∙ over-again old (rowsBytes (rowsOf u p m n l)) (rowsBytes rows) long;
       }
+
+  -- the same where only verdicts on base tracks differ, and the rows of these alone are written again
+  pub base-decided : (old : List ℕ) {new newer : List ℕ} → ((j k : ℕ) → u nobody j k ≡ v nobody j k) → new ≡ over old 0 (rowsBytes (rowsOf u p m n l))
+      → newer ≡ over new 0 (rowsBytes (tabulate m (baseRow v p))) → newer ≡ over old 0 (rowsBytes rows)
+  unfolding rowsOf
+  base-decided old same e f =
+      let row : (j k : ℕ) → rowAt u nobody j k ≡ rowAt v nobody j k = λ j k x. record { base = nobody; ours = j; theirs = k; verdict = same j k x } in
+      let ours = selected-ext n (withoutBase p) (withoutBase p) (oursRow u p) (oursRow v p) (λ j h. refl) (λ j h. row j (getD (p .oursTheirs .firsts) j 0)) in
+      let theirs = selected-ext l (remaining p) (remaining p) (theirsRow u p) (theirsRow v p) (λ k h. refl) (λ k h. row nobody k) in
+      let rest = selected n (withoutBase p) (oursRow v p) ++ selected l (remaining p) (theirsRow v p) in
+      let before = tabulate m (baseRow u p) in
+      let after = tabulate m (baseRow v p) in
+      let long : length (rowsBytes before) ≡ length (rowsBytes after) =
+      omega (arith, rows-length before, rows-length after, length-tabulate m (baseRow u p), length-tabulate m (baseRow v p)) in
+      f
+      ∙ ap (λ (z : List ℕ). over z 0 (rowsBytes after)) (e ∙ ap (over old 0) ((λ x. rowsBytes (before ++ (ours x ++ theirs x))) ∙ flatMap-append rowBytes before rest))
+      ∙ front-again old (rowsBytes before) (rowsBytes after) (rowsBytes rest) long
+      ∙ ap (over old 0) (sym (flatMap-append rowBytes after rest))
+
+-- ---- counts
+
+with-append : (k : ℕ) (a b : List Row) → rowsWith k (a ++ b) ≡ rowsWith k a + rowsWith k b
+unfolding rowsWith
+with-append k [] b = omega arith
+with-append k (w ∷ a) b = omega (arith, with-append k a b)
+
+-- two rules that differ in verdicts alone
+module _ (k : ℕ) (f g : ℕ → Row) (same : (i : ℕ) → rowsWith k (f i ∷ []) ≡ rowsWith k (g i ∷ [])) where
+  tabulated-with : (n : ℕ) → rowsWith k (tabulate n f) ≡ rowsWith k (tabulate n g)
+  unfolding tabulate
+  tabulated-with zero = refl
+  tabulated-with (suc n) = omega (arith, with-append k (tabulate n f) (f n ∷ []), with-append k (tabulate n g) (g n ∷ []), tabulated-with n, same n)
+
+  selected-with : (n : ℕ) (test : ℕ → Bool) → rowsWith k (selected n test f) ≡ rowsWith k (selected n test g)
+  unfolding selected
+  selected-with zero test = refl
+  selected-with (suc n) test =
+      omega (arith, with-append k (selected n test f) (cond (test n) (f n ∷ []) []), with-append k (selected n test g) (cond (test n) (g n ∷ []) []), selected-with n test, one (test n))
+    where
+      one : (b : Bool) → rowsWith k (cond b (f n ∷ []) []) ≡ rowsWith k (cond b (g n ∷ []) [])
+      one true = same n
+      one false = refl
+
+-- verdicts play no part in the counts
+pub counts-alike : (u v : ℕ → ℕ → ℕ → ℕ) (p : Pairings) (m n l : ℕ) → countsOf (rowsOf u p m n l) ≡ countsOf (rowsOf v p m n l)
+unfolding rowsOf rowsWith
+counts-alike u v p m n l = λ x. record { full = alike 3 x; half = alike 2 x; single = alike 1 x }
+  where
+    alike : (k : ℕ) → rowsWith k (rowsOf u p m n l) ≡ rowsWith k (rowsOf v p m n l)
+    alike k =
+        let ours-u = selected n (withoutBase p) (oursRow u p) in
+        let ours-v = selected n (withoutBase p) (oursRow v p) in
+        let theirs-u = selected l (remaining p) (theirsRow u p) in
+        let theirs-v = selected l (remaining p) (theirsRow v p) in
+        omega (
+          arith,
+          with-append k (tabulate m (baseRow u p)) (ours-u ++ theirs-u),
+          with-append k (tabulate m (baseRow v p)) (ours-v ++ theirs-v),
+          with-append k ours-u theirs-u,
+          with-append k ours-v theirs-v,
+          tabulated-with k (baseRow u p) (baseRow v p) (λ i. refl) m,
+          selected-with k (oursRow u p) (oursRow v p) (λ j. refl) n (withoutBase p),
+          selected-with k (theirsRow u p) (theirsRow v p) (λ j. refl) l (remaining p),
+        )

@@ -20,7 +20,8 @@ use Rattle.pairing.proofs.Tests.{left, right}
 use Rattle.pairing.proofs.Stability.Stable.{paired-stable}
 use Rattle.merge.specs.Tracks.{ThreeLists, trackCount}
 use Rattle.merge.specs.Candidates.{candidatesOf, among}
-use Rattle.merge.specs.Rows.{Row, rowBytes, rowsWith, isTrack, tracksAmong, verdictOn, Pairings, rowsOf}
+use Rattle.merge.specs.Rows.{Row, rowBytes, rowsWith, isTrack, tracksAmong, Pairings, rowsOf}
+use Rattle.merge.specs.Fused.{mergedVerdict}
 use Rattle.merge.specs.Merge.{partnersIn, pairingsOf, mergedRows, roomFor, countsOf}
 use Rattle.merge.specs.Buffer.{TrackOrNone, baseIn, oursIn, theirsIn, tracksIn, howMany, baseWithOurs, baseWithTheirs, oursWithTheirs}
 use Rattle.merge.specs.Demand3.{OnlyUnblocked, MergeRows, RowBuffer, Demand3}
@@ -70,7 +71,7 @@ module _ (lists : ThreeLists) (floor gate : Float) where
   pairings = record { baseOurs = partnersIn base-ours; baseTheirs = partnersIn base-theirs; oursTheirs = partnersIn ours-theirs }
 
   abbrev v : ℕ → ℕ → ℕ → ℕ
-  v = verdictOn lists
+  v = mergedVerdict lists floor
 
   abbrev pub rows : List Row
   rows = rowsOf v pairings m n l

@@ -15,7 +15,7 @@ use Rattle.pairing.specs.Pairing.{Pairs, Candidates, Ordered, paired, freeSecon
 use Rattle.pairing.proofs.Stability.Stable.{only-stable}
 use Rattle.merge.specs.Tracks.{ThreeLists, trackCount}
 use Rattle.merge.specs.Candidates.{candidatesOf, among}
-use Rattle.merge.specs.Rows.{verdictOn}
+use Rattle.merge.specs.Fused.{mergedVerdict}
 use Rattle.merge.specs.Merge.{merging, afterMerge}
 use Rattle.merge.specs.Buffer.{verdictIn, tracksIn, howMany, baseWithOurs, baseWithTheirs, oursWithTheirs}
 use Rattle.merge.specs.Demand3.{OnlyUnblocked, MergeRows, Demand3}
@@ -116,7 +116,7 @@ module _ {lists : ThreeLists} {floor gate : Float} {rows rows' : ℕ} {new new' 
   same-verdict r h =
       let w = same-row r h in
       e .verdicts r (omega (arith, same-rows))
-      ∙ (λ x. verdictOn lists (w .base x) (w .ours x) (w .theirs x))
+      ∙ (λ x. mergedVerdict lists floor (w .base x) (w .ours x) (w .theirs x))
       ∙ sym (d .verdicts r h)
 
   same-byte : (r c : ℕ) → r < rows → c < 4 → getD new (4 * r + c) 0 ≡ getD new' (4 * r + c) 0
