@@ -1,5 +1,5 @@
--- What a merge leaves in front of an array: `rows-in`, the rows that it found; `to-list`, all that their list is made from; `rows-front`, their bytes. `room-alike`: a buffer for
--- rows that is longer than any rows makes no difference. `found-is`: what the merge found, by the array.
+-- What a merge leaves in front of an array: `rows-in`, the rows that it found; `rows-take`, that each takes a track; `fused-in`, where the fused ones stand; `rows-front`, the rows'
+-- bytes. `room-alike`: a buffer for rows that is longer than any rows makes no difference. `found-is`: what the merge found, by the array.
 use Prim.Native.Nat.{ℕ, _+_, _*_, _<_, _≤_}
 use native.Mathlib.Omega.{arith}
 use mathlib.Core.Path.{_≡_, refl, sym, ap, subst, subst₂, _∙_}
@@ -14,21 +14,29 @@ use borrow.Author.Tests.{le-leb, ltb-false, eq-eqb, eqb-true}
 use Rattle.kernel.specs.Answer.{Outcome, refused, answered, andThen}
 use Rattle.kernel.proofs.Answers.{never}
 use Rattle.kernel.proofs.Lists.{by-elements, take-over}
-use Rattle.tracks.specs.Read.{TrackList, contents}
+use Rattle.dense.specs.Matrix.{rowOf}
+use Rattle.tracks.specs.Layout.{fields}
+use Rattle.fusion.specs.Fusion.{track}
 use Rattle.merge.specs.Tracks.{ThreeLists, trackCount}
 use Rattle.merge.specs.Rows.{Row, rowBytes, Equal, verdict, verdictOn, keep, takeOurs, takeTheirs, isTrack, tracksAmong}
 use Rattle.merge.specs.Merge.{acceptedLists, MergedLists, mergedLists, merging, oneDimension, roomFor, countsOf, rowsLeft, afterMerge}
-use Rattle.merge.specs.Buffer.{baseIn, oursIn, theirsIn, TrackOrNone}
+use Rattle.merge.specs.Fused.{fuse, Fuses}
+use Rattle.merge.specs.Buffer.{baseIn, oursIn, theirsIn, verdictIn, TrackOrNone}
 use Rattle.merge.specs.Demand3.{Demand3, Demanded}
 use Rattle.pairing.specs.Keys.{nobody}
-use Rattle.merge.specs.Private.{heldIn, held, heldThree}
+use Rattle.merge.specs.Private.{heldIn, heldThree, FusedStand}
 use Rattle.merge.specs.declared.Counts.{Counts}
 use Rattle.merge.specs.declared.Merged.{Merged}
 use Rattle.merge.specs.declared.Merged.the-variants as merged
 use Rattle.merge.proofs.Readings.Tracks.{few-tracks}
 use Rattle.merge.proofs.Buffers.Bytes.{rows-length, row-byte, front-byte}
+use Rattle.merge.proofs.FusedVerdicts.{fused-verdict}
 use Rattle.merge.proofs.Demand.EveryAnswer.{Accepted, lists-accepted, was-found, rows-counted}
-use Rattle.merge_list.specs.Private.{shorter, rowIn, rowsIn, RowsStand, Takes, found, ToList}
+use Rattle.merge.proofs.Demand.FusedRows.{lists-held, row-fuses}
+use Rattle.merge_list.specs.Private.{shorter, rowIn, rowsIn, RowsStand, found}
+use Rattle.merge_list.specs.MergeList.{fusionIn}
+use Rattle.merge_list.proofs.Chosen.{Takes, RowsTake}
+use Rattle.merge_list.proofs.ListBytes.{FusedIn}
 
 -- ---- room
 
@@ -120,9 +128,6 @@ one-dimension lists e =
     both true y e = (refl, e)
     both false y e = never e
 
-held-is : (l : List ℕ) {c : TrackList} → contents l ≡ answered c → held l ≡ c
-held-is l e = ap heldIn e
-
 module _ {base ours theirs : List ℕ} {floor gate : Float} {old new : List ℕ} {counts : Counts} (rest : List ℕ)
     (e : _≡_ {A = Merged × List ℕ} (merged.Counts counts, new) (afterMerge (merging base ours theirs floor gate (length old)) old))
     (given : Demanded base ours theirs floor gate old (merged.Counts counts) new) where
@@ -182,7 +187,7 @@ module _ {base ours theirs : List ℕ} {floor gate : Float} {old new : List ℕ}
 
   -- the lists are those that are held
   lists-are : d .lists ≡ heldThree base ours theirs
-  lists-are = λ i. record { base = sym (held-is base (d .base-read)) i; ours = sym (held-is ours (d .ours-read)) i; theirs = sym (held-is theirs (d .theirs-read)) i }
+  lists-are = lists-held base ours theirs d
 
   row-same : (r : ℕ) → r < total → rowIn array r ≡ rowIn new r
   row-same r h = λ i. record {
@@ -192,8 +197,15 @@ module _ {base ours theirs : List ℕ} {floor gate : Float} {old new : List ℕ}
     verdict = same-byte (4 * r + 3) (omega arith) i;
   }
 
+  -- a verdict that is not 5 is 01's
+  unfused : (r : ℕ) → r < total → (verdictIn new r ≡ fuse → ⊥) → verdictIn new r ≡ verdictOn (d .lists) (baseIn new r) (oursIn new r) (theirsIn new r)
+  unfused r h n =
+      let v = fused-verdict (d .lists) floor (baseIn new r) (oursIn new r) (theirsIn new r) in
+      let e = d .of-rows .verdicts r (omega (arith, d .of-counts .all-rows)) in
+      e ∙ v .otherwise (λ f. n (e ∙ v .exactly .1 f))
+
   -- each row takes a track that is there
-  takes-at : (r : ℕ) → r < total → Takes (d .lists) (rowIn new r)
+  takes-at : (r : ℕ) → r < total → Takes (d .lists) floor (rowIn new r)
   unfolding verdictOn tracksAmong
   takes-at r h =
       let w = d .of-rows in
@@ -201,42 +213,45 @@ module _ {base ours theirs : List ℕ} {floor gate : Float} {old new : List ℕ}
       let i = baseIn new r in
       let j = oursIn new r in
       let l = theirsIn new r in
-      let t = subst (TakenFrom (isTrack i) (isTrack j) (isTrack l)) (sym (w .verdicts r k)) (taken-from (isTrack i) (isTrack j) (isTrack l) _ (w .some-track r k)) in
+      let t : (verdictIn new r ≡ fuse → ⊥) → TakenFrom (isTrack i) (isTrack j) (isTrack l) (verdictIn new r) =
+      λ n. subst (TakenFrom (isTrack i) (isTrack j) (isTrack l)) (sym (unfused r h n)) (taken-from (isTrack i) (isTrack j) (isTrack l) _ (w .some-track r k)) in
       record {
-        of-base = λ z. there (w .base-indices r k) (t .of-base z);
-        of-ours = λ z. there (w .ours-indices r k) (t .of-ours z);
-        of-theirs = λ z. there (w .theirs-indices r k) (t .of-theirs z);
+        of-base = λ z. there (w .base-indices r k) (t (λ y. omega (arith, y, z)) .of-base z);
+        of-ours = λ z. there (w .ours-indices r k) (t (λ y. omega (arith, y, z)) .of-ours z);
+        of-theirs = λ z. there (w .theirs-indices r k) (t (λ y. omega (arith, y, z)) .of-theirs z);
+        of-fused = λ z. subst (λ (x : ThreeLists). Fuses x floor i j l) (sym lists-are) (row-fuses base ours theirs d r h z);
       }
 
   accepted-17 : Accepted base ours theirs (was .0 .lists)
   accepted-17 = was-found base ours theirs floor gate old (was .1) .accepted
 
-  pub to-list : ToList base ours theirs array total
-  to-list =
-      let a = accepted-17 in
-      let b = held-is base (a .base-read) in
-      let o = held-is ours (a .ours-read) in
-      let t = held-is theirs (a .theirs-read) in
-      let same = one-dimension (was .0 .lists) (a .question-17) in
+  -- those of the merge too
+  lists-were : was .0 .lists ≡ heldThree base ours theirs
+  lists-were = let a = accepted-17 in λ i. record { base = sym (ap heldIn (a .base-read)) i; ours = sym (ap heldIn (a .ours-read)) i; theirs = sym (ap heldIn (a .theirs-read)) i }
+
+  pub rows-take : RowsTake base ours theirs floor array total
+  rows-take =
+      let a = subst (Accepted base ours theirs) lists-were accepted-17 in
+      let same = one-dimension (heldThree base ours theirs) (a .question-17) in
       record {
-        base-read = a .base-read ∙ ap answered (sym b);
-        ours-read = a .ours-read ∙ ap answered (sym o);
-        theirs-read = a .theirs-read ∙ ap answered (sym t);
-        ours-dimension = ap (λ (c : TrackList). c .dimension) o ∙ sym (same .0) ∙ sym (ap (λ (c : TrackList). c .dimension) b);
-        theirs-dimension = ap (λ (c : TrackList). c .dimension) t ∙ sym (same .1) ∙ sym (ap (λ (c : TrackList). c .dimension) b);
+        base-read = a .base-read;
+        ours-read = a .ours-read;
+        theirs-read = a .theirs-read;
+        ours-dimension = sym (same .0);
+        theirs-dimension = sym (same .1);
         stand = stand;
-        takes = λ r h. subst₂ Takes lists-are (sym (row-same r h)) (takes-at r h);
+        takes = λ r h. subst₂ (λ (x : ThreeLists) (w : Row). Takes x floor w) lists-are (sym (row-same r h)) (takes-at r h);
       }
+
+  -- what stands in values
+  pub fused-in : (values : List Float) → FusedStand base ours theirs floor (merged.Counts counts) new values → FusedIn (heldThree base ours theirs) floor array total values
+  fused-in values f r h =
+      let lists = heldThree base ours theirs in
+      subst (λ (w : Row). w .verdict ≡ fuse → fusionIn lists floor w ≡ track (rowOf values (fields (lists .base .dimension)) (w .base))) (sym (row-same r h)) (f counts refl r h)
 
   -- what the merge found, by the array
   pub found-is : merging base ours theirs floor gate (length old) ≡ answered (found base ours theirs array total)
-  found-is =
-      let a = accepted-17 in
-      was .1
-      ∙ (λ i. answered (record {
-        lists = record { base = sym (held-is base (a .base-read)) i; ours = sym (held-is ours (a .ours-read)) i; theirs = sym (held-is theirs (a .theirs-read)) i };
-        rows = sym rows-in i;
-      }))
+  found-is = was .1 ∙ (λ i. answered (record { lists = lists-were i; rows = sym rows-in i }))
 
   -- the counts are those of its rows, and the rows' bytes stand in front
   pub counts-are : counts ≡ countsOf (rowsIn array total)

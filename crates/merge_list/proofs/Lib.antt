@@ -1,6 +1,8 @@
 pub mod Verdicts
 pub mod Taken
+pub mod Fused
 pub mod Chosen
+pub mod ListBytes
 pub mod Asked
 pub mod Found
 pub mod Places

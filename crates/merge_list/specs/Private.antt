@@ -2,20 +2,25 @@
 use Prim.Native.Nat.{ℕ, _+_, _*_, _<_, _≤_}
 use mathlib.Core.Path.{_≡_}
 use mathlib.Core.Bool.{Bool, true, false, cond}
-use mathlib.Core.List.{List, [], _++_, flatMap}
+use mathlib.Core.List.{List, [], _∷_, _++_, flatMap}
 use lib.Dec.{eqb, ltb}
-use lib.ListN.{length}
-use Rattle.kernel.specs.Answer.{answered}
+use lib.Ieee.{Float}
+use lib.ListN.{length, replicate}
 use Rattle.kernel.specs.Lists.{tabulate}
-use Rattle.tracks.specs.Read.{contents}
+use Rattle.dense.specs.Matrix.{rowOf}
+use Rattle.tracks.specs.Layout.{fields}
+use Rattle.tracks.specs.Read.{dimension}
+use Rattle.tracks.specs.Write.{recordOf}
 use Rattle.tracks.specs.Record.{trackRecord}
+use Rattle.tracks.specs.Calls.{trackOffsets}
+use Rattle.tracks.specs.Private.{trackOfDoubles}
 use Rattle.tracks.specs.declared.write.WrittenList.{WrittenList}
 use Rattle.tracks.specs.declared.write.WrittenList.the-variants.{Length, Refused}
-use Rattle.merge.specs.Tracks.{ThreeLists, trackCount}
 use Rattle.merge.specs.Rows.{Row, keep, takeOurs, takeTheirs}
+use Rattle.merge.specs.Fused.{fuse}
 use Rattle.merge.specs.Merge.{MergedLists}
 use Rattle.merge.specs.Buffer.{baseIn, oursIn, theirsIn, verdictIn}
-use Rattle.merge.specs.Private.{held, heldThree}
+use Rattle.merge.specs.Private.{heldThree}
 use Rattle.merge.specs.declared.Counts.{Counts}
 use Rattle.merge_list.specs.MergeList.{takers}
 use Rattle.merge_list.specs.declared.MergedList.{MergedList}
@@ -42,27 +47,41 @@ pub record RowsStand (rows : List ℕ) (total : ℕ) : Type 0 where
 
 -- ---- the records that rows take
 
--- Three lists, and where their tracks start and end.
+-- Three lists, where their tracks start and end, and values in which a fused track stands in the place of its base track.
 pub record Sources : Type 0 where
   pub base : List ℕ
   pub ours : List ℕ
   pub theirs : List ℕ
   pub offsets : Offsets
+  pub values : List Float
 
-abbrev pub sources : List ℕ → List ℕ → List ℕ → Offsets → Sources
-sources b o t offsets = record { base = b; ours = o; theirs = t; offsets = offsets }
+abbrev pub sources : List ℕ → List ℕ → List ℕ → Offsets → List Float → Sources
+sources b o t offsets values = record { base = b; ours = o; theirs = t; offsets = offsets; values = values }
+
+-- The same with the offsets that `track_offsets` leaves.
+abbrev pub offsetsOf : List ℕ → List ℕ
+offsetsOf l = trackOffsets l (replicate 33 0) .1
+
+abbrev pub located : List ℕ → List ℕ → List ℕ → List Float → Sources
+located b o t values = sources b o t (record { base = offsetsOf b; ours = offsetsOf o; theirs = offsetsOf t }) values
 
 -- Bytes where they are wanted.
 abbrev pub bytesIf : Bool → List ℕ → List ℕ
 bytesIf wanted bytes = cond wanted bytes []
 
+-- The record of the fields that stand in values in the place of track i of a list.
+unfoldable pub placedRecord : List ℕ → List Float → ℕ → List ℕ
+unfolding recordOf rowOf
+placedRecord l values i = recordOf (dimension l) (trackOfDoubles (rowOf values (fields (dimension l)) i))
+
 -- The record that a row takes, and those of rows one after another.
 unfoldable pub recordTaken : Sources → Row → List ℕ
-unfolding trackRecord
+unfolding trackRecord placedRecord
 recordTaken s w =
     bytesIf (eqb (w .verdict) keep) (trackRecord (s .base) (s .offsets .base) (w .base))
     ++ (bytesIf (eqb (w .verdict) takeOurs) (trackRecord (s .ours) (s .offsets .ours) (w .ours))
-    ++ bytesIf (eqb (w .verdict) takeTheirs) (trackRecord (s .theirs) (s .offsets .theirs) (w .theirs)))
+    ++ (bytesIf (eqb (w .verdict) takeTheirs) (trackRecord (s .theirs) (s .offsets .theirs) (w .theirs))
+    ++ bytesIf (eqb (w .verdict) fuse) (placedRecord (s .base) (s .values) (w .base))))
 
 abbrev pub recordsTaken : Sources → List Row → List ℕ
 recordsTaken s rows = flatMap (recordTaken s) rows
@@ -71,34 +90,44 @@ recordsTaken s rows = flatMap (recordTaken s) rows
 abbrev pub RecordsFit : Sources → List Row → List ℕ → Type 0
 RecordsFit s rows out = 2 + length (recordsTaken s rows) ≤ length out
 
--- ---- all of it
+-- The list of them, with these two bytes.
+abbrev pub listTaken : Sources → List Row → List ℕ
+listTaken s rows = takers rows ∷ dimension (s .base) ∷ recordsTaken s rows
 
--- That a row takes a track that is there.
-pub record Takes (lists : ThreeLists) (w : Row) : Type 0 where
-  pub of-base : w .verdict ≡ keep → w .base < trackCount (lists .base)
-  pub of-ours : w .verdict ≡ takeOurs → w .ours < trackCount (lists .ours)
-  pub of-theirs : w .verdict ≡ takeTheirs → w .theirs < trackCount (lists .theirs)
+-- ---- what is asked, part by part
+
+-- That a list has a dimension.
+pub record Sized (l : List ℕ) : Type 0 where
+  pub two : 2 ≤ length l
+  pub small : dimension l ≤ 9
+
+-- That values have the place of track i of a list, where it is wanted.
+abbrev pub HasPlace : Bool → List ℕ → List Float → ℕ → Type 0
+HasPlace wanted l values i = wanted ≡ true → i * fields (dimension l) + fields (dimension l) ≤ length values
+
+-- That rows stand in a buffer, and that values have the places of base's tracks that are fused.
+pub record ToTake (base : List ℕ) (values : List Float) (rows : List ℕ) (total : ℕ) : Type 0 where
+  pub stand : RowsStand rows total
+  pub sized : Sized base
+  pub fused : (r : ℕ) → r < total → HasPlace (eqb (verdictIn rows r) fuse) base values (baseIn rows r)
+
+-- The same, and that their list is no longer than the longest one, if it has no more tracks.
+pub record ToList (s : Sources) (rows : List ℕ) (total : ℕ) : Type 0 where
+  pub takes : ToTake (s .base) (s .values) rows total
+  pub size : takers (rowsIn rows total) ≤ 32 → length (listTaken s (rowsIn rows total)) ≤ 14050
+
+-- That the list has so many tracks, and that there is room for it.
+pub record ToPut (s : Sources) (rows : List ℕ) (total count : ℕ) (list : List ℕ) : Type 0 where
+  pub takes : ToTake (s .base) (s .values) rows total
+  pub counted : count ≡ takers (rowsIn rows total)
+  pub few : count ≤ 32
+  pub room : length (listTaken s (rowsIn rows total)) ≤ length list
+
+-- ---- all of it
 
 -- What a merge of these lists found whose first rows stand in a buffer.
 abbrev pub found : List ℕ → List ℕ → List ℕ → List ℕ → ℕ → MergedLists
 found base ours theirs rows total = record { lists = heldThree base ours theirs; rows = rowsIn rows total }
-
--- That the list of rows can be made: three lists of one dimension, rows in a buffer, and that each takes a track that is there.
-pub record ToList (base ours theirs rows : List ℕ) (total : ℕ) : Type 0 where
-  pub base-read : contents base ≡ answered (held base)
-  pub ours-read : contents ours ≡ answered (held ours)
-  pub theirs-read : contents theirs ≡ answered (held theirs)
-  pub ours-dimension : held ours .dimension ≡ held base .dimension
-  pub theirs-dimension : held theirs .dimension ≡ held base .dimension
-  pub stand : RowsStand rows total
-  pub takes : (r : ℕ) → r < total → Takes (heldThree base ours theirs) (rowIn rows r)
-
--- That it can be put into a buffer: so many rows take a track, no more than a list can have, and the buffer is as long as the longest list.
-pub record ToPut (base ours theirs rows : List ℕ) (total count : ℕ) (list : List ℕ) : Type 0 where
-  pub of-rows : ToList base ours theirs rows total
-  pub counted : count ≡ takers (rowsIn rows total)
-  pub few : count ≤ 32
-  pub room : length list ≡ 14050
 
 -- Whether a list is written, and the answer by that to the list and by a merge's counts.
 abbrev pub isWritten : WrittenList → Bool

@@ -9,7 +9,7 @@ mod writing;
 
 use merge::Counts;
 use merge::Merged;
-use merge::merge;
+use merge::inside::merge_fused;
 use records::copy_bytes;
 use tracks::write::WrittenList;
 use writing::write_chosen;
@@ -54,7 +54,8 @@ fn answer_with(list: WrittenList, counts: Counts) -> MergedList
 }
 
 // Merges ours and theirs over their base, as `merge` does, and writes the merged list. The rows go to the front of their buffer and
-// the list to the front of `out`; the rest of both stays. The rows are found in a local array, since a conflict among them refuses.
+// the list to the front of `out`; the rest of both stays. The rows are found in a local array, since a conflict among them refuses,
+// and the fused tracks in another.
 pub fn merge_list(
     base: &[u8],
     ours: &[u8],
@@ -69,12 +70,21 @@ pub fn merge_list(
         (now (rows .entry)) (now (out .entry)) ⌝ }
 {
     let mut found = [0u8; 384];
+    let mut values = [0.0f64; 1728];
     let room = row_room(rows.len());
-    let m = merge(base, ours, theirs, floor, gate, &mut found[..room]);
+    let m = merge_fused(
+        base,
+        ours,
+        theirs,
+        floor,
+        gate,
+        &mut found[..room],
+        &mut values,
+    );
     match m {
         Merged::Counts(counts) => {
             let total = counts.full + counts.half + counts.single;
-            let list = write_chosen(base, ours, theirs, &found, total, out);
+            let list = write_chosen(base, ours, theirs, &values, &found, total, out);
             copy_bytes(list_written(list), &found[..4 * total], rows, 0);
             answer_with(list, counts)
         }

@@ -2,15 +2,15 @@
 ghost use mathlib.Core.Path.{_≡_};
 ghost use Prim.Native.Nat.{_≤_};
 ghost use lib.ListN.{length};
-ghost use Rattle.tracks.specs.Write.{listOf};
 ghost use Rattle.tracks.specs.Calls.{writeAnswer, writeBytes};
 ghost use Rattle.tracks.specs.Private.{Writes};
-ghost use Rattle.merge_list.specs.MergeList.{withVerdict, chosenList, listOfRows};
-ghost use Rattle.merge_list.specs.Private.{rowsIn, found, RowsStand, ToList, ToPut};
+ghost use Rattle.merge_list.specs.MergeList.{withVerdict, listOfRows};
+ghost use Rattle.merge_list.specs.Private.{rowsIn, located, listTaken, RowsStand, ToList, ToPut};
 use crate::records::copy_bytes;
 use crate::records::write_records;
 use kernel::question;
 use merge::verdict::CONFLICT;
+use merge::verdict::FUSE;
 use merge::verdict::KEEP;
 use merge::verdict::Offsets;
 use merge::verdict::TAKE_OURS;
@@ -32,18 +32,20 @@ fn with_verdict(rows: &[u8], total: usize, verdict: u8) -> usize
     count
 }
 
-// Writes the merged list of so many tracks into a buffer for the longest one, and gives its length.
+// Writes the list of so many tracks, and gives its length.
 fn put_list(
     base: &[u8],
     ours: &[u8],
     theirs: &[u8],
+    values: &[f64],
     rows: &[u8],
     total: usize,
     count: usize,
     list: &mut [u8],
 ) -> usize
-    requires { ⌜ ToPut (now base) (now ours) (now theirs) (now rows) total count (now list) ⌝ }
-    ensures { λ r. ⌜ Writes (listOf (chosenList (found (now (base .entry)) (now (ours .entry)) (now (theirs .entry)) (now (rows .entry)) total))) (now (list .entry)) 0 r (now (list .exit)) ⌝ }
+    requires { ⌜ ToPut (located (now base) (now ours) (now theirs) (now values)) (now rows) total count (now list) ⌝ }
+    ensures { λ r. ⌜ Writes (listTaken (located (now (base .entry)) (now (ours .entry)) (now (theirs .entry)) (now (values .entry))) (rowsIn (now (rows .entry)) total))
+        (now (list .entry)) 0 r (now (list .exit)) ⌝ }
     ensures { λ r. ⌜ r ≤ length (now (list .exit)) ⌝ }
 {
     let mut base_offsets = [0usize; 33];
@@ -59,7 +61,7 @@ fn put_list(
     };
     list[0] = count as u8;
     list[1] = base[1];
-    write_records(base, ours, theirs, offsets, rows, total, list)
+    write_records(base, ours, theirs, offsets, values, rows, total, list)
 }
 
 // Writes the list of the tracks that the first `total` rows of a merge of three lists take. It stands in a local array before its length
@@ -68,20 +70,23 @@ pub(crate) fn write_chosen(
     base: &[u8],
     ours: &[u8],
     theirs: &[u8],
+    values: &[f64],
     rows: &[u8],
     total: usize,
     out: &mut [u8],
 ) -> WrittenList
-    requires { ⌜ ToList (now base) (now ours) (now theirs) (now rows) total ⌝ }
-    ensures { λ r. ⌜ r ≡ writeAnswer (listOfRows (length (now (out .entry))) (found (now (base .entry)) (now (ours .entry)) (now (theirs .entry)) (now (rows .entry)) total)) ⌝ }
-    ensures { λ _. ⌜ now (out .exit)
-        ≡ writeBytes (listOfRows (length (now (out .entry))) (found (now (base .entry)) (now (ours .entry)) (now (theirs .entry)) (now (rows .entry)) total)) (now (out .entry)) ⌝ }
+    requires { ⌜ ToList (located (now base) (now ours) (now theirs) (now values)) (now rows) total ⌝ }
+    ensures { λ r. ⌜ r ≡ writeAnswer (listOfRows (length (now (out .entry))) (rowsIn (now (rows .entry)) total)
+        (listTaken (located (now (base .entry)) (now (ours .entry)) (now (theirs .entry)) (now (values .entry))) (rowsIn (now (rows .entry)) total))) ⌝ }
+    ensures { λ _. ⌜ now (out .exit) ≡ writeBytes (listOfRows (length (now (out .entry))) (rowsIn (now (rows .entry)) total)
+        (listTaken (located (now (base .entry)) (now (ours .entry)) (now (theirs .entry)) (now (values .entry))) (rowsIn (now (rows .entry)) total))) (now (out .entry)) ⌝ }
 {
     let conflicts = with_verdict(rows, total, CONFLICT);
     let kept = with_verdict(rows, total, KEEP);
     let from_ours = with_verdict(rows, total, TAKE_OURS);
     let from_theirs = with_verdict(rows, total, TAKE_THEIRS);
-    let count = kept + from_ours + from_theirs;
+    let fused = with_verdict(rows, total, FUSE);
+    let count = kept + from_ours + from_theirs + fused;
     if conflicts != 0 {
         return WrittenList::Refused(question::NO_CONFLICT);
     }
@@ -89,7 +94,7 @@ pub(crate) fn write_chosen(
         return WrittenList::Refused(question::MERGED_COUNT);
     }
     let mut list = [0u8; 14050];
-    let length = put_list(base, ours, theirs, rows, total, count, &mut list);
+    let length = put_list(base, ours, theirs, values, rows, total, count, &mut list);
     if out.len() < length {
         return WrittenList::Refused(question::LIST_BUFFER);
     }

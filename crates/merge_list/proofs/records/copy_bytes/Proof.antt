@@ -1,19 +1,17 @@
 -- `copy_bytes` meets its contract: before turn i the first i bytes are copied.
 use borrow.Author.Tests.{not-true, not-false}
 use mathlib.Core.Path.{_≡_, sym, ap, _∙_}
-use mathlib.Core.Bool.{Bool, false}
-use mathlib.Core.List.{List}
-use Prim.Native.Nat.{ℕ, _+_, _-_, _≤_}
+use mathlib.Core.Bool.{Bool}
+use Prim.Native.Nat.{_+_, _-_, _≤_}
 use native.Mathlib.Nat.{add-zero}
 use native.Mathlib.Omega.{arith}
 use denote.Ref.{now}
 use lib.ListN.{length, take}
 use lib.Seq.{length-take-le, take-all}
-use Rattle.kernel.proofs.Lists.{over-none}
-use Rattle.tracks.specs.Private.{Writes}
 use Rattle.tracks.proofs.Slices.Lists.{take-more}
 use Rattle.tracks.proofs.Slices.Laid.{Laid, laid-none, laid-set, laid-all}
 use Rattle.merge_list.specs.Private.{bytesIf}
+use Rattle.merge_list.proofs.Taken.{unwanted}
 use Rattle.merge_list.proofs.records.copy_bytes.Statement.{statement}
 use Rattle.merge_list.proofs.records.copy_bytes.Tie as tie
 
@@ -23,13 +21,10 @@ Inv-loop wanted from to₀ at i₀ i-end to i = (i ≤ length from) × Laid to�
 abbrev μ-loop : tie.MeasureT-loop
 μ-loop wanted from to₀ at i₀ i-end to i = length from - i
 
--- bytes that are not wanted, and bytes that are
-unwanted : (wanted : Bool) (bytes old : List ℕ) (at : ℕ) → wanted ≡ false → Writes (bytesIf wanted bytes) old at at old
-unwanted wanted bytes old at e = rw e (sym (add-zero at), sym (over-none old at))
-
 returns : tie.Need-returns Inv-loop μ-loop
 returns c = let x = c .before .args in unwanted (x .wanted) (now (x .from)) (now (x .to)) (x .at) (not-true (x .wanted) (c .if1 .taken))
 
+-- bytes that are wanted
 wanted : (c : tie.Else1 Inv-loop μ-loop) → let x = c .before .args in bytesIf (x .wanted) (now (x .from)) ≡ now (x .from)
 wanted c = let x = c .before .args in ap (λ (b : Bool). bytesIf b (now (x .from))) (not-false (x .wanted) (c .if1 .left))
 

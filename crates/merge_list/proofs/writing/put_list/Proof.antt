@@ -1,23 +1,15 @@
--- `put_list` meets its contract: count, dimension and the records that the rows take are the merged list.
+-- `put_list` meets its contract: count, dimension and the records that the rows take.
 use borrow.Author.Needs.{needs}
-use borrow.Author.Tests.{le-leb}
 use Prim.Native.Nat.{ℕ, _+_, _≤_}
 use native.Mathlib.Omega.{arith}
 use mathlib.Core.Path.{_≡_, sym, ap, _∙_}
-use mathlib.Core.Bool.{true}
 use mathlib.Core.List.{List, _∷_}
 use denote.Ref.{now}
 use lib.ListN.{length, length-set}
-use Rattle.kernel.specs.Bytes.{Bytes}
 use Rattle.kernel.specs.Lists.{over}
-use Rattle.tracks.specs.Layout.{countMet}
 use Rattle.tracks.specs.Read.{dimension}
-use Rattle.tracks.specs.Write.{listOf}
-use Rattle.tracks.proofs.Reading.Accepted.{contents-met}
 use Rattle.tracks.proofs.Slices.Lists.{over-two}
-use Rattle.merge_list.specs.MergeList.{takers, chosenList}
-use Rattle.merge_list.specs.Private.{rowsIn, Sources, sources, recordsTaken, found}
-use Rattle.merge_list.proofs.Chosen.{located, list-shape, list-size}
+use Rattle.merge_list.specs.Private.{rowsIn, Sources, sources, located, recordsTaken, listTaken}
 use Rattle.merge_list.proofs.writing.put_list.Statement.{statement}
 use Rattle.merge_list.proofs.writing.put_list.Tie as tie
 
@@ -32,65 +24,46 @@ abbrev first : tie.After-track-offsets2 → tie.After-track-offsets
 first c = c .before .before .before
 
 abbrev start-of : tie.After-track-offsets3 → tie.Start
-start-of c = first (second c) .before .before .before .before .before .before .before
-
--- the two bytes of an accepted list
-two : (s : tie.Start) → 2 ≤ length (now (s .args .base))
-two s = contents-met (now (s .args .base)) (s .pre .of-rows .base-read) .two
+start-of c = first (second c) .before .before .before .before .before .before .before .before
 
 -- the offsets are those of the three lists
 abbrev told : tie.After-track-offsets3 → Sources
 told c =
     let x = start-of c .args in
     sources (now (x .base)) (now (x .ours)) (now (x .theirs))
-    (record { base = first (second c) .track-offsets .last .1 .0; ours = second c .track-offsets2 .last .1 .0; theirs = c .track-offsets3 .last .1 .0 })
+    (record { base = first (second c) .track-offsets .last .1 .0; ours = second c .track-offsets2 .last .1 .0; theirs = c .track-offsets3 .last .1 .0 }) (now (x .values))
 
-told-located : (c : tie.After-track-offsets3) → let x = start-of c .args in told c ≡ located (now (x .base)) (now (x .ours)) (now (x .theirs))
+told-located : (c : tie.After-track-offsets3) → let x = start-of c .args in told c ≡ located (now (x .base)) (now (x .ours)) (now (x .theirs)) (now (x .values))
 told-located c =
     let x = start-of c .args in
     λ i. sources (now (x .base)) (now (x .ours)) (now (x .theirs)) (record {
       base = first (second c) .track-offsets .ensures i .1;
       ours = second c .track-offsets2 .ensures i .1;
       theirs = c .track-offsets3 .ensures i .1;
-    })
+    }) (now (x .values))
 
--- so the merged list is the count, the dimension and the records
+-- so the list is the count, the dimension and the records
 abbrev list-of : tie.Start → List ℕ
-list-of s = let x = s .args in listOf (chosenList (found (now (x .base)) (now (x .ours)) (now (x .theirs)) (now (x .rows)) (x .total)))
+list-of s = let x = s .args in listTaken (located (now (x .base)) (now (x .ours)) (now (x .theirs)) (now (x .values))) (rowsIn (now (x .rows)) (x .total))
 
 abbrev records-of : tie.After-track-offsets3 → List ℕ
 records-of c = let x = start-of c .args in recordsTaken (told c) (rowsIn (now (x .rows)) (x .total))
-
-bytes-of : (c : tie.After-track-offsets3) → let x = start-of c .args in Bytes (now (x .base)) × Bytes (now (x .ours)) × Bytes (now (x .theirs))
-bytes-of c =
-    let k = first (second c) .before .before .before in (
-      λ i. omega (arith, k .before .before .before .shared-slice-known .given i),
-      λ i. omega (arith, k .before .before .shared-slice-known2 .given i),
-      λ i. omega (arith, k .before .shared-slice-known3 .given i),
-    )
 
 shape : (c : tie.After-track-offsets3) → let s = start-of c in list-of s ≡ s .args .count ∷ dimension (now (s .args .base)) ∷ records-of c
 shape c =
     let s = start-of c in
     let x = s .args in
-    let h = bytes-of c in
-    list-shape (h .0) (h .1) (h .2) (s .pre .of-rows)
-    ∙ (λ i. sym (s .pre .counted) i ∷ contents-met (now (x .base)) (s .pre .of-rows .base-read) .dimension i ∷ recordsTaken (sym (told-located c) i) (rowsIn (now (x .rows)) (x .total)))
+    λ i. sym (s .pre .counted) i ∷ dimension (now (x .base)) ∷ recordsTaken (sym (told-located c) i) (rowsIn (now (x .rows)) (x .total))
 
 -- and there is room for it
 room : (c : tie.After-track-offsets3) → let s = start-of c in 2 + length (records-of c) ≤ length (now (s .args .list))
-room c =
-    let s = start-of c in
-    let h = bytes-of c in
-    let few : countMet (takers (rowsIn (now (s .args .rows)) (s .args .total))) ≡ true =
-    le-leb (takers (rowsIn (now (s .args .rows)) (s .args .total))) 32 (omega (arith, s .pre .few, s .pre .counted)) in
-    omega (arith, list-size (h .0) (h .1) (h .2) (s .pre .of-rows) few, ap length (shape c), s .pre .room)
+room c = omega (arith, ap length (shape c), start-of c .pre .room)
 
 write-records-requires : tie.Need-write-records-requires
-write-records-requires c κs = let t = third c in (start-of t .pre .of-rows .stand, simp length-set (omega (arith, room t)))
+write-records-requires c κs = let t = third c in (start-of t .pre .takes, simp length-set (omega (arith, room t)))
 
 same-length : tie.Need-same-length
-same-length c = c .before .before .write-records .kept .1 .1 .1 .1 .1 .1 .0 ∙ simp length-set
+same-length c = c .before .before .write-records .kept .1 .1 .1 .1 .1 .1 .1 .0 ∙ simp length-set
 
 returns : tie.Need-returns
 returns c =
@@ -98,7 +71,7 @@ returns c =
     let t = third (w .before) in
     let s = start-of t in
     let e = w .write-records .ensures in
-    let kept : length (w .write-records .last .1 .1 .1 .1 .1 .1 .0) ≡ length (now (s .args .list)) = w .write-records .kept .1 .1 .1 .1 .1 .1 .0 ∙ simp length-set in (
+    let kept : length (w .write-records .last .1 .1 .1 .1 .1 .1 .1 .0) ≡ length (now (s .args .list)) = w .write-records .kept .1 .1 .1 .1 .1 .1 .1 .0 ∙ simp length-set in (
       (
         omega (arith, e .0, ap length (shape t)),
         e .1 ∙ over-two (now (s .args .list)) (s .args .count) (dimension (now (s .args .base))) (records-of t) (omega (arith, room t)) ∙ ap (over (now (s .args .list)) 0) (sym (shape t)),
@@ -109,6 +82,6 @@ returns c =
 pub put-list-spec : {M : Type 1} → statement M
 put-list-spec =
     tie.close
-    (tie.spec (λ c. search needs) (λ c κs. search needs) (λ c. search needs) (λ c κs. search needs) (λ c. search needs) (λ c κs. search needs) (λ c. search needs) (λ c. search needs)
-    (λ c. omega (arith, two (start-of (c .before .before)))) (λ c. simp length-set (omega (arith, start-of (c .before .before) .pre .room)))
+    (tie.spec (λ c. search needs) (λ c κs. search needs) (λ c. search needs) (λ c κs. search needs) (λ c. search needs) (λ c κs. search needs) (λ c. search needs)
+    (λ c. omega (arith, room (c .before))) (λ c. omega (arith, start-of (c .before .before) .pre .takes .sized .two)) (λ c. simp length-set (omega (arith, room (c .before .before))))
     write-records-requires same-length returns)
