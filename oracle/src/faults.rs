@@ -1,8 +1,10 @@
 //! Faults that the selftest plants, one at a time, between the library's answer and the checks: what a wrong call would leave in the
 //! memory that it was lent. A kind of fault is planted in every call that it can occur in, by the rules of `all`.
 use crate::lent::Memory;
+use fusions::Rule;
 use std::cell::Cell;
 
+pub mod fusions;
 mod merges;
 
 /// The first entry that is written, or the last.
@@ -52,6 +54,12 @@ pub enum Fault {
     Verdict(u8, u8),
     /// For rows of a verdict the merged list has the record of this list, or none.
     Record(u8, Option<usize>),
+    /// Three tracks are fused by another rule.
+    Fusion(Rule),
+    /// A fused row refuses the merged list as a conflict does.
+    FusedRefuses,
+    /// Fused rows are not counted where the merged list has too many tracks.
+    FusedUncounted,
 }
 
 /// A part of a result, and which of the faults it can have.
@@ -131,6 +139,11 @@ pub fn set(fault: Option<(&'static str, Fault)>) {
     PLANTED.set(fault);
 }
 
+/// The fault that is planted in the call, where one is.
+pub fn planted(call: &'static str) -> Option<Fault> {
+    PLANTED.get().filter(|(name, _)| *name == call).map(|(_, fault)| fault)
+}
+
 /// What a call answered and left in the memory that it was lent.
 pub struct Met<'a> {
     pub number: &'a mut u32,
@@ -145,18 +158,14 @@ pub struct Met<'a> {
 
 /// Changes what a call has left as the planted fault says, where one is planted in it.
 pub fn plant<'a>(call: &'static str, met: impl FnOnce() -> Met<'a>) {
-    match PLANTED.get() {
-        Some((name, fault)) if name == call => met().suffer(fault),
-        _ => {}
+    if let Some(fault) = planted(call) {
+        met().suffer(fault);
     }
 }
 
 /// The same for a call that answers a number and is lent nothing.
 pub fn planted_in(call: &'static str, answer: f64) -> f64 {
-    match PLANTED.get() {
-        Some((name, fault)) if name == call => changed(fault, answer),
-        _ => answer,
-    }
+    planted(call).map_or(answer, |fault| changed(fault, answer))
 }
 
 /// What stands for a result that was not written, where a call has no memory to write.

@@ -158,6 +158,19 @@ extern "C" {
         kind: &mut u32,
         d2: &mut f64,
     ) -> u32;
+    fn pel_fuse(
+        base: *const f64,
+        base_len: usize,
+        ours: *const f64,
+        ours_len: usize,
+        theirs: *const f64,
+        theirs_len: usize,
+        d: usize,
+        floor: f64,
+        out: *mut f64,
+        out_len: usize,
+        fused: &mut u32,
+    ) -> u32;
 
     fn pel_read_list(
         list: *const u8,
@@ -415,6 +428,27 @@ pub fn compare(i: [&[f64]; 2], j: [&[f64]; 2], n: usize, within: (f64, f64), kin
             gate,
             kind,
             d2,
+        )
+    }
+}
+
+/// The fields of base, ours and theirs, of dimension d, with the floor; the fused track's fields go to `out`, and whether there is one to
+/// `fused`.
+pub fn fuse(tracks: [&[f64]; 3], d: usize, floor: f64, out: &mut [f64], fused: &mut u32) -> u32 {
+    let [base, ours, theirs] = tracks;
+    unsafe {
+        pel_fuse(
+            base.as_ptr(),
+            base.len(),
+            ours.as_ptr(),
+            ours.len(),
+            theirs.as_ptr(),
+            theirs.len(),
+            d,
+            floor,
+            out.as_mut_ptr(),
+            out.len(),
+            fused,
         )
     }
 }

@@ -4,6 +4,7 @@ pub mod comparisons;
 pub mod dump;
 pub mod faults;
 pub mod ffi;
+pub mod fusing;
 pub mod lent;
 pub mod lists;
 pub mod matrix;

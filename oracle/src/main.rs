@@ -3,10 +3,10 @@
 //! stand.
 use oracle::merge::list::run::{self as merged_lists, MERGE_LIST};
 use oracle::merge::{checks, program, run as merges};
-use oracle::{comparisons, dump, ffi, lists, matrix, number, selftest, source, tally, vectors};
+use oracle::{comparisons, dump, ffi, fusing, lists, matrix, number, selftest, source, tally, vectors};
 use std::process::ExitCode;
 
-const TOPICS: [&str; 6] = ["number", "matrix", "comparisons", "lists", "merge", "dump"];
+const TOPICS: [&str; 7] = ["number", "matrix", "comparisons", "fusing", "lists", "merge", "dump"];
 
 fn usage(problem: &str) -> ExitCode {
     let topics = TOPICS.map(|topic| format!("[{topic}]")).join(" ");
@@ -31,6 +31,9 @@ fn compare(long: bool, wanted: &dyn Fn(&str) -> bool) -> u64 {
     differences += matrix::run(long, &|call| wanted("matrix") || wanted(call));
     if wanted("comparisons") {
         differences += comparisons::run(if long { 2_000 } else { 60 });
+    }
+    if wanted("fusing") {
+        differences += fusing::run::run(if long { 1_000 } else { 40 });
     }
     if wanted("lists") {
         differences += lists::run(&lists::amount(long));

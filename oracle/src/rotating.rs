@@ -70,7 +70,7 @@ fn repair(
 }
 
 /// One of the eigenvalues that the Rust gives, where it gives any.
-fn eigenvalue(rng: &mut Rng, n: usize, matrix: &[f64]) -> Option<f64> {
+pub fn eigenvalue(rng: &mut Rng, n: usize, matrix: &[f64]) -> Option<f64> {
     let mut pairs = vec![0.0; n + n * n];
     let told = at::mat_symmetric_eigen(&[n])(&Given { slices: &[matrix], number: 0.0, ..Given::default() }, &mut pairs);
     (told == 0).then(|| rng.one_of(&pairs[..n]))

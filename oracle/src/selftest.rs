@@ -3,7 +3,7 @@ use crate::faults::{self, Fault, Shape};
 use crate::merge::list::run as merged_lists;
 use crate::merge::run as merges;
 use crate::tally::{self, Found};
-use crate::{comparisons, lists, matrix, number};
+use crate::{comparisons, fusing, lists, matrix, number};
 use std::collections::BTreeMap;
 use std::panic::{catch_unwind, resume_unwind, AssertUnwindSafe};
 use std::rc::Rc;
@@ -28,6 +28,7 @@ fn topics() -> Vec<Topic> {
         add(vec![matrix::shape(call)], Rc::new(move || matrix::run_call(group, call, count)));
     }
     add(vec![comparisons::shape()], Rc::new(|| comparisons::run(2)));
+    add(vec![fusing::run::shape()], Rc::new(|| fusing::run::run(2)));
     let few = lists::Amount { each: 1, damaged: 40, random: 10_000, refused_writes: 10_000, all_short: false };
     add(lists::shapes().into(), Rc::new(move || lists::run(&few)));
     add(merges::shapes().into(), Rc::new(|| merges::run(5_000, false)));

@@ -4,7 +4,7 @@ use crate::classes::CLASSES;
 use crate::comparisons::{self, Kinds, Pair, BAD_FLOORS, BAD_GATES};
 use crate::lists;
 use crate::matrix::{refused, Call, Group, Part, GROUPS, ITERATED};
-use crate::merge::cases::{draw_of, Case};
+use crate::merge::cases::{draw_of, measured_of, Case};
 use crate::merge::damage::{fault, FIRST, QUESTIONS};
 use crate::merge::pairings::by_size;
 use crate::merge::reference::{merge, winner, Merged};
@@ -424,7 +424,8 @@ fn winner_record(frozen: &mut Frozen, case: &Case, row: [u8; 4]) {
 /// The longest row buffer that a frozen merge is lent.
 const MOST_ROOM: usize = 400;
 
-/// Merges of every dimension, of few tracks and of up to 32; each refusal; two faults at once.
+/// Merges of every dimension, of few tracks and of up to 32; each refusal; two faults at once; and then merges of every dimension whose
+/// tracks both sides have measured.
 fn merge_cases(rng: &mut Rng) -> Vec<Case> {
     let mut cases = Vec::new();
     for d in 1..=lists::DIMENSIONS {
@@ -448,10 +449,29 @@ fn merge_cases(rng: &mut Rng) -> Vec<Case> {
         }
         cases.push(case);
     }
+    let mut rng = Rng::new(67);
+    for d in 1..=lists::DIMENSIONS {
+        for n in [1, 1, 1, 2, 2] {
+            cases.push(measured_of(&mut rng, d, n));
+        }
+    }
+    cases.push(measured_of(&mut rng, 1, 32));
+    cases.push(measured_of(&mut rng, 2, 16));
     for case in &mut cases {
         case.room = case.room.min(MOST_ROOM);
     }
     cases
+}
+
+/// Whether merges of every dimension have a fused row, and there are such rows and conflicts of three tracks in numbers.
+fn are_fused(cases: &[Case], answers: &[Result<Merged, u32>]) -> bool {
+    let (mut fused, mut unfused) = ([0; lists::DIMENSIONS], 0);
+    for (case, merged) in cases.iter().zip(answers).filter_map(|(case, answer)| Some((case, answer.as_ref().ok()?))) {
+        fused[case.lists[0][1] as usize - 1] += merged.rows.iter().filter(|row| row[3] == 5).count();
+        unfused += merged.unfused();
+    }
+    println!("frozen merges: {fused:?} rows fused, by dimensions, {unfused} conflicts of three tracks");
+    fused.iter().all(|rows| *rows > 0) && unfused >= 10
 }
 
 /// Frozen merges, the winners of some rows, and merges with their lists. Every verdict, every refusal and some ties are there.
@@ -478,7 +498,8 @@ fn merging() -> Frozen {
     let answered = || answers.iter().filter_map(|answer| answer.as_ref().ok());
     let verdicts: Vec<u8> = answered().flat_map(|merged| merged.rows.iter().map(|row| row[3])).collect();
     let refused: Vec<u32> = answers.iter().filter_map(|answer| answer.as_ref().err().copied()).collect();
-    assert!((0..5).all(|verdict| verdicts.contains(&verdict)), "a verdict that no frozen merge has");
+    assert!((0..6).all(|verdict| verdicts.contains(&verdict)), "a verdict that no frozen merge has");
+    assert!(are_fused(&cases, &answers), "a dimension without a fused row, or few conflicts of three tracks");
     assert!((0..QUESTIONS).all(|at| refused.contains(&(FIRST + at))), "a question that no frozen merge fails");
     assert!(answered().any(|merged| merged.pairings.iter().any(|pairing| pairing.ties() > 0)), "no tie");
     frozen.lines.push_str(&format!("{} merges, 0 differences\n", cases.len()));

@@ -1,15 +1,16 @@
 //! Rows and a merged list as a wrong call would leave them. The calls read base, ours and theirs and write the rows and three counts;
 //! one of them also writes the list and its length.
 use super::{end_of, End, Met};
+use crate::lent::Memory;
 use crate::lists;
 
 /// The places of the list and of its length among the parts.
 const LIST: usize = 4;
 const LENGTH: usize = 5;
 
-/// The list whose record a row of the verdict writes.
-fn written_by(verdict: u8) -> Option<usize> {
-    (verdict < 3).then_some(verdict as usize)
+/// Whether a row of the verdict writes a record.
+fn writes(verdict: u8) -> bool {
+    matches!(verdict, 0 | 1 | 2 | 5)
 }
 
 impl Met<'_> {
@@ -53,21 +54,27 @@ impl Met<'_> {
     /// Writes the list anew, with another list's record for rows of the verdict that have a track there, or with none for them. Where
     /// the call would refuse that list, all stays as it is.
     pub(super) fn write_other_records(&mut self, verdict: u8, from: Option<usize>) {
-        let bytes = |list: usize| -> Vec<u8> {
-            let memory = &self.reads[list];
-            (0..memory.length() as isize).map(|place| memory.at(place) as u8).collect()
+        let bytes = |memory: &dyn Memory, length: usize| -> Vec<u8> {
+            (0..length as isize).map(|place| memory.at(place) as u8).collect()
         };
-        let lists = [0, 1, 2].map(bytes);
+        let lists = [0, 1, 2].map(|list| bytes(self.reads[list], self.reads[list].length()));
+        let merged = bytes(self.writes[LIST].0, self.writes[LIST].1);
         let read = lists.each_ref().map(|list| lists::read(list).expect("a list that was merged"));
+        let Ok(written) = lists::read(&merged) else { return };
+        let mut own = written.starts.windows(2).map(|ends| &merged[ends[0]..ends[1]]);
         let mut records: Vec<&[u8]> = Vec::new();
         for row in 0..self.rows() {
             let told = self.row(row, 3);
             let has_track = |list: usize| self.row(row, list as isize) != 255;
-            let list = if told == verdict && from.is_none_or(has_track) { from } else { written_by(told) };
-            if let Some(list) = list {
-                let starts = &read[list].starts[self.row(row, list as isize) as usize..];
-                records.push(&lists[list][starts[0]..starts[1]]);
+            let mut record = if writes(told) { own.next() } else { None };
+            if told == verdict && from.is_none_or(has_track) {
+                let other = |list: usize| {
+                    let starts = &read[list].starts[self.row(row, list as isize) as usize..];
+                    &lists[list][starts[0]..starts[1]]
+                };
+                record = from.map(other);
             }
+            records.extend(record);
         }
         let list = [&[records.len() as u8, lists[0][1]], &records.concat()[..]].concat();
         let (memory, written) = &mut self.writes[LIST];

@@ -1,5 +1,5 @@
 //! Random merges that make work: a herd of some class as the base, ours and theirs edited from it, a floor and a gate.
-use super::edits::{edited, field_mut, Track};
+use super::edits::{self, edited, field_mut, shuffle, Track};
 use super::reference::{comparison, Comparison, Within};
 use crate::lists::{self, COUNTS, DIMENSIONS};
 use crate::rng::Rng;
@@ -8,6 +8,9 @@ const FLOORS: &[f64] = &[1.0, 1.0, 1.0, 0.5, 1e-6, 1e-12, 1e3, 1e-160, 5e-324, 1
 /// Floors that are lost beside the greatest entries of thin covariances.
 const THIN_FLOORS: &[f64] = &[1e-12, 1e-10, 1e-9, 1e-9, 1.0];
 const GATES: &[f64] = &[16.0, 16.0, 16.0, 4.0, 1.0, 0.5, 100.0, 1e6, 5e-324, 0.0, -0.0, f64::MAX];
+
+/// Gates under which a track that was measured is near.
+const MEASURED_GATES: &[f64] = &[16.0, 16.0, 4.0, 100.0, f64::MAX];
 
 /// What a merge is given.
 #[derive(Clone)]
@@ -182,6 +185,20 @@ fn three(rng: &mut Rng, draw: Option<Draw>, d: usize, n: usize, within: Within) 
     [base, ours, theirs]
 }
 
+/// Three lists of tracks, of which most were measured on both sides, and some on one or on none.
+fn three_measured(rng: &mut Rng, draw: Option<Draw>, d: usize, n: usize) -> [Vec<Track>; 3] {
+    let base: Vec<Track> = (0..n).map(|at| one(rng, draw, d, at)).collect();
+    let [ours, theirs] = [0, 1].map(|_| {
+        let mut side = |track: &Track| if rng.below(8) == 0 { track.clone() } else { edits::measured(rng, track, d) };
+        let mut tracks: Vec<Track> = base.iter().map(&mut side).collect();
+        if rng.below(4) == 0 {
+            shuffle(rng, &mut tracks);
+        }
+        tracks
+    });
+    [base, ours, theirs]
+}
+
 /// The squared distance of two of the tracks as the gate, or its neighbour.
 fn gate_between(rng: &mut Rng, tracks: &[Vec<Track>; 3], d: usize, within: Within) -> f64 {
     let mut any = |of: &[Track]| of.get(rng.below(of.len() as u64 + 1) as usize).cloned();
@@ -215,10 +232,32 @@ pub fn draw(rng: &mut Rng) -> Case {
     draw_of(rng, d, n)
 }
 
+/// One of the classes, or any for each track.
+fn herd(rng: &mut Rng) -> (&'static str, Option<Draw>) {
+    let place = rng.below(HERDS.len() as u64 + 1) as usize;
+    HERDS.get(place).map_or(("mixed", None), |(name, draw)| (*name, Some(*draw)))
+}
+
+/// A merge that is answered, of tracks that both sides have measured.
+pub fn measured(rng: &mut Rng) -> Case {
+    let d = 1 + rng.below(DIMENSIONS as u64) as usize;
+    let n = count(rng, d);
+    measured_of(rng, d, n)
+}
+
+/// Such a merge with so many tracks of a dimension.
+pub fn measured_of(rng: &mut Rng, d: usize, n: usize) -> Case {
+    let (class, draw) = herd(rng);
+    let floor = if rng.below(2) == 0 { 1.0 } else { rng.one_of(FLOORS) };
+    let within = Within { floor, gate: rng.one_of(MEASURED_GATES) };
+    let tracks = three_measured(rng, draw, d, n);
+    let room = room(rng, tracks.iter().map(Vec::len).sum());
+    Case { class, lists: tracks.each_ref().map(|tracks| listed(tracks, d)), within, room }
+}
+
 /// A merge with so many tracks of a dimension in its base.
 pub fn draw_of(rng: &mut Rng, d: usize, n: usize) -> Case {
-    let place = rng.below(HERDS.len() as u64 + 1) as usize;
-    let (class, draw) = HERDS.get(place).map_or(("mixed", None), |(name, draw)| (*name, Some(*draw)));
+    let (class, draw) = herd(rng);
     let floors = if class == "thin" { THIN_FLOORS } else { FLOORS };
     let mut within = Within { floor: rng.one_of(floors), gate: rng.one_of(GATES) };
     let tracks = three(rng, draw, d, n, within);

@@ -60,14 +60,37 @@ const EXAMPLES: &[Example] = &[
         "0 0 2 1\n- 1 1 1\n- 2 0 4\n1 2 0\n",
         Err(21),
     ),
-    // Theirs stayed; both changed differently; a zero of the other sign is another record.
+    // Theirs stayed; both changed differently, and are fused: 51 + 52 - 50; a zero of the other sign is another record.
     (
         [
             &[(0.0, 1.0), (50.0, 1.0), (90.0, 1.0)],
             &[(1.0, 1.0), (51.0, 1.0), (90.0, 2.0)],
             &[(0.0, 1.0), (52.0, 1.0), (90.0, 1.0)],
         ],
-        "0 0 0 1\n1 1 1 4\n2 2 2 1\n3 0 0\n",
+        "0 0 0 1\n1 1 1 5\n2 2 2 1\n3 0 0\n",
+        Ok(&[(1.0, 1.0), (53.0, 1.0), (90.0, 2.0)]),
+    ),
+    // Both sides know more than base: 1/2 + 1/8 - 1/8 = 1/2, and 51/2 + 52/8 - 50/8 = 51.5/2. Then the floor raises 1/2 to 1.
+    (
+        [&[(50.0, 8.0), (90.0, 1.0)], &[(51.0, 2.0), (90.0, 0.5)], &[(52.0, 8.0), (91.0, 1.0)]],
+        "0 0 0 5\n1 1 1 5\n2 0 0\n",
+        Ok(&[(51.5, 2.0), (90.5, 1.0)]),
+    ),
+    // What is known together is below 0, -5/8 and -1/2: the variance is raised to the floor, and 0 divided by it is -0.0.
+    (
+        [&[(0.0, 1.0), (50.0, 1.0)], &[(0.0, 4.0), (51.0, 4.0)], &[(0.0, 8.0), (50.0, 4.0)]],
+        "0 0 0 5\n1 1 1 5\n2 0 0\n",
+        Ok(&[(-0.0, 1.0), (49.5, 1.0)]),
+    ),
+    // Nothing is known together: 1/2 + 1/2 - 1; a variance of 0 has no inverse, wherever it stands.
+    ([&[(0.0, 1.0)], &[(1.0, 2.0)], &[(2.0, 2.0)]], "0 0 0 4\n1 0 0\n", Err(21)),
+    ([&[(0.0, 0.0)], &[(1.0, 1.0)], &[(2.0, 2.0)]], "0 0 0 4\n1 0 0\n", Err(21)),
+    ([&[(0.0, 1.0)], &[(1.0, 1.0)], &[(2.0, -0.0)]], "0 0 0 4\n1 0 0\n", Err(21)),
+    // 2 + 1 - 3 is a state of +0.0, which is not stored. Where one row is fused and another is a conflict, there is no list.
+    ([&[(3.0, 1.0)], &[(2.0, 1.0)], &[(1.0, 1.0)]], "0 0 0 5\n1 0 0\n", Ok(&[(0.0, 1.0)])),
+    (
+        [&[(3.0, 1.0), (50.0, 0.0)], &[(2.0, 1.0), (51.0, 0.0)], &[(1.0, 1.0), (52.0, 0.0)]],
+        "0 0 0 5\n1 1 1 4\n2 0 0\n",
         Err(21),
     ),
     // Ours has changed base 1 and added one, theirs has changed base 0 and added another, and base 2 stays.
@@ -83,7 +106,11 @@ const EXAMPLES: &[Example] = &[
     ([&[(0.0, 1.0)], &[(-0.0, 1.0)], &[(0.0, 1.0)]], "0 0 0 1\n1 0 0\n", Ok(&[(-0.0, 1.0)])),
     ([&[], &[(0.0, 1.0)], &[(-0.0, 1.0)]], "- 0 0 4\n0 1 0\n", Err(21)),
     // Theirs 1 is free of base and nearer to ours 0 than theirs 0, which base took; ours 0 is base's, too.
-    ([&[(0.0, 1.0)], &[(3.0, 1.0)], &[(0.5, 1.0), (3.0, 1.0)]], "0 0 0 4\n- - 1 2\n1 0 1\n", Err(21)),
+    (
+        [&[(0.0, 1.0)], &[(3.0, 1.0)], &[(0.5, 1.0), (3.0, 1.0)]],
+        "0 0 0 5\n- - 1 2\n1 0 1\n",
+        Ok(&[(3.5, 1.0), (3.0, 1.0)]),
+    ),
     // The repair lifts a variance of 0 to the floor: d² 16, and 25 where it is 25 / 1.
     ([&[(0.0, 0.0), (50.0, 0.0)], &[(4.0, 0.0), (55.0, 0.0)], &[]], "0 0 - 4\n1 - - 3\n- 1 - 1\n0 1 2\n", Err(21)),
 ];
@@ -119,10 +146,11 @@ fn two_ways() {
     }
 }
 
-/// Every track of the three lists stands in exactly one row, and every index is a track's or 255; the rows' order; the
-/// counts; and the pairs that the rows show are the three pairings.
+/// Every track of the three lists stands in exactly one row, and every index is a track's or 255; the rows' order; a fused
+/// track for each row of verdict 5, which has three tracks, and for no other; the counts; and the pairs that the rows show
+/// are the three pairings.
 pub fn whole(merged: &Merged, counts: [usize; 3]) {
-    let Merged { rows, full, half, single, pairings } = merged;
+    let Merged { rows, full, half, single, fused, pairings } = merged;
     for (list, count) in counts.into_iter().enumerate() {
         let mut indices: Vec<u8> = rows.iter().map(|row| row[list]).filter(|i| *i != NONE).collect();
         indices.sort_unstable();
@@ -131,7 +159,12 @@ pub fn whole(merged: &Merged, counts: [usize; 3]) {
     let group = |row: &[u8; 4]| row[..3].iter().position(|i| *i != NONE).expect("a row without a track");
     let places: Vec<(usize, u8)> = rows.iter().map(|row| (group(row), row[group(row)])).collect();
     assert!(places.is_sorted(), "the rows' order: {rows:?}");
-    assert!(rows.iter().all(|row| row[3] <= 4));
+    assert!(rows.iter().all(|row| row[3] <= 5));
+    let is_fused = |row: &[u8; 4]| row[3] == 5 && row[..3].iter().all(|i| *i != NONE);
+    let agrees =
+        |(row, fused): (&[u8; 4], &Option<Vec<f64>>)| if fused.is_some() { is_fused(row) } else { row[3] != 5 };
+    assert!(rows.len() == fused.len() && rows.iter().zip(fused).all(agrees), "the fused tracks of {rows:?}");
+    assert!(fused.iter().flatten().flatten().all(|x| x.is_finite()), "a fused track that no list holds");
     assert!(full + half + single == rows.len());
     assert!(3 * full + 2 * half + single == counts.iter().sum());
     let shown = |first: usize, second: usize, among: fn(&[u8; 4]) -> bool| -> Vec<(usize, usize)> {

@@ -40,6 +40,29 @@ pub fn barely(rng: &mut Rng, track: &mut Track) {
     }
 }
 
+/// A side's own measurement of a track: its state moves or stays, and its covariance shrinks, stays, is doubled or grows, as a whole or by
+/// places.
+pub fn measured(rng: &mut Rng, track: &Track, d: usize) -> Track {
+    let whole = match rng.below(8) {
+        0 => 1.0,
+        1 | 2 => 2.0,
+        3 => 3.0 + rng.unit(),
+        _ => 0.5 + rng.unit() * 0.45,
+    };
+    let by_places = rng.below(4) == 0;
+    let places: Vec<f64> = (0..d).map(|_| if by_places { 0.75 + rng.unit() * 0.5 } else { 1.0 }).collect();
+    let mut other = track.clone();
+    for (at, (i, j)) in (0..d).flat_map(|i| (0..=i).map(move |j| (i, j))).enumerate() {
+        change(&mut other[d + at], |x| x * whole * (places[i] * places[j]));
+    }
+    for x in &mut other[..d] {
+        if rng.below(3) != 0 {
+            change(x, |x| x + rng.unit() * 0.25);
+        }
+    }
+    other
+}
+
 /// Two tracks exchange their states.
 fn exchange_states(rng: &mut Rng, tracks: &mut [Track], d: usize) {
     let (i, j) = (rng.below(tracks.len() as u64) as usize, rng.below(tracks.len() as u64) as usize);

@@ -1,5 +1,5 @@
 //! The compiled program `trackmerge`, run in folders of its own, beside the lines that the second merger gives.
-use super::cases::{draw, listed, Case, HERDS};
+use super::cases::{draw, listed, measured, Case, HERDS};
 use super::checks::{text, WITHIN};
 use super::damage::{fault, turn_bit};
 use super::pairings::by_size;
@@ -65,7 +65,7 @@ fn files(case: Case) -> Files {
 
 /// The folders, one after the other: merges, refusals of every number, missing, empty and long files.
 fn folder(rng: &mut Rng, turn: u32) -> Files {
-    let mut case = draw(rng);
+    let mut case = if turn % 10 >= 8 { measured(rng) } else { draw(rng) };
     match turn % 10 {
         0 => {
             let mut files = files(case);
@@ -120,11 +120,16 @@ pub fn run(folders: u32) -> u64 {
     fs::create_dir_all(&at).unwrap();
     let mut rng = Rng::new(41);
     let mut tally = Tally::refusing("trackmerge", REFUSES, u64::from(folders / 100));
+    let (mut fused, mut unfused) = (0, 0);
     for turn in 0..folders {
         let files = folder(&mut rng, turn);
         let [base, ours, theirs] = files.each_ref().map(|file| file.as_deref().unwrap_or_default());
         let answer = merge([base, ours, theirs], WITHIN, 4 * 3 * COUNTS, by_size);
         tally.refused(answer.as_ref().err().copied().unwrap_or(0));
+        if let Ok(merged) = &answer {
+            fused += merged.rows.iter().filter(|row| row[3] == 5).count();
+            unfused += merged.unfused();
+        }
         let (wanted, lines) = (text(&answer), printed(&program, &at, &files));
         tally.case(lines == wanted, || {
             let lengths = files.each_ref().map(|file| file.as_ref().map(Vec::len));
@@ -133,5 +138,6 @@ pub fn run(folders: u32) -> u64 {
         tally.done(turn as usize + 1, folders as usize);
     }
     fs::remove_dir_all(&at).unwrap();
-    tally.close()
+    println!("trackmerge: {fused} rows fused, {unfused} conflicts of three tracks");
+    tally.close() + u64::from(fused == 0 || unfused == 0)
 }

@@ -1,5 +1,7 @@
-//! The second merger: document 01's "Distance" and "Pairing and rows" over the source's kernel.
+//! The second merger: document 01's "Distance" and "Pairing and rows" over the source's kernel, with the second fusion for rows of three
+//! tracks that would be conflicts.
 use super::pairings::{Candidate, Method, Pairing};
+use crate::fusing::reference::{fuse, state_and_covariance};
 use crate::lists::{self, Read};
 use nolan::linalg::{generic, regularize};
 
@@ -19,17 +21,6 @@ pub enum Comparison {
 pub struct Within {
     pub floor: f64,
     pub gate: f64,
-}
-
-/// The state of a track, and its whole covariance: the upper triangle mirrors the lower.
-fn state_and_covariance<const N: usize>(fields: &[f64]) -> ([f64; N], [[f64; N]; N]) {
-    let (state, triangle) = fields.split_at(N);
-    let mut covariance = [[0.0; N]; N];
-    for ((i, j), x) in (0..N).flat_map(|i| (0..=i).map(move |j| (i, j))).zip(triangle) {
-        covariance[i][j] = *x;
-        covariance[j][i] = *x;
-    }
-    (state.try_into().unwrap(), covariance)
 }
 
 /// Track i gives mu and track j gives x.
@@ -94,7 +85,7 @@ fn equal(a: &[f64], b: &[f64]) -> bool {
     a.iter().zip(b).all(|(x, y)| x.to_bits() == y.to_bits())
 }
 
-/// Keep 0, take ours 1, take theirs 2, deleted 3, conflict 4.
+/// Keep 0, take ours 1, take theirs 2, deleted 3, conflict 4; whether a conflict is fused is asked later.
 fn verdict(base: Option<&[f64]>, ours: Option<&[f64]>, theirs: Option<&[f64]>) -> u8 {
     match (base, ours, theirs) {
         (Some(b), Some(o), Some(t)) if equal(o, b) && equal(t, b) => 0,
@@ -119,8 +110,17 @@ pub struct Merged {
     pub full: usize,
     pub half: usize,
     pub single: usize,
+    /// For each row the fields of its fused track, where it has one.
+    pub fused: Vec<Option<Vec<f64>>>,
     /// Base with ours, base with theirs, ours with theirs.
     pub pairings: [Pairing; 3],
+}
+
+impl Merged {
+    /// Rows of three tracks that are conflicts.
+    pub fn unfused(&self) -> usize {
+        self.rows.iter().filter(|row| row[3] == 4 && row[..3].iter().all(|i| *i != NONE)).count()
+    }
 }
 
 fn index(track: Option<usize>) -> u8 {
@@ -142,23 +142,42 @@ fn pairings(base: &Read, ours: &Read, theirs: &Read, within: Within, by: Method)
 }
 
 /// Base tracks, then ours without base, then the remaining theirs.
-fn rows(base: &Read, ours: &Read, theirs: &Read, of: &[Pairing; 3]) -> Vec<[u8; 4]> {
+fn named(base: &Read, ours: &Read, theirs: &Read, of: &[Pairing; 3]) -> Vec<[Option<usize>; 3]> {
     let [base_ours, base_theirs, ours_theirs] = of;
-    let (b, o, t) = (tracks(base), tracks(ours), tracks(theirs));
-    let mut named: Vec<[Option<usize>; 3]> = Vec::new();
-    for i in 0..b.len() {
+    let mut named = Vec::new();
+    for i in 0..tracks(base).len() {
         named.push([Some(i), base_ours.second_of(i), base_theirs.second_of(i)]);
     }
-    for j in (0..o.len()).filter(|j| base_ours.first_of(*j).is_none()) {
+    for j in (0..tracks(ours).len()).filter(|j| base_ours.first_of(*j).is_none()) {
         named.push([None, Some(j), ours_theirs.second_of(j)]);
     }
-    for k in (0..t.len()).filter(|k| base_theirs.first_of(*k).is_none() && ours_theirs.first_of(*k).is_none()) {
+    let free = |k: &usize| base_theirs.first_of(*k).is_none() && ours_theirs.first_of(*k).is_none();
+    for k in (0..tracks(theirs).len()).filter(free) {
         named.push([None, None, Some(k)]);
     }
+    named
+}
+
+/// The rows, and the fields of each row's fused track: a conflict of three tracks that can be fused is none, and has verdict 5.
+fn rows(
+    base: &Read,
+    ours: &Read,
+    theirs: &Read,
+    of: &[Pairing; 3],
+    floor: f64,
+) -> (Vec<[u8; 4]>, Vec<Option<Vec<f64>>>) {
+    let (b, o, t) = (tracks(base), tracks(ours), tracks(theirs));
     let row = |[i, j, k]: [Option<usize>; 3]| {
-        [index(i), index(j), index(k), verdict(i.map(|i| b[i]), j.map(|j| o[j]), k.map(|k| t[k]))]
+        let of = (i.map(|i| b[i]), j.map(|j| o[j]), k.map(|k| t[k]));
+        let told = verdict(of.0, of.1, of.2);
+        let fused = match of {
+            (Some(b), Some(o), Some(t)) if told == 4 => fuse(base.dimension, [b, o, t], floor).ok(),
+            _ => None,
+        };
+        let told = if fused.is_some() { 5 } else { told };
+        ([index(i), index(j), index(k), told], fused.map(|track| track.fields))
     };
-    named.into_iter().map(row).collect()
+    named(base, ours, theirs, of).into_iter().map(row).unzip()
 }
 
 /// Merges three lists with a row buffer of so many bytes, or answers the number of the first question that is not met.
@@ -176,10 +195,10 @@ pub fn merge(lists: [&[u8]; 3], within: Within, room: usize, by: Method) -> Resu
         return Err(19);
     }
     let pairings = pairings(&base, &ours, &theirs, within, by);
-    let rows = rows(&base, &ours, &theirs, &pairings);
+    let (rows, fused) = rows(&base, &ours, &theirs, &pairings, floor);
     let with = |n: usize| rows.iter().filter(|row| row[..3].iter().filter(|i| **i != NONE).count() == n).count();
     let (full, half, single) = (with(3), with(2), with(1));
-    Ok(Merged { rows, full, half, single, pairings })
+    Ok(Merged { rows, full, half, single, fused, pairings })
 }
 
 /// Where the winning record's bytes stand: list 1 for ours, 2 for theirs, its start and its length; zeros where there is

@@ -1,5 +1,5 @@
 //! The library's merge and winner beside the second merger.
-use super::cases::{draw, draw_of, Case};
+use super::cases::{draw, draw_of, measured, measured_of, Case};
 use super::checks;
 use super::damage::{one_fault, turn_bit, two_faults};
 use super::pairings::by_size;
@@ -26,11 +26,11 @@ pub fn orders() -> Vec<(u32, u32)> {
     of_lists.chain([(17, 18), (17, 19), (18, 19)]).collect()
 }
 
-/// The faults that rows can have whose verdicts go up to this one.
-pub fn row_faults(last: u8) -> Vec<Fault> {
+/// The faults that rows of these verdicts can have.
+pub fn row_faults(verdicts: &[u8]) -> Vec<Fault> {
     let ends = [End::First, End::Last].map(Fault::RowLeftOut);
-    let verdicts =
-        (0..=last).flat_map(|from| (0..5).filter(move |to| *to != from).map(move |to| Fault::Verdict(from, to)));
+    let others = |from: u8| (0..VERDICTS as u8).filter(move |to| *to != from).map(move |to| Fault::Verdict(from, to));
+    let verdicts = verdicts.iter().copied().flat_map(others);
     [0, 1, 2].map(Fault::PairExchanged).into_iter().chain(ends).chain(verdicts).collect()
 }
 
@@ -44,7 +44,7 @@ pub fn shapes() -> [Shape; 2] {
             partly: vec![0],
             refuses: REFUSES,
             orders: orders(),
-            others: row_faults(4),
+            others: row_faults(&[0, 1, 2, 3, 4, 5]),
         },
         Shape {
             name: WINNER,
@@ -71,10 +71,18 @@ pub fn unmet(case: &Case) -> Vec<u32> {
     lists.chain(questions.iter().filter(|(_, met)| !met).map(|(question, _)| *question)).collect()
 }
 
+/// How many verdicts there are.
+const VERDICTS: usize = 6;
+
+/// Rows of three tracks that are fused, and such that are not, are met so many times at least.
+const LEAST: u64 = 100;
+
 /// What the merges that were compared had in them.
 #[derive(Default)]
 struct Seen {
-    verdicts: [u64; 5],
+    verdicts: [u64; VERDICTS],
+    /// Conflicts of three tracks.
+    unfused: u64,
     /// Rows with one, two and three tracks.
     rows: [u64; 3],
     /// Pairs of base with ours, base with theirs, ours with theirs.
@@ -91,6 +99,7 @@ struct Seen {
 impl Seen {
     fn answered(&mut self, merged: &Merged) {
         merged.rows.iter().for_each(|row| self.verdicts[row[3] as usize] += 1);
+        self.unfused += merged.unfused() as u64;
         for (count, rows) in self.rows.iter_mut().zip([merged.single, merged.half, merged.full]) {
             *count += rows as u64;
         }
@@ -109,10 +118,11 @@ impl Seen {
     }
 
     fn print(&self) {
-        let [keep, ours, theirs, deleted, conflict] = self.verdicts;
+        let [keep, ours, theirs, deleted, conflict, fused] = self.verdicts;
         let [single, half, full] = self.rows;
         println!(
-            "merge: rows {keep} keep, {ours} take ours, {theirs} take theirs, {deleted} deleted, {conflict} conflict"
+            "merge: rows {keep} keep, {ours} take ours, {theirs} take theirs, {deleted} deleted, {conflict} conflict, {} of them of three tracks, {fused} fused",
+            self.unfused
         );
         let [base_ours, base_theirs, ours_theirs] = self.pairs;
         println!(
@@ -127,7 +137,7 @@ impl Seen {
     /// Whether every verdict, every number of tracks, every pairing and some ties were there.
     fn is_whole(&self) -> bool {
         let counts = [&self.verdicts[..], &self.rows, &self.pairs, &[self.with_ties, self.tried]].concat();
-        counts.iter().all(|n| *n > 0)
+        counts.iter().all(|n| *n > 0) && self.unfused >= LEAST && self.verdicts[5] >= LEAST
     }
 }
 
@@ -231,8 +241,11 @@ impl Compared {
         for _ in 0..rows.len().min(4) {
             self.winner(case, &rng.one_of(&rows));
         }
+        if let Some(fused) = rows.iter().find(|row| row[3] == 5) {
+            self.winner(case, fused);
+        }
         let other = [0, 1, 2].map(|_| rng.one_of(&[0, 1, 2, 31, 32, 254, 255]));
-        let verdict = rng.one_of(&[0, 1, 1, 2, 2, 3, 4, 5, 255]);
+        let verdict = rng.one_of(&[0, 1, 1, 2, 2, 3, 4, 5, 6, 255]);
         let row = [other[0], other[1], other[2], verdict, 0];
         self.winner(case, &row[..4]);
         self.winner(case, &row[..rng.one_of(&[0, 3, 4, 5])]);
@@ -257,7 +270,7 @@ pub fn run(amount: u32, every: bool) -> u64 {
     };
     let mut rng = Rng::new(37);
     for turn in 0..amount {
-        let mut case = draw(&mut rng);
+        let mut case = if turn % 4 == 3 { measured(&mut rng) } else { draw(&mut rng) };
         match turn % 8 {
             0 => turn_bit(&mut rng, &mut case),
             1 => drop(one_fault(&mut rng, &mut case, turn / 8)),
@@ -271,6 +284,8 @@ pub fn run(amount: u32, every: bool) -> u64 {
         // Large merges of a high dimension take milliseconds.
         let step = if every || d <= 3 { 1 } else { 8 };
         for n in (0..=COUNTS).step_by(step) {
+            let case = measured_of(&mut rng, d, n);
+            compared.case(&mut rng, &case);
             let case = draw_of(&mut rng, d, n);
             compared.case(&mut rng, &case);
             compared.one_list(case);

@@ -1,4 +1,4 @@
-//! The second writer of merged lists: change request 1's "Write the merged list" over the second merger.
+//! The second writer of merged lists: change request 1's "Write the merged list" over the second merger, with the tracks that it fuses.
 use crate::lists::{self, COUNTS};
 use crate::merge::pairings::Method;
 use crate::merge::reference::{merge, Merged, Within};
@@ -16,34 +16,53 @@ pub struct MergedList {
     pub values: Vec<f64>,
 }
 
-/// The tracks that rows write, in the rows' order, each by its list and its index there: base's for verdict 0, ours' for 1,
-/// theirs' for 2, and none for another.
-pub fn winners(rows: &[[u8; 4]]) -> Vec<(usize, usize)> {
-    let winner = |row: &[u8; 4]| match *row {
-        [i, _, _, 0] => Some((0, i as usize)),
-        [_, j, _, 1] => Some((1, j as usize)),
-        [_, _, k, 2] => Some((2, k as usize)),
-        _ => None,
-    };
-    rows.iter().filter_map(winner).collect()
+/// A track that a row writes: one of a list, by the list and its index there, or a fused one by its fields.
+pub enum Winner<'a> {
+    Of(usize, usize),
+    Fused(&'a [f64]),
 }
 
-/// The bytes and the fields of these tracks.
-fn records(lists: [&[u8]; 3], winners: &[(usize, usize)]) -> (Vec<u8>, Vec<f64>) {
+/// The tracks that rows write, in the rows' order: base's for verdict 0, ours' for 1, theirs' for 2, the fused one for 5, and none for
+/// another.
+pub fn winners(merged: &Merged) -> Vec<Winner<'_>> {
+    let mut winners = Vec::new();
+    for (row, fused) in merged.rows.iter().zip(&merged.fused) {
+        match *row {
+            [i, _, _, 0] => winners.push(Winner::Of(0, i as usize)),
+            [_, j, _, 1] => winners.push(Winner::Of(1, j as usize)),
+            [_, _, k, 2] => winners.push(Winner::Of(2, k as usize)),
+            [_, _, _, 5] => winners.push(Winner::Fused(fused.as_ref().expect("a fused row's track"))),
+            _ => {}
+        }
+    }
+    winners
+}
+
+/// The bytes and the fields of these tracks; a fused one's record is written as any track's.
+fn records(lists: [&[u8]; 3], winners: &[Winner]) -> (Vec<u8>, Vec<f64>) {
     let read = lists.map(|list| lists::read(list).expect("a list that was merged"));
-    let f = lists::fields(read[0].dimension);
+    let d = read[0].dimension;
+    let f = lists::fields(d);
     let (mut bytes, mut values) = (Vec::new(), Vec::new());
-    for &(list, track) in winners {
-        let of = &read[list];
-        bytes.extend(&lists[list][of.starts[track]..of.starts[track + 1]]);
-        values.extend(&of.values[track * f..(track + 1) * f]);
+    for winner in winners {
+        match *winner {
+            Winner::Of(list, track) => {
+                let of = &read[list];
+                bytes.extend(&lists[list][of.starts[track]..of.starts[track + 1]]);
+                values.extend(&of.values[track * f..(track + 1) * f]);
+            }
+            Winner::Fused(fields) => {
+                bytes.extend(&lists::write(1, d, fields).expect("a track that makes a list")[HEAD..]);
+                values.extend(fields);
+            }
+        }
     }
     (bytes, values)
 }
 
-/// How many bytes the list of these rows has, whether or not it can be written.
-pub fn length(lists: [&[u8]; 3], rows: &[[u8; 4]]) -> usize {
-    HEAD + records(lists, &winners(rows)).0.len()
+/// How many bytes the list of this merge has, whether or not it can be written.
+pub fn length(lists: [&[u8]; 3], merged: &Merged) -> usize {
+    HEAD + records(lists, &winners(merged)).0.len()
 }
 
 /// The list of an answered merge in a buffer of so many bytes, or the number of the first question that is not met.
@@ -51,7 +70,7 @@ pub fn written(lists: [&[u8]; 3], merged: Merged, room: usize) -> Result<MergedL
     if merged.rows.iter().any(|row| row[3] == 4) {
         return Err(21);
     }
-    let winners = winners(&merged.rows);
+    let winners = winners(&merged);
     let count = winners.len();
     if count > COUNTS {
         return Err(22);

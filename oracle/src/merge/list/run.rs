@@ -1,6 +1,6 @@
 //! The library's merge with its list beside the second one.
 use super::cases::{self, Buffer, Drawn, Plan};
-use super::reference::{length, merge_list, winners, written, MergedList, HEAD};
+use super::reference::{length, merge_list, winners, written, MergedList, Winner, HEAD};
 use crate::faults::{self, Fault, Kind, Met, Shape};
 use crate::ffi;
 use crate::lent::Lent;
@@ -8,7 +8,7 @@ use crate::lists::{COUNTS, DIMENSIONS};
 use crate::merge::cases::Case;
 use crate::merge::checks::{self, WITHIN};
 use crate::merge::pairings::by_size;
-use crate::merge::reference::merge;
+use crate::merge::reference::{merge, Merged};
 use crate::merge::run as merges;
 use crate::rng::Rng;
 use crate::tally::{self, Tally};
@@ -26,11 +26,13 @@ pub fn shape() -> Shape {
     let of_rows = [18, 19].into_iter().flat_map(|first| [21, 22].map(|later| (first, later)));
     let of_list = [(21, 22), (21, 20), (22, 20)];
     let early = [21, 22, 20].into_iter().flat_map(|n| (0..writes.len()).map(move |part| Fault::WrittenBefore(n, part)));
-    let left_out = [0, 1, 2].map(|verdict| Fault::Record(verdict, None));
+    let left_out = [0, 1, 2, 5].map(|verdict| Fault::Record(verdict, None));
     // Where all three lists have the record, each is the right one.
-    let wrong = [(1, 0), (1, 2), (2, 0), (2, 1), (3, 0), (3, 1), (3, 2)];
+    let wrong = [(1, 0), (1, 2), (2, 0), (2, 1), (3, 0), (3, 1), (3, 2), (5, 0), (5, 1), (5, 2)];
     let wrong = wrong.map(|(verdict, list)| Fault::Record(verdict, Some(list)));
-    let others = merges::row_faults(3).into_iter().chain(early).chain(left_out).chain(wrong).collect();
+    let of_rows_told = merges::row_faults(&[0, 1, 2, 3, 5]);
+    let fused = [Fault::FusedRefuses, Fault::FusedUncounted];
+    let others = of_rows_told.into_iter().chain(early).chain(left_out).chain(wrong).chain(fused).collect();
     let orders = merges::orders().into_iter().chain(before_list).chain(of_rows).chain(of_list).collect();
     Shape { name: MERGE_LIST, reads: 3, writes, partly: vec![0, 4], refuses: REFUSES, orders, others }
 }
@@ -40,15 +42,18 @@ pub fn shape() -> Shape {
 fn unmet(case: &Case, room: usize) -> Vec<u32> {
     let mut unmet = merges::unmet(case);
     let within = if unmet.contains(&18) { WITHIN } else { case.within };
-    let rows = merge(case.slices(), within, 4 * 3 * COUNTS, by_size).map(|merged| merged.rows);
+    let merged = merge(case.slices(), within, 4 * 3 * COUNTS, by_size);
     let questions = [
-        (21, rows.iter().flatten().all(|row| row[3] != 4)),
-        (22, rows.iter().all(|rows| winners(rows).len() <= COUNTS)),
-        (20, room >= rows.as_ref().map_or(HEAD, |rows| length(case.slices(), rows))),
+        (21, merged.iter().flat_map(|merged| &merged.rows).all(|row| row[3] != 4)),
+        (22, merged.iter().all(|merged| winners(merged).len() <= COUNTS)),
+        (20, room >= merged.as_ref().map_or(HEAD, |merged| length(case.slices(), merged))),
     ];
     unmet.extend(questions.iter().filter(|(_, met)| !met).map(|(question, _)| *question));
     unmet
 }
+
+/// The place of fused tracks among the records that were counted.
+const FUSED: usize = 3;
 
 /// What the merges that were compared had in them.
 #[derive(Default)]
@@ -58,14 +63,27 @@ struct Seen {
     empty: u64,
     most: u64,
     exact: u64,
-    /// Records of base, ours and theirs, and rows that write none.
-    records: [u64; 3],
+    /// Records of base, ours and theirs, and of fused tracks, and rows that write none.
+    records: [u64; 4],
     deleted: u64,
+    /// Written lists with a fused track, and with nothing else.
+    with_fused: u64,
+    all_fused: u64,
     /// Refused by 21, by 22, and by 20.
     refused: [u64; 3],
+    /// Refused by 21 for conflicts of three tracks alone; by 22 for fused tracks, without which there were not too many.
+    unfused: u64,
+    fused_too_many: u64,
 }
 
 impl Seen {
+    /// Why the rows of a merge refuse the list.
+    fn refused_by_rows(&mut self, merged: &Merged) {
+        let conflicts = merged.rows.iter().filter(|row| row[3] == 4).count();
+        self.unfused += u64::from(conflicts > 0 && conflicts == merged.unfused());
+        self.fused_too_many += u64::from(conflicts == 0 && winners(merged).len() > COUNTS && unfused_fit(merged));
+    }
+
     fn answered(&mut self, wanted: &Result<MergedList, u32>, room: usize) {
         let list = match wanted {
             Ok(list) => list,
@@ -78,28 +96,46 @@ impl Seen {
         self.empty += u64::from(list.count == 0);
         self.most += u64::from(list.count == COUNTS);
         self.exact += u64::from(list.bytes.len() == room);
-        winners(&list.merged.rows).iter().for_each(|(list, _)| self.records[*list] += 1);
+        let winners = winners(&list.merged);
+        let place = |winner: &Winner| if let Winner::Of(list, _) = winner { *list } else { FUSED };
+        winners.iter().for_each(|winner| self.records[place(winner)] += 1);
+        let fused = winners.iter().filter(|winner| place(winner) == FUSED).count();
+        self.with_fused += u64::from(fused > 0);
+        self.all_fused += u64::from(fused > 0 && fused == list.count);
         self.deleted += (list.merged.rows.len() - list.count) as u64;
     }
 
     fn print(&self) {
         let [conflict, many, short] = self.refused;
         println!(
-            "merge_list: {} lists written, {conflict} refused by 21, {many} by 22, {short} by 20; of those written {} have no track, {} have 32, {} fill their buffer",
-            self.written, self.empty, self.most, self.exact
+            "merge_list: {} lists written, {conflict} refused by 21 ({} for conflicts of three tracks alone), {many} by 22 ({} for their fused tracks), {short} by 20; of those written {} have no track, {} have 32, {} fill their buffer, {} have fused tracks, {} nothing else",
+            self.written,
+            self.unfused,
+            self.fused_too_many,
+            self.empty,
+            self.most,
+            self.exact,
+            self.with_fused,
+            self.all_fused
         );
-        let [base, ours, theirs] = self.records;
+        let [base, ours, theirs, fused] = self.records;
         println!(
-            "merge_list: records {base} of base, {ours} of ours, {theirs} of theirs; {} rows without one",
+            "merge_list: records {base} of base, {ours} of ours, {theirs} of theirs, {fused} of fused tracks; {} rows without one",
             self.deleted
         );
     }
 
     /// Whether lists of every kind, records of all three lists and every refusal were there.
     fn is_whole(&self) -> bool {
-        let lists = [self.written, self.empty, self.most, self.exact, self.deleted];
-        [&lists[..], &self.records, &self.refused].concat().iter().all(|n| *n > 0)
+        let lists = [self.written, self.empty, self.most, self.exact, self.deleted, self.with_fused, self.all_fused];
+        let by_rows = [self.unfused, self.fused_too_many];
+        [&lists[..], &self.records, &self.refused, &by_rows].concat().iter().all(|n| *n > 0)
     }
+}
+
+/// Whether a list would hold the tracks that are not fused.
+fn unfused_fit(merged: &Merged) -> bool {
+    winners(merged).iter().filter(|winner| matches!(winner, Winner::Of(..))).count() <= COUNTS
 }
 
 /// Whether the library's reader finds the tracks that the second merger chose.
@@ -120,8 +156,10 @@ impl Compared {
     fn case(&mut self, drawn: &Drawn) {
         let case = &drawn.case;
         let merged = merge(case.slices(), case.within, case.room, by_size);
-        let needed = merged.as_ref().map_or(HEAD, |merged| length(case.slices(), &merged.rows));
+        let needed = merged.as_ref().map_or(HEAD, |merged| length(case.slices(), merged));
         let room = drawn.buffer.length(needed);
+        merged.iter().for_each(|merged| self.seen.refused_by_rows(merged));
+        let only_fused_many = merged.as_ref().is_ok_and(unfused_fit);
         let wanted = merged.and_then(|merged| written(case.slices(), merged, room));
         if let Some(planned) = drawn.planned {
             let found = wanted.as_ref().map(|list| list.count).map_err(|number| *number);
@@ -145,6 +183,12 @@ impl Compared {
             }
             Err(_) => (&[][..], &[][..], vec![]),
         };
+        let has_fused = rows_wanted.iter().skip(3).step_by(4).any(|verdict| *verdict == 5);
+        match faults::planted(MERGE_LIST) {
+            Some(Fault::FusedRefuses) if has_fused => number = 21,
+            Some(Fault::FusedUncounted) if number == 22 && only_fused_many => number = 0,
+            _ => {}
+        }
         faults::plant(MERGE_LIST, || Met {
             number: &mut number,
             also: if number_wanted == 0 { vec![] } else { unmet(case, room) },
@@ -223,9 +267,12 @@ pub fn run(amount: u32, every: bool) -> u64 {
     for turn in 0..amount {
         let drawn = match turn % 10 {
             at @ 0..=3 => cases::damaged(&mut rng, turn / 10 * 4 + at),
-            at @ 4..=5 => cases::any(&mut rng, at),
+            4 | 5 => cases::any(&mut rng, turn),
             6 | 7 => cases::written(&mut rng),
-            at => cases::refused(&mut rng, turn / 10 * 2 + at % 2, DIMENSIONS),
+            at => {
+                let fused = rng.one_of(&[0, 0, 1, 2, 5]);
+                cases::refused(&mut rng, turn / 10 * 2 + at % 2, DIMENSIONS, fused)
+            }
         };
         compared.case(&drawn);
         compared.lists.done(turn as usize + 1, amount as usize);
@@ -237,6 +284,8 @@ pub fn run(amount: u32, every: bool) -> u64 {
             let case = cases::draw_of(&mut rng, d, Plan { winners, ..Plan::default() });
             compared.case(&Drawn { case: case.clone(), buffer: Buffer::By(0), planned: Some(Ok(winners)) });
             compared.one_list(case);
+            let case = cases::draw_of(&mut rng, d, Plan { fused: winners, ..Plan::default() });
+            compared.case(&Drawn { case, buffer: Buffer::By(0), planned: Some(Ok(winners)) });
         }
         compared.lists.done(d, DIMENSIONS);
     }
