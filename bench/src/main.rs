@@ -3,6 +3,7 @@
 #![allow(clippy::needless_range_loop)]
 
 mod comparisons;
+mod fusing;
 mod lists;
 mod matrix;
 mod merge_list;
@@ -19,12 +20,13 @@ fn main() {
     let model = about.lines().find_map(|line| line.strip_prefix("model name")?.split_once(": "));
     println!("machine: {}", model.map_or("unknown", |(_, name)| name));
     let words: Vec<String> = env::args().skip(1).collect();
-    let topics: [(&str, fn()); 9] = [
+    let topics: [(&str, fn()); 10] = [
         ("root", root::run),
         ("matrix", matrix::run),
         ("rotating", matrix::run_rotating),
         ("power", power::run),
         ("comparisons", comparisons::run),
+        ("fusing", fusing::run),
         ("lists", lists::run),
         ("pairing", pairing::run),
         ("merging", merging::run),

@@ -1,5 +1,6 @@
-//! A merge that writes its list beside the merge alone, of the same lists, and beside the second merger with its list.
-use crate::merging::{side, track, Track, ROOM};
+//! A merge that writes its list beside the merge alone, of the same lists, and beside the second merger with its list: without a
+//! conflict, and with fused tracks alone.
+use crate::merging::{measured, side, track, Track, ROOM};
 use crate::timer::typical;
 use oracle::ffi;
 use oracle::lists::{write, LONGEST};
@@ -20,9 +21,8 @@ fn lists(d: usize, n: usize) -> [Vec<u8>; 3] {
     [base, ours, theirs].map(|tracks| write(tracks.len(), d, &tracks.concat()).unwrap())
 }
 
-/// Times one size and prints its line.
-fn time(d: usize, n: usize) {
-    let lists = lists(d, n);
+/// Times the merge of lists of a dimension, of n tracks a side, into a list of so many, and prints its line.
+fn time(name: &str, d: usize, n: usize, lists: [Vec<u8>; 3], count: usize) {
     let lists = [&lists[0][..], &lists[1], &lists[2]];
     let within = (WITHIN.floor, WITHIN.gate);
     let (mut rows, mut rows_alone, mut out) = ([0u8; ROOM], [0u8; ROOM], [0u8; LONGEST]);
@@ -50,11 +50,11 @@ fn time(d: usize, n: usize) {
     let (again, rust) = typical(calls, &mut with_list, theirs);
 
     let Ok(reference) = merge_list(lists, WITHIN, [ROOM, LONGEST], by_order) else { panic!("no list of {n} tracks") };
-    assert!(reference.count == n - 2 && out[..length] == reference.bytes);
+    assert!(reference.count == count && out[..length] == reference.bytes);
     assert!(rows == rows_alone && [full, half, single] == alone);
     println!(
         "{:44} {:9.1} us   merge {:9.1} us   ratio {:5.2}   Rust {:9.1} us   ratio {:5.2}",
-        format!("merge_list, {n} tracks of dimension {d}"),
+        format!("merge_list, {n} {name} of dimension {d}"),
         listed / 1e3,
         merged / 1e3,
         listed / merged,
@@ -65,6 +65,8 @@ fn time(d: usize, n: usize) {
 
 pub fn run() {
     for d in [1, 3, 6, 9] {
-        [8, 16, 32].into_iter().for_each(|n| time(d, n));
+        [8, 16, 32].into_iter().for_each(|n| time("tracks", d, n, lists(d, n), n - 2));
+        let fused = measured(d, 32).map(|tracks| write(tracks.len(), d, &tracks.concat()).unwrap());
+        time("fused tracks", d, 32, fused, 32);
     }
 }
