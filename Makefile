@@ -18,7 +18,7 @@ export NOLAN_SRC
 
 PREFIX ?= /usr/local
 DESTDIR ?=
-VERSION = 0.2.0
+VERSION = 0.3.0
 
 CC ?= cc
 CFLAGS ?= -O2

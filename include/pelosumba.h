@@ -21,9 +21,9 @@
 #include <stdint.h>
 
 /* The edition of this header and of the library beside it. */
-#define PEL_VERSION "0.2.0"
+#define PEL_VERSION "0.3.0"
 #define PEL_VERSION_MAJOR 0
-#define PEL_VERSION_MINOR 2
+#define PEL_VERSION_MINOR 3
 #define PEL_VERSION_PATCH 0
 
 #ifdef __cplusplus
@@ -49,7 +49,8 @@ enum {
     PEL_TAKE_OURS = 1,    /* ours alone has changed or is new, or theirs has the same */
     PEL_TAKE_THEIRS = 2,  /* theirs alone has changed or is new */
     PEL_DELETED = 3,      /* one side has deleted what the other left as it was, or both have */
-    PEL_CONFLICT = 4      /* changed or added on both sides, not alike; or changed on one and deleted on the other */
+    PEL_CONFLICT = 4,     /* changed or added on both sides, not alike, not fused; or changed on one and deleted on the other */
+    PEL_FUSE = 5          /* changed on both sides, not alike, and pel_fuse has a track for them */
 };
 
 /* The kind of a comparison. */
@@ -171,6 +172,14 @@ uint32_t pel_tikhonov_with_report(const double *cov, size_t cov_len, double alph
 uint32_t pel_compare(const double *mu, size_t mu_len, const double *x, size_t x_len, const double *p_i,
                      size_t p_i_len, const double *p_j, size_t p_j_len, size_t n, double floor, double gate,
                      uint32_t *kind, double *d2);
+/* Ours and theirs fused over base: three tracks by their fields, d values of the state and then the lower triangle of the
+   covariance row by row, d + d(d+1)/2 in all, and as many in out. Yo, Yt and Yb are the inverses of the covariances, xo, xt
+   and xb the states; Y is (Yo + Yt) - Yb, and y is (Yo xo + Yt xt) - Yb xb. The fused state is the vector that Y takes to y,
+   the fused covariance the symmetric part of the inverse of Y with its eigenvalues raised to the floor, which may be any
+   number, as for pel_nearest_psd. Either *fused is 1 and out has the fused track's fields, or *fused is 0 and out stays: where
+   an inverse, the solution or the repair is refused, or an entry of the fused track is not finite. Asks 1, 2. */
+uint32_t pel_fuse(const double *base, size_t base_len, const double *ours, size_t ours_len, const double *theirs,
+                  size_t theirs_len, size_t d, double floor, double *out, size_t out_len, uint32_t *fused);
 /* The determinant of m, 3 by 3. Asks 2. */
 uint32_t pel_mat3_det(const double *m, size_t m_len, double *out);
 /* The inverse of m, 3 by 3, by cofactors. Asks 2, 8. */
@@ -195,23 +204,27 @@ void pel_record(const uint8_t *list, size_t list_len, size_t offset, size_t *sta
 
 /* Merges ours and theirs over their base: tracks are paired where their squared distance is at most the gate. The buffer has
    at least four bytes for each track of the three lists; PEL_MAX_ROW_BYTES always do. Its first full + half + single rows are
-   written, four bytes each: the index in base, in ours and in theirs (PEL_NO_TRACK for none) and the verdict. The bytes past
-   them stay. full, half and single count the rows with three, two and one track.
+   written, four bytes each: the index in base, in ours and in theirs (PEL_NO_TRACK for none) and the verdict. Where a row has
+   all three and both sides have changed the track, not alike, it is PEL_FUSE if pel_fuse with this floor has a track for the
+   three, and PEL_CONFLICT if not. The bytes past the rows stay. full, half and single count the rows with three, two and one
+   track.
    Asks 9 to 16 of base, of ours and of theirs, 17, 18, 19. */
 uint32_t pel_merge(const uint8_t *base, size_t base_len, const uint8_t *ours, size_t ours_len, const uint8_t *theirs,
                    size_t theirs_len, double floor, double gate, uint8_t *rows, size_t rows_len, size_t *full,
                    size_t *half, size_t *single);
 /* Merges as pel_merge does, to the same rows and counts, and writes the merged list to the front of out: its dimension is that
    of the three lists, and each row in order gives base's record for PEL_KEEP, ours' for PEL_TAKE_OURS, theirs' for
-   PEL_TAKE_THEIRS, byte for byte, and none for PEL_DELETED. A row with PEL_CONFLICT refuses the call, and pel_merge shows it.
-   *length is the list's length, at most PEL_MAX_LIST_BYTES, so that many bytes of out always do. The bytes past the list stay.
+   PEL_TAKE_THEIRS, byte for byte, the track of pel_fuse for PEL_FUSE, and none for PEL_DELETED. A row that is still
+   PEL_CONFLICT refuses the call, and pel_merge shows it. *length is the list's length, at most PEL_MAX_LIST_BYTES, so that many
+   bytes of out always do. The bytes past the list stay.
    Asks 9 to 16 of base, of ours and of theirs, 17, 18, 19, 21, 22, 20. */
 uint32_t pel_merge_list(const uint8_t *base, size_t base_len, const uint8_t *ours, size_t ours_len,
                         const uint8_t *theirs, size_t theirs_len, double floor, double gate, uint8_t *rows,
                         size_t rows_len, uint8_t *out, size_t out_len, size_t *full, size_t *half, size_t *single,
                         size_t *length);
 /* The winning record of a row of four bytes: its list, PEL_OURS or PEL_THEIRS, and its start and length there. All three are 0
-   where there is none: another verdict, no such track, a list that is refused, a row of another length. Asks nothing. */
+   where there is none: another verdict (a fused track is in neither list), no such track, a list that is refused, a row of
+   another length. Asks nothing. */
 void pel_winner(const uint8_t *ours, size_t ours_len, const uint8_t *theirs, size_t theirs_len, const uint8_t *row,
                 size_t row_len, uint32_t *list, size_t *start, size_t *length);
 

@@ -24,7 +24,7 @@ static void compare(const char *what, unsigned long found, const char *name, uns
 
 /* ---- matrices */
 
-enum { ROOM = (PEL_MAX_SIDE + 1) * (PEL_MAX_SIDE + 1) + 1, CALLS = 27 };
+enum { ROOM = (PEL_MAX_SIDE + 1) * (PEL_MAX_SIDE + 1) + 1, CALLS = 28 };
 
 static double a[ROOM], x[ROOM], out[ROOM], more[ROOM], first, second;
 static uint32_t bits;
@@ -33,7 +33,7 @@ static size_t number;
 /* Call number `call` on the identity of order n, with its last slice longer than it should be. */
 static uint32_t on_matrix(unsigned call, size_t n, size_t longer)
 {
-    const size_t s = n * n, t = s + longer, v = n + longer;
+    const size_t s = n * n, t = s + longer, v = n + longer, f = n + n * (n + 1) / 2;
     switch (call) {
     case 0: return pel_mat_mul(a, s, a, s, n, n, n, out, t);
     case 1: return pel_mat_transpose(a, s, n, n, out, t);
@@ -61,7 +61,8 @@ static uint32_t on_matrix(unsigned call, size_t n, size_t longer)
     case 23: return pel_mat_largest_singular_value(a, t, n, 10, 1e-9, &first);
     case 24: return pel_condition_number(a, t, n, &first);
     case 25: return pel_tikhonov_with_report(a, s, 0.5, n, out, t, &first, &second);
-    default: return pel_compare(x, n, x, n, a, s, a, t, n, 1.0, 16.0, &bits, &first);
+    case 26: return pel_compare(x, n, x, n, a, s, a, t, n, 1.0, 16.0, &bits, &first);
+    default: return pel_fuse(a, f, a, f, a, f, n, 1.0, out, f + longer, &bits);
     }
 }
 
@@ -102,6 +103,37 @@ static void comparisons(void)
     IS(pel_compare(here, 1, far_off, 1, variance, 1, variance, 1, 1, 1.0, 0.4, &kind, &first), PEL_ANSWERED);
     IS(kind, PEL_NO_DISTANCE);
     IS(pel_compare(here, 1, there, 1, variance, 1, variance, 1, 1, 0.0, 0.4, &kind, &first), PEL_QUESTION_FLOOR_AND_GATE);
+}
+
+/* Tracks of dimension 1: a state and a variance. */
+static void fusions(void)
+{
+    const double base[2] = {10, 1}, ours[2] = {11, 1}, theirs[2] = {12, 1}, certain[2] = {11, 0};
+    double track[2] = {7, 7};
+    uint32_t fused = 7;
+    IS(pel_fuse(base, 2, ours, 2, theirs, 2, 0, 1.0, track, 2, &fused), PEL_QUESTION_SIDE);
+    IS(pel_fuse(base, 2, ours, 2, theirs, 2, PEL_MAX_SIDE + 1, 1.0, track, 2, &fused), PEL_QUESTION_SIDE);
+    IS(pel_fuse(base, 1, ours, 2, theirs, 2, 1, 1.0, track, 2, &fused), PEL_QUESTION_LENGTH);
+    IS(pel_fuse(base, 2, ours, 1, theirs, 2, 1, 1.0, track, 2, &fused), PEL_QUESTION_LENGTH);
+    IS(pel_fuse(base, 2, ours, 2, theirs, 1, 1, 1.0, track, 2, &fused), PEL_QUESTION_LENGTH);
+    IS(pel_fuse(base, 2, ours, 2, theirs, 2, 1, 1.0, track, 1, &fused), PEL_QUESTION_LENGTH);
+    IS(pel_fuse(base, 2, ours, 2, theirs, 2, 2, 1.0, track, 2, &fused), PEL_QUESTION_LENGTH);
+    IS(fused, 7);
+    /* A variance of 0 has no inverse. */
+    IS(pel_fuse(certain, 2, certain, 2, certain, 2, 1, 1.0, track, 2, &fused), PEL_ANSWERED);
+    IS(fused, 0);
+    fused = 7;
+    IS(pel_fuse(base, 2, certain, 2, theirs, 2, 1, 1.0, track, 2, &fused), PEL_ANSWERED);
+    IS(fused, 0);
+    IS(track[0] == 7 && track[1] == 7, 1);
+    IS(pel_fuse(base, 2, ours, 2, theirs, 2, 1, 1.0, track, 2, &fused), PEL_ANSWERED);
+    IS(fused, 1);
+    IS(track[0] == 13 && track[1] == 1, 1);
+    /* The floor raises the variance and not the state; a floor that is no number raises nothing. */
+    IS(pel_fuse(base, 2, ours, 2, theirs, 2, 1, 4.0, track, 2, &fused), PEL_ANSWERED);
+    IS(track[0] == 13 && track[1] == 4, 1);
+    IS(pel_fuse(base, 2, ours, 2, theirs, 2, 1, HUGE_VAL - HUGE_VAL, track, 2, &fused), PEL_ANSWERED);
+    IS(track[0] == 13 && track[1] == 1, 1);
 }
 
 /* ---- lists */
@@ -162,13 +194,13 @@ static size_t five(double p, double q, double r, double s, double t, uint8_t *to
 
 static void merges(void)
 {
-    /* Kept, changed in ours, changed in theirs, deleted in ours, changed in both; and a new one in ours. */
+    /* Kept, changed in ours, changed in theirs, deleted in both, changed in both; and a new one in both, not alike. */
     uint8_t base[100], ours[100], theirs[100];
     const size_t base_len = five(10, 30, 50, 70, 90, base), ours_len = five(10, 31, 50, 91, 200, ours);
-    const size_t theirs_len = five(10, 30, 52, 70, 92, theirs);
+    const size_t theirs_len = five(10, 30, 52, 92, 201, theirs);
     const uint8_t expected[24] = {
-        0, 0, 0, PEL_KEEP, 1, 1, 1, PEL_TAKE_OURS, 2, 2, 2, PEL_TAKE_THEIRS, 3, PEL_NO_TRACK, 3, PEL_DELETED,
-        4, 3, 4, PEL_CONFLICT, PEL_NO_TRACK, 4, PEL_NO_TRACK, PEL_TAKE_OURS,
+        0, 0, 0, PEL_KEEP, 1, 1, 1, PEL_TAKE_OURS, 2, 2, 2, PEL_TAKE_THEIRS, 3, PEL_NO_TRACK, PEL_NO_TRACK, PEL_DELETED,
+        4, 3, 3, PEL_FUSE, PEL_NO_TRACK, 4, 4, PEL_CONFLICT,
     };
     uint32_t winner;
     size_t start;
@@ -184,6 +216,9 @@ static void merges(void)
     IS(winner, PEL_OURS);
     pel_winner(ours, ours_len, theirs, theirs_len, rows + 8, 4, &winner, &start, &length);
     IS(winner, PEL_THEIRS);
+    pel_winner(ours, ours_len, theirs, theirs_len, rows + 16, 4, &winner, &start, &length);
+    IS(winner, PEL_NOBODY);
+    IS(start + length, 0);
 
     const uint8_t plane[2] = {0, 2};
     IS(pel_merge(base, base_len, ours, ours_len, plane, 2, 1.0, 16.0, rows, PEL_MAX_ROW_BYTES, &full, &half, &single),
@@ -228,6 +263,35 @@ static void merged_lists(void)
     IS(memcmp(merged, list, PEL_MAX_LIST_BYTES), 0);
 }
 
+/* Lists of one track of dimension 1, at 10 in base, 11 in ours and 12 in theirs, with one variance. */
+static uint32_t changed_on_both(double variance, size_t out_len)
+{
+    const double at_10[2] = {10, variance}, at_11[2] = {11, variance}, at_12[2] = {12, variance};
+    uint8_t base[20], ours[20], theirs[20];
+    size_t base_len, ours_len, theirs_len;
+    IS(pel_write_list(1, 1, at_10, 2, base, sizeof base, &base_len), PEL_ANSWERED);
+    IS(pel_write_list(1, 1, at_11, 2, ours, sizeof ours, &ours_len), PEL_ANSWERED);
+    IS(pel_write_list(1, 1, at_12, 2, theirs, sizeof theirs, &theirs_len), PEL_ANSWERED);
+    return into_list(base, base_len, ours, ours_len, theirs, theirs_len, out_len);
+}
+
+static void fused_lists(void)
+{
+    double track[2];
+    IS(changed_on_both(1, PEL_MAX_LIST_BYTES), PEL_ANSWERED);
+    IS(full, 1);
+    IS(half + single, 0);
+    IS(rows[0] + rows[1] + rows[2], 0);
+    IS(rows[3], PEL_FUSE);
+    IS(pel_read_list(merged, length, track, 2, &count, &dimension), PEL_ANSWERED);
+    IS(count, 1);
+    IS(dimension, 1);
+    IS(track[0] == 13 && track[1] == 1, 1);
+    IS(changed_on_both(1, length - 1), PEL_QUESTION_LIST_BUFFER);
+    /* Variances of 0 have no inverse: the row stays a conflict. */
+    IS(changed_on_both(0, PEL_MAX_LIST_BYTES), PEL_QUESTION_NO_CONFLICT);
+}
+
 int main(void)
 {
     char version[40];
@@ -235,9 +299,11 @@ int main(void)
     IS(strcmp(version, PEL_VERSION), 0);
     matrices();
     comparisons();
+    fusions();
     lists();
     merges();
     merged_lists();
+    fused_lists();
     printf("the header's numbers: %u as the library has them, %u not\n", held, wrong);
     return wrong != 0;
 }

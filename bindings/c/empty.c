@@ -14,7 +14,8 @@ static int null;
 #define IS_EMPTY(k) (empty >> (k)&1)
 #define SLICE(k, pointer, length) (IS_EMPTY(k) && null ? NULL : (pointer)), (IS_EMPTY(k) ? 0 : (length))
 
-/* What is read: a covariance of order 3, and lists of dimension 1 with one track and with none. */
+/* What is read: a covariance of order 3, also taken for the nine fields of a track of dimension 3, and lists of dimension 1 with
+ * one track and with none. */
 static const double in[9] = {4, 1, 0, 1, 3, 1, 0, 1, 2};
 static const uint8_t list[11] = {1, 1, 2, 0, 0, 0, 0, 0, 0, 0xF0, 0x3F};
 static const uint8_t none[2] = {0, 1};
@@ -69,6 +70,10 @@ static uint32_t report(void) { return pel_tikhonov_with_report(A, 0.5, 3, OUT(1)
 static uint32_t compare(void)
 {
     return pel_compare(SLICE(0, in, 3), SLICE(1, in + 3, 3), SLICE(2, in, 9), SLICE(3, in, 9), 3, 1.0, 16.0, &w.kind, N);
+}
+static uint32_t fuse(void)
+{
+    return pel_fuse(SLICE(0, in, 9), SLICE(1, in, 9), SLICE(2, in, 9), 3, 1.0, OUT(3), &w.kind);
 }
 static uint32_t det3(void) { return pel_mat3_det(A, N); }
 static uint32_t inv3(void) { return pel_mat3_inv(A, OUT(1)); }
@@ -149,6 +154,7 @@ static const struct {
     {"condition_number", condition, 1},
     {"tikhonov_with_report", report, 2},
     {"compare", compare, 4},
+    {"fuse", fuse, 4},
     {"mat3_det", det3, 1},
     {"mat3_inv", inv3, 2},
     {"mat3_solve", solve3, 3},

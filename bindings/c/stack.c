@@ -9,13 +9,14 @@
 #include <string.h>
 #include <ucontext.h>
 
-enum { SIDE = PEL_MAX_SIDE, ENTRIES = SIDE * SIDE, STACK = 1 << 20, PAINT = 0xA5 };
+enum { SIDE = PEL_MAX_SIDE, ENTRIES = SIDE * SIDE, FIELDS = SIDE + SIDE * (SIDE + 1) / 2, STACK = 1 << 20, PAINT = 0xA5 };
 
 static const double unit[9] = {1, 0, 0, 0, 1, 0, 0, 0, 1};
-static double a[ENTRIES], x[SIDE], out[ENTRIES], more[ENTRIES], values[PEL_MAX_VALUES], first, second;
-static uint8_t list[PEL_MAX_LIST_BYTES], written[PEL_MAX_LIST_BYTES], rows[PEL_MAX_ROW_BYTES];
-static size_t list_len, number, other, third, fourth;
-static uint32_t bits, answer;
+static double a[ENTRIES], x[SIDE], out[ENTRIES], more[ENTRIES], track[FIELDS], values[PEL_MAX_VALUES], first, second;
+static uint8_t list[PEL_MAX_LIST_BYTES], ours[PEL_MAX_LIST_BYTES], theirs[PEL_MAX_LIST_BYTES], written[PEL_MAX_LIST_BYTES];
+static uint8_t rows[PEL_MAX_ROW_BYTES];
+static size_t list_len, ours_len, theirs_len, number, other, third, fourth;
+static uint32_t bits, fused, answer;
 
 #define A a, ENTRIES
 #define X x, SIDE
@@ -50,6 +51,7 @@ static void singular_value(void) { answer = pel_mat_largest_singular_value(A, SI
 static void condition_number(void) { answer = pel_condition_number(A, SIDE, &first); }
 static void with_report(void) { answer = pel_tikhonov_with_report(A, 0.5, SIDE, OUT, &first, &second); }
 static void compare(void) { answer = pel_compare(X, X, A, A, SIDE, 1.0, 16.0, &bits, &first); }
+static void fuse(void) { answer = pel_fuse(track, FIELDS, track, FIELDS, track, FIELDS, SIDE, 25.0, out, FIELDS, &fused); }
 static void mat3_det(void) { answer = pel_mat3_det(unit, 9, &first); }
 static void mat3_inv(void) { answer = pel_mat3_inv(unit, 9, out, 9); }
 static void mat3_solve(void) { answer = pel_mat3_solve(unit, 9, x, 3, out, 3); }
@@ -61,11 +63,12 @@ static void write_list(void)
 static void record(void) { pel_record(list, list_len, 2, &number, &other); }
 static void merge(void)
 {
-    answer = pel_merge(list, list_len, list, list_len, list, list_len, 1.0, 16.0, rows, sizeof rows, &number, &other, &third);
+    answer = pel_merge(list, list_len, ours, ours_len, theirs, theirs_len, 4.0, 16.0, rows, sizeof rows, &number, &other,
+                       &third);
 }
 static void merge_list(void)
 {
-    answer = pel_merge_list(list, list_len, list, list_len, list, list_len, 1.0, 16.0, rows, sizeof rows, written,
+    answer = pel_merge_list(list, list_len, ours, ours_len, theirs, theirs_len, 4.0, 16.0, rows, sizeof rows, written,
                             sizeof written, &number, &other, &third, &fourth);
 }
 static void winner(void)
@@ -105,6 +108,7 @@ static const struct {
     {"condition_number", condition_number},
     {"tikhonov_with_report", with_report},
     {"compare", compare},
+    {"fuse", fuse},
     {"mat3_det", mat3_det},
     {"mat3_inv", mat3_inv},
     {"mat3_solve", mat3_solve},
@@ -136,19 +140,41 @@ static size_t depth(void (*call)(void))
     return STACK - painted;
 }
 
+/* The largest list, and its length: tracks in a row, moved by some distance, with no field left out. Their covariance has an
+ * inverse, and its eigenvalues are below the floor of the merges. */
+static size_t write_tracks(double moved, uint8_t *to)
+{
+    size_t length = 0;
+    for (size_t t = 0, at = 0; t < PEL_MAX_TRACKS; t++) {
+        for (size_t i = 0; i < PEL_MAX_DIMENSION; i++) {
+            values[at++] = (double)(1 + t) + moved;
+        }
+        for (size_t i = 0; i < PEL_MAX_DIMENSION; i++) {
+            for (size_t j = 0; j <= i; j++) {
+                values[at++] = i == j ? 1.5 : 0.25;
+            }
+        }
+    }
+    answer = pel_write_list(PEL_MAX_TRACKS, PEL_MAX_DIMENSION, values, PEL_MAX_VALUES, to, PEL_MAX_LIST_BYTES, &length);
+    return length;
+}
+
 int main(void)
 {
     for (size_t i = 0; i < SIDE; i++) {
-        x[i] = (double)i;
+        x[i] = track[i] = (double)i;
         for (size_t j = 0; j < SIDE; j++) {
             a[i * SIDE + j] = i == j ? 20.0 + (double)i : 1.0 / (double)(1 + i + j);
         }
     }
-    /* Tracks of dimension 9 in a row, with no field left out. */
-    for (size_t i = 0; i < PEL_MAX_VALUES; i++) {
-        values[i] = i % 54 < 9 ? (double)(1 + i / 54) : 0.25;
+    for (size_t i = 0, at = SIDE; i < SIDE; i++) {
+        for (size_t j = 0; j <= i; j++) {
+            track[at++] = a[i * SIDE + j];
+        }
     }
-    answer = pel_write_list(PEL_MAX_TRACKS, PEL_MAX_DIMENSION, values, PEL_MAX_VALUES, list, sizeof list, &list_len);
+    ours_len = write_tracks(0.125, ours);
+    theirs_len = write_tracks(-0.125, theirs);
+    list_len = write_tracks(0.0, list);
     if (answer != PEL_ANSWERED) {
         printf("write_list: refused by %u\n", (unsigned)answer);
         return 1;
@@ -161,6 +187,11 @@ int main(void)
             return 1;
         }
         printf("%s %zu\n", CALLS[i].name, bytes);
+    }
+    /* Where nothing is fused, the last steps of a fusion are not measured. */
+    if (fused != 1 || rows[3] != PEL_FUSE) {
+        printf("no track was fused\n");
+        return 1;
     }
     return 0;
 }

@@ -1,5 +1,5 @@
 //! Merges three files: `cargo run --example merge -- base.trk ours.trk theirs.trk`.
-use pelosumba::{merge, winner, List};
+use pelosumba::{fused, merge, winner, List};
 use std::error::Error;
 use std::process::ExitCode;
 
@@ -13,11 +13,18 @@ fn run(files: &[String]) -> Result<(), Box<dyn Error>> {
         return Err("three files are wanted: base, ours and theirs".into());
     };
     let (base, ours, theirs) = (read(base)?, read(ours)?, read(theirs)?);
-    let merged = merge(&base, &ours, &theirs, 1.0, 16.0)?;
+    let (floor, gate) = (1.0, 16.0);
+    let merged = merge(&base, &ours, &theirs, floor, gate)?;
     let shown = |index: Option<usize>| index.map_or("-".to_string(), |i| i.to_string());
     for row in &merged.rows {
         print!("{} {} {} {:?}", shown(row.base), shown(row.ours), shown(row.theirs), row.verdict);
-        println!("{}", winner(&ours, &theirs, row).map_or(String::new(), |bytes| format!(", {} bytes", bytes.len())));
+        if let Some(bytes) = winner(&ours, &theirs, row) {
+            print!(", {} bytes", bytes.len());
+        }
+        if let Some(track) = fused(&base, &ours, &theirs, floor, row) {
+            print!(", at {:?}", track.state);
+        }
+        println!();
     }
     println!("{} of three tracks, {} of two, {} of one", merged.full, merged.half, merged.single);
     Ok(())

@@ -294,6 +294,34 @@ pub mod kernel {
     }
 }
 
+/// Whether base, ours and theirs, tracks of dimension d by their fields, are fused into out.
+pub(crate) fn fuse(tracks: [&[f64]; 3], d: usize, floor: f64, out: &mut [f64]) -> Result<bool, Refusal> {
+    type F = *const f64;
+    extern "C" {
+        fn pel_fuse(
+            _: F,
+            _: usize,
+            _: F,
+            _: usize,
+            _: F,
+            _: usize,
+            _: usize,
+            _: f64,
+            _: *mut f64,
+            _: usize,
+            _: *mut u32,
+        ) -> u32;
+    }
+    let [b, o, t] = tracks;
+    let mut fused = 0;
+    let (to, len) = (out.as_mut_ptr(), out.len());
+    // SAFETY: each slice is lent with its own length, and the place is a local number.
+    told(unsafe {
+        pel_fuse(b.as_ptr(), b.len(), o.as_ptr(), o.len(), t.as_ptr(), t.len(), d, floor, to, len, &mut fused)
+    })
+    .map(|()| fused == 1)
+}
+
 /// The count and the dimension.
 pub(crate) fn read_list(list: &[u8], values: &mut [f64]) -> Result<(usize, usize), Refusal> {
     extern "C" {

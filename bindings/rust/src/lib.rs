@@ -1,8 +1,9 @@
 //! Track lists of a farm cooperative, merged by distance and never by place, over the proved library `libcapi.a`.
 //!
 //! A track is a state and a covariance without a name. [`merge`] pairs the tracks of three lists and gives a [`Verdict`] for each row;
-//! [`merge_list`] gives the merged list too, where no row is a conflict; [`winner`] hands out a winning record's own bytes. A call
-//! that cannot be answered gives a [`Refusal`] and changes nothing. [`kernel`] has the matrix calls beneath, on slices.
+//! [`merge_list`] gives the merged list too, where no row is a conflict; [`winner`] hands out a winning record's own bytes, and
+//! [`fused`] the track of a row that both sides have changed and that can be fused, by [`fuse`]. A call that cannot be answered gives
+//! a [`Refusal`] and changes nothing. [`kernel`] has the matrix calls beneath, on slices.
 //!
 //! ```
 //! use pelosumba::{merge, winner, List, Track, Verdict};
@@ -24,11 +25,13 @@
 
 #[allow(unsafe_code)]
 mod ffi;
+mod fusion;
 mod list;
 mod merge;
 mod refusal;
 
 pub use ffi::kernel;
+pub use fusion::fuse;
 pub use list::{List, Track};
-pub use merge::{merge, merge_list, winner, Merge, Row, Verdict};
+pub use merge::{fused, merge, merge_list, winner, Merge, Row, Verdict};
 pub use refusal::Refusal;

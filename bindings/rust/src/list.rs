@@ -14,6 +14,21 @@ pub struct Track {
     pub triangle: Vec<f64>,
 }
 
+impl Track {
+    /// The track of a dimension with these fields.
+    pub(crate) fn of(dimension: usize, fields: &[f64]) -> Track {
+        let (state, triangle) = fields.split_at(dimension);
+        Track { state: state.to_vec(), triangle: triangle.to_vec() }
+    }
+
+    /// Its fields, where it has that dimension.
+    pub(crate) fn fields(&self, dimension: usize) -> Option<Vec<f64>> {
+        let sides = self.state.len();
+        let fits = sides == dimension && self.triangle.len() == sides * (sides + 1) / 2;
+        fits.then(|| [&self.state[..], &self.triangle].concat())
+    }
+}
+
 /// A list that was accepted: its bytes, and what they hold.
 #[derive(Clone, Debug, PartialEq)]
 pub struct List {
@@ -37,24 +52,16 @@ impl List {
         let mut values = [0.0; VALUES];
         let (count, dimension) = ffi::read_list(bytes, &mut values)?;
         let fields = dimension + dimension * (dimension + 1) / 2;
-        let track = |fields: &[f64]| {
-            let (state, triangle) = fields.split_at(dimension);
-            Track { state: state.to_vec(), triangle: triangle.to_vec() }
-        };
+        let track = |fields: &[f64]| Track::of(dimension, fields);
         let tracks = values[..count * fields].chunks_exact(fields).map(track).collect();
         Ok(List { bytes: bytes.to_vec(), dimension, tracks })
     }
 
     /// Writes tracks of a dimension as a list. Where a track has another dimension, it is refused with 2.
     pub fn write(dimension: usize, tracks: &[Track]) -> Result<List, Refusal> {
-        let fits = |track: &Track| {
-            let sides = track.state.len();
-            sides == dimension && track.triangle.len() == sides * (sides + 1) / 2
-        };
-        let fields = |track: &Track| [&track.state[..], &track.triangle].concat();
         // No values where some track does not fit: then their number is wrong, after the questions on count and dimension.
-        let values: Vec<f64> =
-            if tracks.iter().all(fits) { tracks.iter().flat_map(fields).collect() } else { Vec::new() };
+        let fields: Option<Vec<_>> = tracks.iter().map(|track| track.fields(dimension)).collect();
+        let values = fields.unwrap_or_default().concat();
         let mut bytes = vec![0; LARGEST];
         let length = ffi::write_list(tracks.len(), dimension, &values, &mut bytes)?;
         List::read(&bytes[..length])

@@ -1,6 +1,6 @@
 //! The merge of three lists.
 use crate::list::LARGEST;
-use crate::{ffi, List, Refusal};
+use crate::{ffi, fuse, List, Refusal, Track};
 
 /// The bytes of the most rows: 96 of four bytes.
 const ROWS: usize = 4 * 96;
@@ -16,8 +16,11 @@ pub enum Verdict {
     TakeTheirs,
     /// One side has deleted what the other left as it was, or both have.
     Deleted,
-    /// Both sides have changed or added it differently, or one has changed what the other deleted.
+    /// Both sides have added it differently, or changed it differently and it cannot be fused, or one has changed what the other
+    /// deleted.
     Conflict,
+    /// Both sides have changed it differently, and their changes can be fused: [`fused`] has the track.
+    Fuse,
 }
 
 /// The tracks that stand together, by their indices, and the verdict on them.
@@ -42,6 +45,7 @@ impl Row {
             1 => Verdict::TakeOurs,
             2 => Verdict::TakeTheirs,
             3 => Verdict::Deleted,
+            5 => Verdict::Fuse,
             _ => Verdict::Conflict,
         };
         Row { base: index(bytes[0]), ours: index(bytes[1]), theirs: index(bytes[2]), verdict, bytes }
@@ -73,6 +77,26 @@ impl Merge {
         let rows = buffer.chunks_exact(4).take(full + half + single).map(row).collect();
         Merge { rows, full, half, single }
     }
+
+    /// The index that the track of a row has in the list of [`merge_list`], the row by its own index; none for a row that writes
+    /// no track, where the verdict is deleted or conflict, and for an index past the last row.
+    ///
+    /// ```
+    /// use pelosumba::{merge_list, List, Track, Verdict};
+    ///
+    /// let collar = |at| Track { state: vec![at], triangle: vec![1.0] };
+    /// let base = List::write(1, &[collar(10.0), collar(30.0)])?;
+    /// let (ours, theirs) = (List::write(1, &[collar(31.0)])?, List::write(1, &[collar(10.0), collar(32.0)])?);
+    /// let (merged, list) = merge_list(&base, &ours, &theirs, 1.0, 16.0)?;
+    /// assert_eq!((merged.rows[0].verdict, merged.place(0)), (Verdict::Deleted, None));
+    /// assert_eq!((merged.rows[1].verdict, merged.place(1)), (Verdict::Fuse, Some(0)));
+    /// assert_eq!(list.tracks()[0], collar(33.0));
+    /// # Ok::<(), pelosumba::Refusal>(())
+    /// ```
+    pub fn place(&self, row: usize) -> Option<usize> {
+        let writes = |row: &Row| !matches!(row.verdict, Verdict::Deleted | Verdict::Conflict);
+        self.rows.get(row).is_some_and(writes).then(|| self.rows[..row].iter().filter(|row| writes(row)).count())
+    }
 }
 
 /// Merges ours and theirs over their base: tracks are paired where their squared distance is at most the gate, under covariances
@@ -84,7 +108,8 @@ pub fn merge(base: &List, ours: &List, theirs: &List, floor: f64, gate: f64) -> 
 }
 
 /// The same merge, and the merged list: in the order of the rows base's record where the verdict is to keep, ours' or theirs' where
-/// it takes one, and nothing where it is deleted, each byte for byte. A conflict is refused with 21, and more than 32 tracks with 22.
+/// it takes one, each byte for byte, the fused track where it is to fuse, and nothing where it is deleted. [`Merge::place`] tells
+/// which track of the list is a row's. A conflict is refused with 21, and more than 32 tracks with 22.
 ///
 /// ```
 /// use pelosumba::{merge_list, List, Track};
@@ -108,7 +133,8 @@ pub fn merge_list(base: &List, ours: &List, theirs: &List, floor: f64, gate: f64
     Ok((Merge::new(&buffer, counts), List::read(&bytes[..length])?))
 }
 
-/// The winning record's own bytes, a part of ours or of theirs; none for a verdict that takes neither.
+/// The winning record's own bytes, a part of ours or of theirs; none for a verdict that takes neither. The fused track of a row is
+/// in neither list: [`fused`] has it.
 pub fn winner<'a>(ours: &'a List, theirs: &'a List, row: &Row) -> Option<&'a [u8]> {
     let (list, start, length) = ffi::winner(ours.bytes(), theirs.bytes(), row.bytes());
     let part = start..start + length;
@@ -117,4 +143,26 @@ pub fn winner<'a>(ours: &'a List, theirs: &'a List, row: &Row) -> Option<&'a [u8
         2 => Some(&theirs.bytes()[part]),
         _ => None,
     }
+}
+
+/// The fused track of a row whose verdict is to fuse, of the three lists and the floor that were merged; none for another verdict,
+/// and where the lists do not have the row's tracks.
+///
+/// ```
+/// use pelosumba::{fused, merge, List, Track, Verdict};
+///
+/// let collar = |at| Track { state: vec![at], triangle: vec![1.0] };
+/// let list = |at| List::write(1, &[collar(at)]);
+/// let (base, ours, theirs) = (list(10.0)?, list(11.0)?, list(12.0)?);
+/// let row = merge(&base, &ours, &theirs, 1.0, 16.0)?.rows[0];
+/// assert_eq!(row.verdict, Verdict::Fuse);
+/// assert_eq!(fused(&base, &ours, &theirs, 1.0, &row), Some(collar(13.0)));
+/// # Ok::<(), pelosumba::Refusal>(())
+/// ```
+pub fn fused(base: &List, ours: &List, theirs: &List, floor: f64, row: &Row) -> Option<Track> {
+    if row.verdict != Verdict::Fuse {
+        return None;
+    }
+    let [base, ours, theirs] = [base, ours, theirs].map(List::tracks);
+    fuse(base.get(row.base?)?, ours.get(row.ours?)?, theirs.get(row.theirs?)?, floor).ok()?
 }

@@ -1,5 +1,5 @@
 //! The lists of the folder demo: what they hold, how they are merged, and what a merger by place would have done.
-use pelosumba::{merge, merge_list, List, Track, Verdict};
+use pelosumba::{fuse, fused, merge, merge_list, List, Track, Verdict};
 
 fn read(name: &str) -> List {
     let folder = concat!(env!("CARGO_MANIFEST_DIR"), "/../../demo/");
@@ -33,26 +33,42 @@ fn by_distance() {
         (Some(1), None, Some(1), Verdict::Deleted),
         (Some(2), Some(1), Some(2), Verdict::Keep),
         (Some(3), Some(2), Some(3), Verdict::TakeOurs),
-        (Some(4), Some(3), Some(4), Verdict::Conflict),
+        (Some(4), Some(3), Some(4), Verdict::Fuse),
         (None, Some(4), None, Verdict::TakeOurs),
         (None, None, Some(5), Verdict::TakeTheirs),
     ];
     assert_eq!(rows, wanted);
 }
 
-/// The conflict refuses the list. Where ours leaves that collar as it was, each other verdict has its rows in the list.
+/// Each row but the deleted one has its place in the list, and the fused track is at that of its row.
 #[test]
 fn into_a_list() {
     let [base, ours, theirs] = lists();
-    assert_eq!(merge_list(&base, &ours, &theirs, 1.0, 16.0).unwrap_err().number(), 21);
-    let mut tracks = ours.tracks().to_vec();
-    tracks[3] = base.tracks()[4].clone();
-    let ours = List::write(2, &tracks).unwrap();
     let (merged, list) = merge_list(&base, &ours, &theirs, 1.0, 16.0).unwrap();
     assert_eq!(merged, merge(&base, &ours, &theirs, 1.0, 16.0).unwrap());
     let [b, o, t] = [&base, &ours, &theirs].map(|list| list.records().collect::<Vec<_>>());
-    assert_eq!(list.records().collect::<Vec<_>>(), [b[0], b[2], o[2], t[4], o[4], t[5]]);
+    let both = List::write(2, &collars(&[[70.0, 43.0]])).unwrap();
+    let both: Vec<_> = both.records().collect();
+    assert_eq!(list.records().collect::<Vec<_>>(), [b[0], b[2], o[2], both[0], o[4], t[5]]);
     assert_eq!((list.dimension(), list.tracks().len()), (2, 6));
+    let places: Vec<_> = (0..8).map(|row| merged.place(row)).collect();
+    assert_eq!(places, [Some(0), None, Some(1), Some(2), Some(3), Some(4), Some(5), None]);
+    for (r, row) in merged.rows.iter().enumerate() {
+        let track = fused(&base, &ours, &theirs, 1.0, row);
+        assert_eq!(track.as_ref(), (r == 4).then(|| &list.tracks()[merged.place(r).unwrap()]));
+    }
+}
+
+/// A collar that theirs has deleted and ours moved is a conflict, and refuses the list.
+#[test]
+fn into_no_list() {
+    let [base, ours, theirs] = lists();
+    let mut tracks = theirs.tracks().to_vec();
+    tracks.remove(4);
+    let theirs = List::write(2, &tracks).unwrap();
+    let merged = merge(&base, &ours, &theirs, 1.0, 16.0).unwrap();
+    assert_eq!((merged.rows[4].verdict, merged.place(4)), (Verdict::Conflict, None));
+    assert_eq!(merge_list(&base, &ours, &theirs, 1.0, 16.0).unwrap_err().number(), 21);
 }
 
 /// Tracks of one index taken together: the last line of demo/run.
@@ -68,11 +84,12 @@ fn by_place() {
         } else if base == ours {
             Verdict::TakeTheirs
         } else {
-            Verdict::Conflict
+            let track = fuse(base.unwrap(), ours.unwrap(), theirs.unwrap(), 1.0).unwrap();
+            track.map_or(Verdict::Conflict, |_| Verdict::Fuse)
         }
     };
-    use Verdict::{Conflict, Keep, TakeOurs, TakeTheirs};
-    assert_eq!([0, 1, 2, 3, 4, 5].map(verdict), [Keep, TakeOurs, TakeOurs, TakeOurs, Conflict, TakeTheirs]);
+    use Verdict::{Fuse, Keep, TakeOurs, TakeTheirs};
+    assert_eq!([0, 1, 2, 3, 4, 5].map(verdict), [Keep, TakeOurs, TakeOurs, TakeOurs, Fuse, TakeTheirs]);
     let moved = [1, 2, 3].map(|i| (base.tracks()[i].state[0], ours.tracks()[i].state[0]));
     assert_eq!(moved, [(25.0, 40.0), (40.0, 57.0), (55.0, 71.0)]);
 }

@@ -1,6 +1,6 @@
 //! Document 01's examples, and refusals, through the crate.
 use pelosumba::kernel::{self, Comparison};
-use pelosumba::{merge, merge_list, winner, List, Track, Verdict};
+use pelosumba::{fuse, fused, merge, merge_list, winner, List, Track, Verdict};
 
 fn list(states: &[f64]) -> List {
     let track = |x: &f64| Track { state: vec![*x], triangle: vec![1.0] };
@@ -76,6 +76,58 @@ fn case_k() {
     let taken = [base.records().next(), theirs.records().nth(2)].map(Option::unwrap);
     assert_eq!(written.records().collect::<Vec<_>>(), taken);
     assert_eq!(written.bytes(), [&[2, 1], taken[0], taken[1]].concat());
+}
+
+fn collar(at: f64, variance: f64) -> Track {
+    Track { state: vec![at], triangle: vec![variance] }
+}
+
+#[test]
+fn fusions() {
+    let (base, ours, theirs) = (collar(10.0, 1.0), collar(11.0, 1.0), collar(12.0, 1.0));
+    assert_eq!(fuse(&base, &ours, &theirs, 1.0).unwrap(), Some(collar(13.0, 1.0)));
+    // The floor raises the variance, and a NaN raises nothing.
+    assert_eq!(fuse(&base, &ours, &theirs, 4.0).unwrap(), Some(collar(13.0, 4.0)));
+    assert_eq!(fuse(&base, &ours, &theirs, f64::NAN).unwrap(), Some(collar(13.0, 1.0)));
+    // Inverses 2, 1 and 1: (2 + 1) - 1 is 2, (22 + 12) - 10 is 24.
+    assert_eq!(fuse(&base, &collar(11.0, 0.5), &theirs, 0.0).unwrap(), Some(collar(12.0, 0.5)));
+    // No variance has an inverse, one has none, the sum (1 + 1) - 2 has none, the fused state is not finite.
+    let certain = collar(11.0, 0.0);
+    assert_eq!(fuse(&certain, &certain, &certain, 1.0).unwrap(), None);
+    for [base, ours, theirs] in [[&certain, &ours, &theirs], [&base, &certain, &theirs], [&base, &ours, &certain]] {
+        assert_eq!(fuse(base, ours, theirs, 1.0).unwrap(), None);
+    }
+    assert_eq!(fuse(&collar(10.0, 0.5), &ours, &theirs, 1.0).unwrap(), None);
+    assert_eq!(fuse(&base, &collar(f64::MAX, 1.0), &collar(f64::MAX, 1.0), 1.0).unwrap(), None);
+    // Two values, and a triangle of three entries, in their places.
+    let plane = |east, north| Track { state: vec![east, north], triangle: vec![2.0, 1.0, 2.0] };
+    let track = fuse(&plane(1.0, 2.0), &plane(2.0, 2.0), &plane(1.0, 4.0), 0.5).unwrap().unwrap();
+    let near = |x: &[f64], y: &[f64]| x.len() == y.len() && x.iter().zip(y).all(|(x, y)| (x - y).abs() < 1e-12);
+    assert!(near(&track.state, &[2.0, 4.0]) && near(&track.triangle, &[2.0, 1.0, 2.0]), "{track:?}");
+}
+
+#[test]
+fn a_fused_row() {
+    let (base, ours, theirs) = (list(&[10.0]), list(&[11.0]), list(&[12.0]));
+    let (merged, written) = merge_list(&base, &ours, &theirs, 1.0, 16.0).unwrap();
+    assert_eq!(merged, merge(&base, &ours, &theirs, 1.0, 16.0).unwrap());
+    let row = merged.rows[0];
+    assert_eq!((merged.rows.len(), row.bytes(), row.verdict), (1, [0, 0, 0, 5], Verdict::Fuse));
+    assert_eq!((merged.full, merged.half, merged.single), (1, 0, 0));
+    assert_eq!(written, list(&[13.0]));
+    assert_eq!(merged.place(0), Some(0));
+    assert_eq!(winner(&ours, &theirs, &row), None);
+    assert_eq!(fused(&base, &ours, &theirs, 1.0, &row), Some(collar(13.0, 1.0)));
+    // Lists that have no such track, or another dimension.
+    assert_eq!(fused(&list(&[]), &ours, &theirs, 1.0, &row), None);
+    let plane = List::write(2, &[Track { state: vec![1.0, 2.0], triangle: vec![1.0, 0.0, 1.0] }]).unwrap();
+    assert_eq!(fused(&base, &ours, &plane, 1.0, &row), None);
+    // The row of a conflict has no fused track, also with lists whose tracks at its indices can be fused.
+    let certain = List::write(1, &[collar(11.0, 0.0)]).unwrap();
+    let row = merge(&base, &certain, &theirs, 1.0, 16.0).unwrap().rows[0];
+    assert_eq!((row.bytes(), row.verdict), ([0, 0, 0, 4], Verdict::Conflict));
+    assert_eq!(fused(&base, &certain, &theirs, 1.0, &row), None);
+    assert_eq!(fused(&base, &ours, &theirs, 1.0, &row), None);
 }
 
 #[test]

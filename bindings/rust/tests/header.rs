@@ -15,7 +15,7 @@ fn names(text: &str) -> Vec<&str> {
 fn every_call() {
     let declared = names(include_str!("../../../include/pelosumba.h"));
     assert_eq!(declared, names(include_str!("../src/ffi.rs")));
-    assert_eq!(declared.len(), 41);
+    assert_eq!(declared.len(), 42);
 }
 
 #[test]

@@ -1,5 +1,5 @@
 //! Every refusal that the crate can meet, by its number, with the memory that was lent left alone; and the questions in words.
-use pelosumba::{kernel, merge, merge_list, List, Refusal, Track};
+use pelosumba::{fuse, kernel, merge, merge_list, List, Refusal, Track};
 use std::slice::from_ref;
 
 fn number<T: std::fmt::Debug>(answer: Result<T, Refusal>) -> u32 {
@@ -115,6 +115,28 @@ fn of_writing() {
 }
 
 #[test]
+fn of_a_fusion() {
+    let track = |sides: usize, entries: usize| Track { state: vec![1.0; sides], triangle: vec![1.0; entries] };
+    let refused = |[base, ours, theirs]: [&Track; 3]| number(fuse(base, ours, theirs, 1.0));
+    let (one, none) = (track(1, 1), track(0, 0));
+    for wrong in [&none, &track(17, 17 * 9)] {
+        assert_eq!(refused([wrong; 3]), 1);
+        assert_eq!(refused([wrong, &one, &one]), 1);
+    }
+    // Of one number of fields in all, and of another.
+    for wrong in [&none, &track(2, 0), &track(0, 2), &track(1, 2), &track(2, 3)] {
+        assert_eq!(refused([&one, wrong, &one]), 2);
+        assert_eq!(refused([&one, &one, wrong]), 2);
+    }
+    for wrong in [&track(1, 0), &track(1, 2), &track(2, 2)] {
+        assert_eq!(refused([wrong; 3]), 2);
+    }
+    let (d, mut unit) = (16, track(16, 0));
+    unit.triangle = (0..d).flat_map(|i| (0..=i).map(move |j| f64::from(i == j))).collect();
+    assert_eq!(fuse(&unit, &unit, &unit, 1.0), Ok(Some(unit.clone())));
+}
+
+#[test]
 fn of_a_merge() {
     let one = List::write(1, &[Track { state: vec![10.0], triangle: vec![1.0] }]).unwrap();
     let flat = List::write(2, &[]).unwrap();
@@ -135,8 +157,9 @@ fn of_a_merge_into_a_list() {
     let none = list(0..0, 0.0);
     let refused = |base: &List, ours: &List, theirs: &List| number(merge_list(base, ours, theirs, 1.0, 16.0));
     assert_eq!(refused(&none, &none, &List::write(2, &[]).unwrap()), 17);
-    // Changed on both sides, changed on one and deleted on the other, added on both.
-    assert_eq!(refused(&list(0..1, 0.0), &list(0..1, 1.0), &list(0..1, 2.0)), 21);
+    // Changed on both sides and not to be fused, changed on one and deleted on the other, added on both.
+    let certain = |at| List::write(1, &[Track { state: vec![at], triangle: vec![0.0] }]).unwrap();
+    assert_eq!(refused(&certain(0.0), &certain(1.0), &certain(2.0)), 21);
     assert_eq!(refused(&list(0..1, 0.0), &list(0..1, 1.0), &none), 21);
     assert_eq!(refused(&none, &list(0..1, 1.0), &list(0..1, 2.0)), 21);
     // 32 tracks can be written and 33 cannot, however many were deleted; a conflict is asked for first.
@@ -145,6 +168,21 @@ fn of_a_merge_into_a_list() {
     assert_eq!(refused(&none, &list(0..16, 0.0), &list(16..33, 0.0)), 22);
     assert_eq!(refused(&none, &list(0..32, 0.0), &list(1..33, 0.0)), 22);
     assert_eq!(refused(&none, &list(0..32, 0.0), &list(31..60, 1.0)), 21);
+    // A fused track is one of the 32: with 31 that are new in ours it can be written, and with a new one of theirs it cannot.
+    let (base, ours, changed) = (list(0..1, 0.0), list(0..32, 1.0), list(0..1, 2.0));
+    let (merged, written) = merge_list(&base, &ours, &changed, 1.0, 16.0).unwrap();
+    assert_eq!((merged.rows[0].bytes(), merged.rows.len(), written.tracks().len()), ([0, 0, 0, 5], 32, 32));
+    let theirs = List::write(1, &[changed.tracks(), list(40..41, 0.0).tracks()].concat()).unwrap();
+    assert_eq!(refused(&base, &ours, &theirs), 22);
+    // Fused tracks do not hide a conflict.
+    let both = |at: f64| {
+        let tracks =
+            [(at, 1.0), (100.0 + at, 0.0)].map(|(at, variance)| Track { state: vec![at], triangle: vec![variance] });
+        List::write(1, &tracks).unwrap()
+    };
+    let verdicts: Vec<_> = merge(&both(0.0), &both(1.0), &both(2.0), 1.0, 16.0).unwrap().rows;
+    assert_eq!(verdicts.iter().map(|row| row.bytes()[3]).collect::<Vec<_>>(), [5, 4]);
+    assert_eq!(refused(&both(0.0), &both(1.0), &both(2.0)), 21);
 }
 
 /// The words are those of docs/FORMAT.md: a row `| 9 | Are there two bytes? | .. |` for each question.
