@@ -1,4 +1,6 @@
 // The comparison of two tracks: near, far or no distance.
+#![tactic(auto)]
+
 ghost use Rattle.std.specs.Prelude.{◌≡◌};
 ghost use Rattle.compare.specs.Distance.{comparing, compare_answer};
 

@@ -1,5 +1,7 @@
 // What the kernel's crates on dense matrices share: the answers of their calls, the questions on sides and lengths, and
 // loops over one vector. No call for users is here: a helper may have a `requires` beside a full `ensures`.
+#![tactic(auto)]
+
 pub mod shape;
 pub mod unit;
 pub mod vector;

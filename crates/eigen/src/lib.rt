@@ -1,4 +1,6 @@
 // Eigenvalues and eigenvectors of symmetric f64 matrices of sides 1 to 16, by the cyclic Jacobi method.
+#![tactic(auto)]
+
 mod angle;
 pub mod generic;
 pub mod inside;

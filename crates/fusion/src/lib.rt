@@ -1,4 +1,6 @@
 // The fusion of two tracks that both changed, over the track that they were: `fuse`.
+#![tactic(auto)]
+
 ghost use Rattle.std.specs.Prelude.{◌≡◌, ◌≤◌};
 ghost use Rattle.tracks.specs.Layout.{fields};
 ghost use Rattle.fusion.specs.Fusion.{fusing, after_fusing};

@@ -1,5 +1,7 @@
 // The calls of mat3.rs, for 3 by 3 matrices: flat slices of nine entries, row by row. A call refuses with the number of the
 // first of document 01's questions that is not met, and then no lent memory has changed.
+#![tactic(auto)]
+
 ghost use Rattle.std.specs.Prelude.{◌≡◌, ◌&&◌, length};
 ghost use Rattle.dense.specs.Answer.{Leaves, given};
 ghost use Rattle.dense.specs.Matrix.{has_length};

@@ -1,6 +1,8 @@
 // Replays frozen answers of the matrix calls. Doubles stand by their bit patterns. A record has its length in numbers, the call, three sides, a
 // double, the lengths of the three slices that are read and of the one that is written, and the answer's number; then the entries of the slices
 // that are read, and those of the one that is written after the call.
+#![tactic(auto)]
+
 mod calls;
 mod comparison;
 mod iterating;

@@ -1,4 +1,6 @@
 // The merge of three track lists: rows of base, ours and theirs with a verdict each.
+#![tactic(auto)]
+
 ghost use Rattle.std.specs.Prelude.{◌≡◌, length};
 ghost use Rattle.merge.specs.Merge.{merging, after_merge};
 ghost use Rattle.merge.specs.Demand3.{Demanded};

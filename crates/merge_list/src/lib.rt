@@ -1,4 +1,6 @@
 // The merged list: a merge of three track lists, and the records that its rows take, written as a list.
+#![tactic(auto)]
+
 ghost use Rattle.std.specs.Prelude.{◌≡◌, length};
 ghost use Rattle.merge_list.specs.MergeList.{merging_list, after_merge_list};
 ghost use Rattle.merge_list.specs.Private.{shorter, is_written, answer_with};

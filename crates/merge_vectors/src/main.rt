@@ -1,5 +1,7 @@
 // Replays frozen merges, winners, and merges with their lists. The floor and the gate stand by their bit patterns. A record has its length in
 // numbers, its kind and ten numbers more, which each kind below names in their order, and then its data.
+#![tactic(auto)]
+
 ghost use Rattle.std.specs.Prelude.{◌≤◌};
 
 use kernel::bytes;

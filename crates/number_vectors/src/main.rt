@@ -1,5 +1,7 @@
 // Replays frozen answers of the number helpers. A record is five numbers: its length, which call, the call's one or two arguments by their bit
 // patterns, and the answer's bit pattern.
+#![tactic(auto)]
+
 use kernel::number;
 
 // The answer of a call, by its number in a record.

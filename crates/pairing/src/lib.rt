@@ -1,4 +1,6 @@
 // The one stable pairing of two lists of tracks, by keys: for the merge alone.
+#![tactic(auto)]
+
 ghost use Rattle.std.specs.Prelude.{◌≡◌, ◌≤◌};
 ghost use Rattle.pairing.specs.Keys.{Shape, from_keys, first_partners, second_partners};
 

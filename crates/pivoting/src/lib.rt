@@ -1,4 +1,6 @@
 // Scaled pivoting on f64: row norms, solutions, inverses and determinants of matrices of sides 1 to 16.
+#![tactic(auto)]
+
 mod choice;
 mod det;
 mod distance;

@@ -1,4 +1,6 @@
 // Power iteration on f64 matrices of sides 1 to 16: the dominant eigenvector, the largest singular value and the condition number.
+#![tactic(auto)]
+
 pub mod generic;
 mod inverse;
 pub mod regularize;

@@ -1,4 +1,6 @@
 // The repair of a covariance: eigenvalues below a floor are raised to it, and the matrix is built again from its eigenvectors.
+#![tactic(auto)]
+
 mod answer;
 mod clip;
 mod direct;

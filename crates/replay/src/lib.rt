@@ -1,6 +1,8 @@
 // What the programs that replay frozen answers share: doubles by their bit patterns, the records of an input, and how many were answered
 // otherwise than they say. An input is numbers of eight bytes, low byte first: how many records it has, and then the records. A record starts
 // with how many numbers it has and with its kind; bytes in it are filled up with zeros to a whole number.
+#![tactic(auto)]
+
 ghost use Rattle.std.specs.Prelude.{◌≡◌, ◌*◌, ◌%◌, ◌<◌, length, ◌==◌, from_bits, slice_index};
 ghost use Rattle.std.specs.Float.{binary64};
 ghost use Rattle.kernel.specs.Bytes.{word};

@@ -1,6 +1,8 @@
 // trackdump FILE [triangle]: shows a track list as text. The first line has the count and the dimension; then there is a line
 // for each track, with its index, its state and its variances, or with the word `triangle` the lower triangle of its
 // covariance, row by row. A list that is refused is shown as `no`, the question's number and the question.
+#![tactic(auto)]
+
 ghost use Rattle.std.specs.Prelude.{◌≤◌};
 
 mod number;

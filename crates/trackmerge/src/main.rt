@@ -1,6 +1,8 @@
 // Merges the lists of the files base.trk, ours.trk and theirs.trk with floor 1 and gate 16, and prints a line for each row
 // (base, ours, theirs, verdict; `-` for no track), then how many rows have three, two and one track. Where the merge is
 // refused, it prints `no` and the question's number.
+#![tactic(auto)]
+
 ghost use Rattle.io.specs.Counts.{IsPrefixLen};
 
 use merge::{Merged, NO_TRACK};

@@ -1,4 +1,6 @@
 // The list record: reading and writing track lists, and handing out a track's own bytes.
+#![tactic(auto)]
+
 pub mod inside;
 pub mod layout;
 pub mod read;

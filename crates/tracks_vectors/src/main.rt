@@ -1,5 +1,7 @@
 // Replays frozen answers of the track lists. Values stand by their bit patterns. A record has its length in numbers, its kind and six numbers
 // more, which each kind below names in their order, and then its data.
+#![tactic(auto)]
+
 mod reader;
 
 ghost use Rattle.std.specs.Prelude.{◌≤◌};
