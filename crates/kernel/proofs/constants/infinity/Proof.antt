@@ -10,5 +10,5 @@ returns : tie.Need-returns
 unfolding of_bits
 returns c = refl
 
-pub infinity-spec : {M : Type 1} → statement M
-infinity-spec = tie.close (tie.spec (λ c. no_nan-pattern _ (omega arith)) returns)
+pub infinity_spec : {M : Type 1} → statement M
+infinity_spec = tie.close (tie.spec (λ c. no_nan-pattern _ (omega arith)) returns)

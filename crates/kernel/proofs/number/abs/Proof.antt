@@ -44,19 +44,19 @@ of_other (fin s zero e) p q = absurd (subst T q tt)
 of_other (fin true (suc m) e) p q = absurd (subst T p tt)
 of_other (fin false (suc m) e) p q = refl
 
+returns-then-x : tie.Need-returns-then-x
+unfolding of_bits
+returns-then-x c = let x = c.before.args.x in of_negative x (subst T (sym c.if-x.true ∙ below-zero x) tt)
+
+returns-then-x-2 : tie.Need-returns-then-x-2
+unfolding of_bits
+returns-then-x-2 c =
+    let start = c.before.before in
+    let x = start.args.x in of_zero x (subst T (sym start.well_formed.0.1) tt) (subst T (sym c.if-x-2.true ∙ equals_zero x) tt)
+
 returns : tie.Need-returns
 unfolding of_bits
-returns c = let x = c.before.args.x in of_negative x (subst T (sym c.if1.true ∙ below-zero x) tt)
+returns c = let x = c.before.before.args.x in of_other x (sym (below-zero x) ∙ c.before.if-x.false) (sym (equals_zero x) ∙ c.if-x-2.false)
 
-returns-2 : tie.Need-returns-2
-unfolding of_bits
-returns-2 c =
-    let start = c.before.before in
-    let x = start.args.x in of_zero x (subst T (sym start.well-formed.0.1) tt) (subst T (sym c.if2.true ∙ equals_zero x) tt)
-
-returns-3 : tie.Need-returns-3
-unfolding of_bits
-returns-3 c = let x = c.before.before.args.x in of_other x (sym (below-zero x) ∙ c.before.if1.false) (sym (equals_zero x) ∙ c.if2.false)
-
-pub abs-spec : {M : Type 1} → statement M
-abs-spec = tie.close (tie.spec returns returns-2 returns-3)
+pub abs_spec : {M : Type 1} → statement M
+abs_spec = tie.close (tie.spec returns-then-x returns-then-x-2 returns)

@@ -8,5 +8,5 @@ use Rattle.kernel.proofs.number.head.Tie as tie
 pub head_spec : {M : Type 1} → statement M
 head_spec =
     tie.close
-    (tie.spec (λ c. search rules) (λ c. equals_itself _ c.if1.false) (λ c. search rules) (λ c. search rules) (λ c. no_nan-pattern _ (omega arith))
+    (tie.spec (λ c. search rules) (λ c. equals_itself _ c.if-x.false) (λ c. search rules) (λ c. search rules) (λ c. no_nan-pattern _ (omega arith))
     (λ c. search rules))

@@ -26,14 +26,14 @@ first nan b p q = absurd (subst T q tt)
 first (inf s) b p q = rw p
 first (fin s m e) b p q = rw p
 
+returns-then-a-b : tie.Need-returns-then-a-b
+returns-then-a-b c = greater _ _ c.if-a-b.true
+
+returns-then-a : tie.Need-returns-then-a
+returns-then-a c = other _ _ c.if-a.true
+
 returns : tie.Need-returns
-returns c = greater _ _ c.if1.true
+returns c = first _ _ c.before.if-a-b.false c.if-a.false
 
-returns-2 : tie.Need-returns-2
-returns-2 c = other _ _ c.if2.true
-
-returns-3 : tie.Need-returns-3
-returns-3 c = first _ _ c.before.if1.false c.if2.false
-
-pub max-spec : {M : Type 1} → statement M
-max-spec = tie.close (tie.spec returns returns-2 returns-3)
+pub max_spec : {M : Type 1} → statement M
+max_spec = tie.close (tie.spec returns-then-a-b returns-then-a returns)

@@ -12,19 +12,19 @@ use Rattle.kernel.proofs.Doubles.Patterns.{equals_itself, no_nan-pattern}
 use Rattle.kernel.proofs.number.reciprocal_root.Statement.{statement}
 use Rattle.kernel.proofs.number.reciprocal_root.Tie as tie
 
-returns : tie.Need-returns
+returns-then-x : tie.Need-returns-then-x
 unfolding reciprocal_root is_nan
-returns c = let x = c.before.args.x in rw (differs_from_itself x (subst T (sym c.if1.true) tt))
+returns-then-x c = let x = c.before.args.x in rw (differs_from_itself x (subst T (sym c.if-x.true) tt))
 
-returns-2 : tie.Need-returns-2
+returns-then-bits-gt-INFINITY_BITS : tie.Need-returns-then-bits-gt-INFINITY_BITS
 unfolding reciprocal_root
-returns-2 c = let x = c.before.before.args.x in rw (is_false (is_nan x) (equals_itself x c.before.if1.false), lt-ltb _ _ c.if2.true)
+returns-then-bits-gt-INFINITY_BITS c = let x = c.before.before.args.x in rw (is_false (is_nan x) (equals_itself x c.before.if-x.false), lt-ltb _ _ c.if-bits-gt-INFINITY_BITS.true)
 
-returns-3 : tie.Need-returns-3
+returns : tie.Need-returns
 unfolding reciprocal_root of_bits
-returns-3 c = let x = c.before.before.args.x in rw (is_false (is_nan x) (equals_itself x c.before.if1.false), le-ltb _ _ c.if2.false)
+returns c = let x = c.before.before.args.x in rw (is_false (is_nan x) (equals_itself x c.before.if-x.false), le-ltb _ _ c.if-bits-gt-INFINITY_BITS.false)
 
-pub reciprocal-root-spec : {M : Type 1} → statement M
-reciprocal-root-spec =
+pub reciprocal_root_spec : {M : Type 1} → statement M
+reciprocal_root_spec =
     tie.close
-    (tie.spec returns (λ c. equals_itself _ c.if1.false) returns-2 (λ c. search rules) (λ c. no_nan-pattern _ (omega arith)) returns-3)
+    (tie.spec returns-then-x (λ c. equals_itself _ c.if-x.false) returns-then-bits-gt-INFINITY_BITS (λ c. search rules) (λ c. no_nan-pattern _ (omega arith)) returns)

@@ -24,29 +24,29 @@ module _ (r : ℕ) (small : r < 2 ^ 53) where
   low-low : r % 134217728 * (r % 134217728) ≤ 2 ^ 54
   low-low = let l : r % 134217728 ≤ 2 ^ 27 = omega arith in omega (arith, mul-le-mul l l)
 
-mul-high-2 : tie.Need-overflow-mul-high-2
-mul-high-2 c = omega (arith, high_high c.args.r c.requires.1)
+overflow_mul-high-2 : tie.Need-overflow_mul-high-2
+overflow_mul-high-2 c = omega (arith, high_high c.args.r c.requires.1)
 
-mul-cross : tie.Need-overflow-mul-cross
-mul-cross c = omega (arith, high_low c.before.before.args.r c.before.before.requires.1)
+overflow_mul-cross : tie.Need-overflow_mul-cross
+overflow_mul-cross c = omega (arith, high_low c.before.before.args.r c.before.before.requires.1)
 
-mul_right : tie.Need-overflow-mul-right
-mul_right c = let s = c.before.before.before.before in omega (arith, low-low s.args.r s.requires.1)
+overflow_mul-right : tie.Need-overflow_mul-right
+overflow_mul-right c = let s = c.before.before.before.before in omega (arith, low-low s.args.r s.requires.1)
 
-add_right : tie.Need-overflow-add-right
-add_right c = let s = c.before.before.before.before in omega (arith, low-low s.args.r s.requires.1)
+overflow_add-right : tie.Need-overflow_add-right
+overflow_add-right c = let s = c.before.before.before.before in omega (arith, low-low s.args.r s.requires.1)
 
-returns-6 : tie.Need-returns-6
-returns-6 c answer =
+returns : tie.Need-returns
+returns c answer =
     let x = c.before.before.before.before.before.args in
     let a = x.r / 134217728 in
     let b = x.r % 134217728 in
     let d = x.w + 2 - 4 * a * a in
     let e = d * 16777216 - a * b in
-    nearest_test x.w x.r a b d e (sym (div-add-mod' x.r 134217728)) (omega arith) (omega arith) c.if5.false (leb-true _ _ answer)
+    nearest_test x.w x.r a b d e (sym (div-add-mod' x.r 134217728)) (omega arith) (omega arith) c.if-left-r.false (leb-true _ _ answer)
 
-pub is-nearest-spec : {M : Type 1} → statement M
-is-nearest-spec =
+pub is_nearest_spec : {M : Type 1} → statement M
+is_nearest_spec =
     tie.close
-    (tie.spec (λ c. search rules) mul-high-2 (λ c. search rules) (λ c. never) (λ c. search rules) (λ c. search rules) (λ c. never) mul-cross (λ c. search rules)
-    (λ c. never) (λ c. never) (λ c. search rules) mul_right add_right (λ c. search rules) (λ c. never) (λ c. search rules) returns-6)
+    (tie.spec (λ c. search rules) overflow_mul-high-2 (λ c. search rules) (λ c. never) (λ c. search rules) (λ c. search rules) (λ c. never) overflow_mul-cross (λ c. search rules)
+    (λ c. never) (λ c. never) (λ c. search rules) overflow_mul-right overflow_add-right (λ c. search rules) (λ c. never) (λ c. search rules) returns)

@@ -11,24 +11,24 @@ use Rattle.kernel.proofs.number.root.is_root.Statement.{statement}
 use Rattle.kernel.proofs.number.root.is_root.Tie as tie
 
 -- the argument of the whole-number root
-small : (c : tie.Else4) → let b = c.before.before.before.before.args.b in (2 ^ 52 + b % 2 ^ 52) * (1 + (b / 2 ^ 52 + 1021) % 2) < 2 ^ 54
+small : (c : tie.Else-r) → let b = c.before.before.before.before.args.b in (2 ^ 52 + b % 2 ^ 52) * (1 + (b / 2 ^ 52 + 1021) % 2) < 2 ^ 54
 small c = let b = c.before.before.before.before.args.b in omega (arith, argument_most (b % 2 ^ 52) ((b / 2 ^ 52 + 1021) % 2) (omega arith) (omega arith))
 
-mul-is-nearest : tie.Need-overflow-mul-is-nearest
-mul-is-nearest c = omega (arith, small c)
+overflow_mul-b : tie.Need-overflow_mul-b
+overflow_mul-b c = omega (arith, small c)
 
-is-nearest-requires : tie.Need-is-nearest-requires
-is-nearest-requires c κs = (small c, omega arith)
+is_nearest-requires : tie.Need-is_nearest-requires
+is_nearest-requires c κs = (small c, omega arith)
 
-returns-5 : tie.Need-returns-5
-returns-5 c answer =
+returns : tie.Need-returns
+returns c answer =
     let start = c.before.before.before.before.before in
     let b = start.args.b in
-    let found = root_of (b % 2 ^ 52) (b / 2 ^ 52 + 1021) _ (omega arith) (omega (arith, start.requires.1)) (c.is-nearest.ensures answer) in
+    let found = root_of (b % 2 ^ 52) (b / 2 ^ 52 + 1021) _ (omega arith) (omega (arith, start.requires.1)) (c.is_nearest.ensures answer) in
     omega (arith, found.root (scaled_bits b) (normal_argument b (omega arith)))
 
-pub is-root-spec : {M : Type 1} → statement M
-is-root-spec =
+pub is_root_spec : {M : Type 1} → statement M
+is_root_spec =
     tie.close
-    (tie.spec (λ c. never) (λ c. never) (λ c. equals_itself _ c.if2.false) (λ c. search rules) (λ c. search rules) (λ c. never) (λ c. search rules)
-    (λ c. never) (λ c. search rules) (λ c. search rules) mul-is-nearest is-nearest-requires returns-5)
+    (tie.spec (λ c. never) (λ c. never) (λ c. equals_itself _ c.if-g.false) (λ c. search rules) (λ c. search rules) (λ c. never) (λ c. search rules)
+    (λ c. never) (λ c. search rules) (λ c. search rules) overflow_mul-b is_nearest-requires returns)
