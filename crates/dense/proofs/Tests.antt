@@ -4,28 +4,28 @@ use Prim.Native.Nat.{ℕ, ◌*◌, ◌≤◌}
 use native.Mathlib.Omega.{arith}
 use native.Mathlib.Nat.{mul-le-mul_right, mul-le-mul}
 use native.Mathlib.Decide.{dec_le}
-use mathlib.Core.Bool.{Bool, true, false, not, ◌&&◌}
+use mathlib.Core.Bool.{Bool, true, false, ◌&&◌}
 use mathlib.Core.List.{List}
 use mathlib.Core.Path.{◌≡◌, refl, sym, ◌∙◌}
-use borrow.Author.Tests.{not-true, not-false, leb-true, eqb-true, eq-eqb}
+use borrow.Author.Tests.{leb-true, eqb-true, eq-eqb}
 use lib.Dec.{leb}
 use lib.Ieee.{Float}
 use lib.ListN.{length}
 use Rattle.kernel.proofs.Answers.{never}
 use Rattle.dense.specs.Matrix.{is_side, has_length}
 
-pub met : {r b : Bool} → r ≡ b → not r ≡ false → b ≡ true
-met {r} e t = sym e ∙ not-false r t
+pub met : {r b : Bool} → r ≡ b → r ≡ true → b ≡ true
+met e t = sym e ∙ t
 
-pub unmet : {r b : Bool} → r ≡ b → not r ≡ true → b ≡ false
-unmet {r} e t = sym e ∙ not-true r t
+pub unmet : {r b : Bool} → r ≡ b → r ≡ false → b ≡ false
+unmet e t = sym e ∙ t
 
 -- ---- two tests, one after the other
 
-pub and_no : {r a : Bool} (b : Bool) → r ≡ a → not r ≡ true → false ≡ (a && b)
+pub and_no : {r a : Bool} (b : Bool) → r ≡ a → r ≡ false → false ≡ (a && b)
 and_no b e t = rw (unmet e t)
 
-pub and_yes : {r a s b : Bool} → r ≡ a → not r ≡ false → s ≡ b → s ≡ (a && b)
+pub and_yes : {r a s b : Bool} → r ≡ a → r ≡ true → s ≡ b → s ≡ (a && b)
 and_yes e t f = rw (met e t) f
 
 pub and_left : (a b : Bool) → (a && b) ≡ true → a ≡ true

@@ -4,11 +4,11 @@ use Rattle.dense.proofs.Tests.{and_no, and_yes}
 use Rattle.dense.proofs.shape.are_factors.Statement.{statement}
 use Rattle.dense.proofs.shape.are_factors.Tie as tie
 
+returns-then-not-is_matrix : tie.Need-returns-then-not-is_matrix
+returns-then-not-is_matrix c = and_no _ c.before.is_matrix.ensures c.if-not-is_matrix.true
+
 returns : tie.Need-returns
-returns c = and_no _ c.before.is-matrix.ensures c.if1.true
+returns c = and_yes c.before.before.is_matrix.ensures c.before.if-not-is_matrix.false c.are_matrices.ensures
 
-returns-2 : tie.Need-returns-2
-returns-2 c = and_yes c.before.before.is-matrix.ensures c.before.if1.false c.are-matrices.ensures
-
-pub are-factors-spec : {M : Type 1} → statement M
-are-factors-spec = tie.close (tie.spec (λ c κs. search rules) returns (λ c κs. search rules) returns-2)
+pub are_factors_spec : {M : Type 1} → statement M
+are_factors_spec = tie.close (tie.spec (λ c κs. search rules) returns-then-not-is_matrix (λ c κs. search rules) returns)

@@ -4,11 +4,11 @@ use Rattle.dense.proofs.Tests.{and_no, and_yes}
 use Rattle.dense.proofs.shape.are_three_sides.Statement.{statement}
 use Rattle.dense.proofs.shape.are_three_sides.Tie as tie
 
+returns-then-not-is_side : tie.Need-returns-then-not-is_side
+returns-then-not-is_side c = and_no _ c.before.is_side.ensures c.if-not-is_side.true
+
 returns : tie.Need-returns
-returns c = and_no _ c.before.is-side.ensures c.if1.true
+returns c = and_yes c.before.before.is_side.ensures c.before.if-not-is_side.false c.are_sides.ensures
 
-returns-2 : tie.Need-returns-2
-returns-2 c = and_yes c.before.before.is-side.ensures c.before.if1.false c.are-sides.ensures
-
-pub are-three-sides-spec : {M : Type 1} → statement M
-are-three-sides-spec = tie.close (tie.spec (λ c κs. search rules) returns (λ c κs. search rules) returns-2)
+pub are_three_sides_spec : {M : Type 1} → statement M
+are_three_sides_spec = tie.close (tie.spec (λ c κs. search rules) returns-then-not-is_side (λ c κs. search rules) returns)

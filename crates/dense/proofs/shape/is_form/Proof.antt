@@ -4,11 +4,11 @@ use Rattle.dense.proofs.Tests.{and_no, and_yes}
 use Rattle.dense.proofs.shape.is_form.Statement.{statement}
 use Rattle.dense.proofs.shape.is_form.Tie as tie
 
+returns-then-not-is_vector : tie.Need-returns-then-not-is_vector
+returns-then-not-is_vector c = and_no _ c.before.is_vector.ensures c.if-not-is_vector.true
+
 returns : tie.Need-returns
-returns c = and_no _ c.before.is-vector.ensures c.if1.true
+returns c = and_yes c.before.before.is_vector.ensures c.before.if-not-is_vector.false c.is_matrix.ensures
 
-returns-2 : tie.Need-returns-2
-returns-2 c = and_yes c.before.before.is-vector.ensures c.before.if1.false c.is-matrix.ensures
-
-pub is-form-spec : {M : Type 1} → statement M
-is-form-spec = tie.close (tie.spec (λ c κs. search rules) returns (λ c κs. search rules) returns-2)
+pub is_form_spec : {M : Type 1} → statement M
+is_form_spec = tie.close (tie.spec (λ c κs. search rules) returns-then-not-is_vector (λ c κs. search rules) returns)

@@ -9,5 +9,5 @@ returns : tie.Need-returns
 unfolding has_length
 returns c = refl
 
-pub is-matrix-spec : {M : Type 1} → statement M
-is-matrix-spec = tie.close (tie.spec (λ c. omega arith) returns)
+pub is_matrix_spec : {M : Type 1} → statement M
+is_matrix_spec = tie.close (tie.spec (λ c. omega arith) returns)

@@ -4,13 +4,13 @@ use Rattle.dense.specs.Matrix.{is_side}
 use Rattle.dense.proofs.shape.is_side.Statement.{statement}
 use Rattle.dense.proofs.shape.is_side.Tie as tie
 
+returns-then-n-lt1 : tie.Need-returns-then-n-lt1
+unfolding is_side
+returns-then-n-lt1 c = simp (lt-leb _ _ c.if-n-lt1.true)
+
 returns : tie.Need-returns
 unfolding is_side
-returns c = simp (lt-leb _ _ c.if1.true)
+returns c = simp (le-leb _ _ c.if-n-lt1.false)
 
-returns-2 : tie.Need-returns-2
-unfolding is_side
-returns-2 c = simp (le-leb _ _ c.if1.false)
-
-pub is-side-spec : {M : Type 1} → statement M
-is-side-spec = tie.close (tie.spec returns returns-2)
+pub is_side_spec : {M : Type 1} → statement M
+is_side_spec = tie.close (tie.spec returns-then-n-lt1 returns)

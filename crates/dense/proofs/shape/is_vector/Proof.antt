@@ -8,5 +8,5 @@ returns : tie.Need-returns
 unfolding has_length
 returns c = refl
 
-pub is-vector-spec : {M : Type 1} → statement M
-is-vector-spec = tie.close (tie.spec returns)
+pub is_vector_spec : {M : Type 1} → statement M
+is_vector_spec = tie.close (tie.spec returns)

@@ -14,5 +14,5 @@ returns c =
     let whole = ap (λ (k : ℕ). take k (drop x.start x.a.now)) (add-sub_cancel_left x.start x.n) in
     (ap length whole ∙ length-take-le x.n (drop x.start x.a.now) (omega (arith, length-drop x.start x.a.now)), whole)
 
-pub part-spec : {M : Type 1} → statement M
-part-spec = tie.close (tie.spec (λ c. omega arith) (λ c. omega arith) (λ c. omega arith) (λ c. omega arith) (λ c. omega arith) returns)
+pub part_spec : {M : Type 1} → statement M
+part_spec = tie.close (tie.spec (λ c. omega arith) (λ c. omega arith) (λ c. omega arith) (λ c. omega arith) (λ c. omega arith) returns)

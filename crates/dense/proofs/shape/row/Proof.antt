@@ -16,5 +16,5 @@ returns c =
     let whole = ap (λ (k : ℕ). take k (drop (x.i * x.n) x.a.now)) (add-sub_cancel_left (x.i * x.n) x.n) in
     (ap length whole ∙ length-row x.a.now x.n x.i c.before.requires, whole)
 
-pub row-spec : {M : Type 1} → statement M
-row-spec = tie.close (tie.spec (λ c. omega arith) (λ c. omega arith) (λ c. omega arith) (λ c. omega arith) (λ c. omega arith) (λ c. omega arith) returns)
+pub row_spec : {M : Type 1} → statement M
+row_spec = tie.close (tie.spec (λ c. omega arith) (λ c. omega arith) (λ c. omega arith) (λ c. omega arith) (λ c. omega arith) (λ c. omega arith) returns)

@@ -3,11 +3,11 @@ use borrow.Author.Tests.{eq-eqb, ne_eqb}
 use Rattle.dense.proofs.unit.unit.Statement.{statement}
 use Rattle.dense.proofs.unit.unit.Tie as tie
 
-returns : tie.Need-returns
-returns c = simp (eq-eqb _ _ c.if1.true)
+returns-then-i-j : tie.Need-returns-then-i-j
+returns-then-i-j c = simp (eq-eqb _ _ c.if-i-j.true)
 
-returns-2 : tie.Need-returns-2
-returns-2 c = simp (ne_eqb _ _ c.if1.false)
+returns : tie.Need-returns
+returns c = simp (ne_eqb _ _ c.if-i-j.false)
 
 pub unit_spec : {M : Type 1} → statement M
-unit_spec = tie.close (tie.spec returns returns-2)
+unit_spec = tie.close (tie.spec returns-then-i-j returns)

@@ -7,20 +7,20 @@ use Rattle.dense.proofs.Entries.{EntryByEntry, no_entry, entry_old, entry-writte
 use Rattle.dense.proofs.vector.add_scaled.Statement.{statement}
 use Rattle.dense.proofs.vector.add_scaled.Tie as tie
 
-abbrev invariant-loop : tie.invariant-loop
-invariant-loop s x n y₀ j₀ y j = EntryByEntry (λ q. add (nth y₀ q) (mul s (nth x q))) n y₀ j y
+abbrev invariant-loop-j : tie.invariant-loop-j
+invariant-loop-j s x n y₀ j₀ y j = EntryByEntry (λ q. add (nth y₀ q) (mul s (nth x q))) n y₀ j y
 
-abbrev decreases-loop : tie.decreases-loop
-decreases-loop s x n y₀ j₀ y j = n - j
+abbrev decreases-loop-j : tie.decreases-loop-j
+decreases-loop-j s x n y₀ j₀ y j = n - j
 
-loop-again : tie.Need-loop-preserved invariant-loop decreases-loop
-loop-again c = let turn = c.before.before in let inv = turn.before.loop.invariant in entry-written inv turn.loop-test.true (cc (entry_old inv))
+loop-j-preserved : tie.Need-loop-j-preserved invariant-loop-j decreases-loop-j
+loop-j-preserved c = let turn = c.before.before in let inv = turn.before.loop-j.invariant in entry-written inv turn.loop-j-test.true (cc (entry_old inv))
 
-returns : tie.Need-returns invariant-loop decreases-loop
-returns c = every_entry c.before.loop.invariant c.loop-test.false
+returns : tie.Need-returns invariant-loop-j decreases-loop-j
+returns c = every_entry c.before.loop-j.invariant c.loop-j-test.false
 
-pub add-scaled-spec : {M : Type 1} → statement M
-add-scaled-spec =
+pub add_scaled_spec : {M : Type 1} → statement M
+add_scaled_spec =
     tie.close
-    (tie.spec invariant-loop decreases-loop (λ c. no_entry c.requires.1) (λ c. omega arith) (λ c. omega arith) (λ c. omega arith) (λ c. omega arith) (λ c. omega arith) (λ c. omega arith)
-    (λ c. omega arith) (λ c. omega arith) loop-again (λ c. c.before.loop.invariant.entries.size) returns)
+    (tie.spec invariant-loop-j decreases-loop-j (λ c. no_entry c.requires.1) (λ c. omega arith) (λ c. omega arith) (λ c. omega arith) (λ c. omega arith) (λ c. omega arith) (λ c. omega arith)
+    (λ c. omega arith) (λ c. omega arith) loop-j-preserved (λ c. c.before.loop-j.invariant.entries.size) returns)

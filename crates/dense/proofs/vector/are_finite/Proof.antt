@@ -11,26 +11,26 @@ use borrow.Author.Rules.{rules}
 use Rattle.dense.proofs.vector.are_finite.Statement.{statement}
 use Rattle.dense.proofs.vector.are_finite.Tie as tie
 
-abbrev invariant-loop : tie.invariant-loop
-invariant-loop x n j₀ j = (j ≤ n) × (finite_entries x j ≡ true)
+abbrev invariant-loop-j : tie.invariant-loop-j
+invariant-loop-j x n j₀ j = (j ≤ n) × (finite_entries x j ≡ true)
 
-abbrev decreases-loop : tie.decreases-loop
-decreases-loop x n j₀ j = n - j
+abbrev decreases-loop-j : tie.decreases-loop-j
+decreases-loop-j x n j₀ j = n - j
 
-loop-holds : tie.Need-loop-init invariant-loop decreases-loop
+loop-j-init : tie.Need-loop-j-init invariant-loop-j decreases-loop-j
 unfolding finite_entries
-loop-holds c = (omega arith, refl)
+loop-j-init c = (omega arith, refl)
 
-returns : tie.Need-returns invariant-loop decreases-loop
-returns c =
+returns-then-not-is_finite : tie.Need-returns-then-not-is_finite invariant-loop-j decreases-loop-j
+returns-then-not-is_finite c =
     let x = c.before.before.before.before.before.before.args in
-    sym (finite_never x.x.now x.n c.before.before.before.before.loop.j (omega arith) (unmet c.before.is_finite.ensures c.if1.true))
+    sym (finite_never x.x.now x.n c.before.before.before.before.loop-j.j (omega arith) (unmet c.before.is_finite.ensures c.if-not-is_finite.true))
 
-loop-again : tie.Need-loop-preserved invariant-loop decreases-loop
-loop-again c = (omega arith, finite_more _ _ c.before.before.before.before.loop.invariant.1 (met c.before.is_finite.ensures c.if1.false))
+loop-j-preserved : tie.Need-loop-j-preserved invariant-loop-j decreases-loop-j
+loop-j-preserved c = (omega arith, finite_more _ _ c.before.before.before.before.loop-j.invariant.1 (met c.before.is_finite.ensures c.if-not-is_finite.false))
 
-returns-2 : tie.Need-returns-2 invariant-loop decreases-loop
-returns-2 c = at_end_lem (finite_entries c.before.before.before.args.x.now) c.before.loop.invariant.0 c.loop-test.false (sym c.before.loop.invariant.1)
+returns : tie.Need-returns invariant-loop-j decreases-loop-j
+returns c = at_end_lem (finite_entries c.before.before.before.args.x.now) c.before.loop-j.invariant.0 c.loop-j-test.false (sym c.before.loop-j.invariant.1)
 
-pub are-finite-spec : {M : Type 1} → statement M
-are-finite-spec = tie.close (tie.spec invariant-loop decreases-loop loop-holds (λ c. omega arith) (λ c. omega arith) (λ c κs. search rules) returns (λ c. omega arith) (λ c. omega arith) loop-again returns-2)
+pub are_finite_spec : {M : Type 1} → statement M
+are_finite_spec = tie.close (tie.spec invariant-loop-j decreases-loop-j loop-j-init (λ c. omega arith) (λ c. omega arith) (λ c κs. search rules) returns-then-not-is_finite (λ c. omega arith) (λ c. omega arith) loop-j-preserved returns)

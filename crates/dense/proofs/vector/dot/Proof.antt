@@ -8,25 +8,25 @@ use Rattle.dense.specs.Matrix.{nth, total, sum_from}
 use Rattle.dense.proofs.vector.dot.Statement.{statement}
 use Rattle.dense.proofs.vector.dot.Tie as tie
 
-abbrev invariant-loop : tie.invariant-loop
-invariant-loop x y n s₀ j₀ s j = AfterTurns (λ l. total l (λ q. mul (nth x q) (nth y q))) n j s
+abbrev invariant-loop-j : tie.invariant-loop-j
+invariant-loop-j x y n s₀ j₀ s j = AfterTurns (λ l. total l (λ q. mul (nth x q) (nth y q))) n j s
 
-abbrev decreases-loop : tie.decreases-loop
-decreases-loop x y n s₀ j₀ s j = n - j
+abbrev decreases-loop-j : tie.decreases-loop-j
+decreases-loop-j x y n s₀ j₀ s j = n - j
 
-loop-holds : tie.Need-loop-init invariant-loop decreases-loop
+loop-j-init : tie.Need-loop-j-init invariant-loop-j decreases-loop-j
 unfolding sum_from
-loop-holds c = turns_none refl
+loop-j-init c = turns_none refl
 
-loop-again : tie.Need-loop-preserved invariant-loop decreases-loop
+loop-j-preserved : tie.Need-loop-j-preserved invariant-loop-j decreases-loop-j
 unfolding sum_from
-loop-again c = let turn = c.before.before in turns_more turn.before.loop.invariant turn.loop-test.true (λ e. rw e)
+loop-j-preserved c = let turn = c.before.before in turns_more turn.before.loop-j.invariant turn.loop-j-test.true (λ e. rw e)
 
-returns : tie.Need-returns invariant-loop decreases-loop
-returns c = turns_all c.before.loop.invariant c.loop-test.false
+returns : tie.Need-returns invariant-loop-j decreases-loop-j
+returns c = turns_all c.before.loop-j.invariant c.loop-j-test.false
 
-pub dot-spec : {M : Type 1} → statement M
-dot-spec =
+pub dot_spec : {M : Type 1} → statement M
+dot_spec =
     tie.close
-    (tie.spec invariant-loop decreases-loop loop-holds (λ c. omega arith) (λ c. omega arith) (λ c. omega arith) (λ c. omega arith) (λ c. omega arith) (λ c. omega arith)
-    loop-again returns)
+    (tie.spec invariant-loop-j decreases-loop-j loop-j-init (λ c. omega arith) (λ c. omega arith) (λ c. omega arith) (λ c. omega arith) (λ c. omega arith) (λ c. omega arith)
+    loop-j-preserved returns)

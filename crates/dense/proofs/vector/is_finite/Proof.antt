@@ -21,13 +21,13 @@ below (inf true) e = refl
 below (inf false) e = sym e
 below (fin s m x) e = refl
 
-returns : tie.Need-returns
+returns-then-not-x : tie.Need-returns-then-not-x
 unfolding Ieee.div of_bits
-returns c = above c.before.args.x (not-true _ c.if1.true)
+returns-then-not-x c = above c.before.args.x c.if-not-x.true
 
-returns-2 : tie.Need-returns-2
+returns : tie.Need-returns
 unfolding Ieee.div Ieee.neg of_bits
-returns-2 c = below c.before.args.x (not-false _ c.if1.false)
+returns c = below c.before.args.x c.if-not-x.false
 
-pub is-finite-spec : {M : Type 1} → statement M
-is-finite-spec = tie.close (tie.spec returns returns-2)
+pub is_finite_spec : {M : Type 1} → statement M
+is_finite_spec = tie.close (tie.spec returns-then-not-x returns)

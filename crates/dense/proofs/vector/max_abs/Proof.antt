@@ -9,27 +9,27 @@ use Rattle.dense.proofs.Signs.{max_abs-abs}
 use Rattle.dense.proofs.vector.max_abs.Statement.{statement}
 use Rattle.dense.proofs.vector.max_abs.Tie as tie
 
-abbrev invariant-loop : tie.invariant-loop
-invariant-loop x n g₀ j₀ g j = AfterTurns (max_abs x) n j g
+abbrev invariant-loop-j : tie.invariant-loop-j
+invariant-loop-j x n g₀ j₀ g j = AfterTurns (max_abs x) n j g
 
-abbrev decreases-loop : tie.decreases-loop
-decreases-loop x n g₀ j₀ g j = n - j
+abbrev decreases-loop-j : tie.decreases-loop-j
+decreases-loop-j x n g₀ j₀ g j = n - j
 
-loop-holds : tie.Need-loop-init invariant-loop decreases-loop
+loop-j-init : tie.Need-loop-j-init invariant-loop-j decreases-loop-j
 unfolding max_abs
-loop-holds c = turns_none refl
+loop-j-init c = turns_none refl
 
-raised-requires : tie.Need-raised-requires invariant-loop decreases-loop
-raised-requires c κs = let turn = c.before.before.loop in ap abs turn.invariant.state ∙ max_abs-abs _ turn.j ∙ sym turn.invariant.state
+raised-g-requires : tie.Need-raised-g-requires invariant-loop-j decreases-loop-j
+raised-g-requires c κs = let turn = c.before.before.loop-j in ap abs turn.invariant.state ∙ max_abs-abs _ turn.j ∙ sym turn.invariant.state
 
-loop-again : tie.Need-loop-preserved invariant-loop decreases-loop
+loop-j-preserved : tie.Need-loop-j-preserved invariant-loop-j decreases-loop-j
 unfolding max_abs
-loop-again c = let turn = c.before.before in turns_more turn.before.loop.invariant turn.loop-test.true (λ e. c.raised.ensures ∙ rw e)
+loop-j-preserved c = let turn = c.before.before in turns_more turn.before.loop-j.invariant turn.loop-j-test.true (λ e. c.raised-g.ensures ∙ rw e)
 
-returns : tie.Need-returns invariant-loop decreases-loop
-returns c = turns_all c.before.loop.invariant c.loop-test.false
+returns : tie.Need-returns invariant-loop-j decreases-loop-j
+returns c = turns_all c.before.loop-j.invariant c.loop-j-test.false
 
-pub max-abs-spec : {M : Type 1} → statement M
-max-abs-spec =
+pub max_abs_spec : {M : Type 1} → statement M
+max_abs_spec =
     tie.close
-    (tie.spec invariant-loop decreases-loop loop-holds (λ c. omega arith) (λ c. omega arith) raised-requires (λ c. omega arith) (λ c. omega arith) loop-again returns)
+    (tie.spec invariant-loop-j decreases-loop-j loop-j-init (λ c. omega arith) (λ c. omega arith) raised-g-requires (λ c. omega arith) (λ c. omega arith) loop-j-preserved returns)

@@ -8,5 +8,5 @@ use Rattle.dense.proofs.vector.norm.Tie as tie
 returns : tie.Need-returns
 returns c = c.sqrt.ensures ∙ ap sqrt c.before.dot.ensures
 
-pub norm-spec : {M : Type 1} → statement M
-norm-spec = tie.close (tie.spec (λ c κs. search rules) (λ c κs. search rules) returns)
+pub norm_spec : {M : Type 1} → statement M
+norm_spec = tie.close (tie.spec (λ c κs. search rules) (λ c κs. search rules) returns)
