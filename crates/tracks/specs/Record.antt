@@ -38,7 +38,7 @@ record_at l at = record_in l at (contents l)
 
 -- That a part that is not empty is the caller's own bytes from an offset on: it stands where the list stands, so many bytes further.
 abbrev pub OwnBytes : Bor (List ℕ) → ℕ → Bor (List ℕ) → Type 0
-OwnBytes list at r = (length r.now ≡ 0 → ⊥) → (r.ref_ptr.0 ≡ list.ptr.0) × (r.ref_ptr.1 ≡ list.ptr.1 + at)
+OwnBytes list at r = (length r.now ≡ 0 → ⊥) → (r.ref_ptr.0 ≡ list.ref_ptr.0) × (r.ref_ptr.1 ≡ list.ref_ptr.1 + at)
 
 -- The record of track i, where numbers say at which offsets the tracks start and the last one ends: the part up to the next of them.
 -- Numbers between which there is no part of the list, or that are not there, give no record.

@@ -58,12 +58,12 @@ returns c = absent c.before.before.loop.invariant c.before.loop-test.true (omega
 returns-2 : tie.Need-returns-2 invariant-loop decreases-loop
 returns-2 c =
     let t = turn c.before in
-    differs t.before.loop.inv t.loop-test.taken (omega arith) c.before.is_same.ensures c.before.before.word.ensures c.if2.true
+    differs t.before.loop.inv t.loop-test.true (omega arith) c.before.is_same.ensures c.before.before.word.ensures c.if2.true
 
 loop-again : tie.Need-loop-preserved invariant-loop decreases-loop
 loop-again c =
     let t = turn c.before in
-    goes_on t.before.loop.inv t.loop-test.taken (omega arith) c.before.is_same.ensures c.before.before.word.ensures c.if2.false
+    goes_on t.before.loop.inv t.loop-test.true (omega arith) c.before.is_same.ensures c.before.before.word.ensures c.if2.false
 
 pub are-same-spec : {M : Type 1} → statement M
 are-same-spec =

@@ -15,56 +15,56 @@ use Rattle.linalg.proofs.cholesky.factor_row.Tie as tie
 
 -- ---- the places on the way
 
-abbrev entered : tie.After-left-entries → tie.Start
+abbrev entered : tie.After-left_entries → tie.Start
 entered c = c.before.before.before.before
 
-abbrev made : tie.After-is-pivot → tie.After-left-entries
-made c = c.before.before.before.before.before.before
+abbrev made : tie.After-is_pivot → tie.After-left_entries
+made c = c.before.before.before.before.before
 
 -- ---- what is known there
 
 -- row i lies within the slice
-within : (c : tie.After-left-entries) → (entered c).args.i * (entered c).args.n + (entered c).args.n ≤ length c.left-entries.new.1.1.1.0
-within c = let start = entered c in omega (arith, row_within start.args.n start.args.n start.pre.row, c.left-entries.auto.1.1.1.0)
+within : (c : tie.After-left_entries) → (entered c).args.i * (entered c).args.n + (entered c).args.n ≤ length c.left_entries.new.l
+within c = let start = entered c in omega (arith, row_within start.args.n start.args.n start.requires.row, c.left_entries.auto.l)
 
-size : (c : tie.After-left-entries) → length c.left-entries.new.1.1.1.0 ≡ (entered c).args.n * (entered c).args.n
-size c = c.left-entries.auto.1.1.1.0 ∙ (entered c).requires.room
+size : (c : tie.After-left_entries) → length c.left_entries.new.l ≡ (entered c).args.n * (entered c).args.n
+size c = c.left_entries.auto.l ∙ (entered c).requires.room
 
 -- what is tested is the pivot of row i
-pivot_of : (c : tie.After-is-pivot) → let x = (entered (made c)).args in
-    sub c.before.before.before.entry.result c.before.inner.result ≡ reached_pivot x.a.now x.n (with_left x.a.now x.n (factor x.a.now x.n x.i) x.i x.i) x.i
+pivot_of : (c : tie.After-is_pivot) → let x = (entered (made c)).args in
+    sub c.entry.result c.inner.result ≡ reached_pivot x.a.now x.n (with_left x.a.now x.n (factor x.a.now x.n x.i) x.i x.i) x.i
 pivot_of c =
     let m = made c in
     let x = (entered m).args in
-    pivot_in x.a.now m.left-entries.last.1.1.1.0 x.n x.i (size m) (entered m).pre.row c.before.before.before.entry.ensures
-    c.before.inner.ensures m.left-entries.ensures
+    pivot_in x.a.now m.left_entries.new.l x.n x.i (size m) (entered m).requires.row c.entry.ensures
+    c.inner.ensures m.left_entries.ensures
 
 -- ---- the needs
 
-left-entries-requires : tie.Need-left-entries-requires
-left-entries-requires c κs = c.before.before.before.requires
+left_entries-requires : tie.Need-left_entries-requires
+left_entries-requires c κs = c.requires
 
 entry-requires : tie.Need-entry-requires
-entry-requires c κs = let start = entered c.before.before in omega (arith, row_within start.args.n start.args.n start.pre.row)
+entry-requires c κs = let start = entered c.before.before in omega (arith, row_within start.args.n start.args.n start.requires.row)
+
+returns-then-not-is_pivot : tie.Need-returns-then-not-is_pivot
+returns-then-not-is_pivot c = record { answers = sym (ap is_pivot (sym (pivot_of c.before)) ∙ unmet c.is_pivot.ensures c.if-not-is_pivot.true); reached = λ e. never e }
 
 returns : tie.Need-returns
-returns c = record { answers = sym (ap is_pivot (sym (pivot_of c.before)) ∙ unmet c.before.is-pivot.ensures c.if1.true); reached = λ e. never e }
-
-returns-2 : tie.Need-returns-2
-returns-2 c =
-    let tested = c.before.before in
-    let m = made tested in
+returns c =
+    let tested = c in
+    let m = made c.before.before in
     let x = (entered m).args in
-    let l = m.left-entries.last.1.1.1.0 in
+    let l = m.left_entries.new.l in
     record {
-      answers = sym (ap is_pivot (sym (pivot_of tested)) ∙ met tested.is-pivot.ensures c.before.if1.false);
-      reached = λ _. row_more x.a.now l x.n x.i (size m) (entered m).pre.row _ (c.sqrt.ensures ∙ ap sqrt (pivot_of tested)) m.left-entries.ensures;
+      answers = sym (ap is_pivot (sym (pivot_of c.before.before)) ∙ met tested.is_pivot.ensures c.if-not-is_pivot.false);
+      reached = λ _. row_more x.a.now l x.n x.i (size m) (entered m).requires.row _ (c.sqrt.ensures ∙ ap sqrt (pivot_of c.before.before)) m.left_entries.ensures;
     }
 
-pub factor-row-spec : {M : Type 1} → statement M
-factor-row-spec =
+pub factor_row_spec : {M : Type 1} → statement M
+factor_row_spec =
     tie.close
-    (tie.spec left-entries-requires entry-requires (λ c κs. omega (arith, within c.before.before.before.before)) (λ c κs. tt)
-    (λ c. (made c.before).left-entries.auto.1.1.1.0) returns (λ c κs. tt) (λ c. omega (arith, within (made c.before.before)))
+    (tie.spec left_entries-requires entry-requires (λ c κs. omega (arith, within c.before.before.before)) (λ c κs. tt)
+    (λ c. (made c.before).left_entries.auto.l) returns-then-not-is_pivot (λ c κs. tt) (λ c. omega (arith, within (made c.before.before)))
     (λ c. omega (arith, within (made c.before.before))) (λ c. omega (arith, within (made c.before.before)))
-    (λ c. omega (arith, within (made c.before.before))) (λ c. simp length-set (made c.before.before).left-entries.auto.1.1.1.0) returns-2)
+    (λ c. omega (arith, within (made c.before.before))) (λ c. simp length-set (made c.before.before).left_entries.auto.l) returns)

@@ -23,61 +23,61 @@ record Made (a : List Float) (n : ℕ) (old l : List Float) (i : ℕ) : Type 0 w
   pub pivots : definite a n i ≡ true
   pub rows : Padded (factor a n i) l
 
-abbrev invariant-loop : tie.invariant-loop
-invariant-loop a n l₀ i₀ l i = Made a n l₀ l i
+abbrev invariant-loop-i : tie.invariant-loop-i
+invariant-loop-i a n l₀ i₀ l i = Made a n l₀ l i
 
-abbrev decreases-loop : tie.decreases-loop
-decreases-loop a n l₀ i₀ l i = n - i
+abbrev decreases-loop-i : tie.decreases-loop-i
+decreases-loop-i a n l₀ i₀ l i = n - i
 
 -- from the call for a row to its turn, and to the start
-abbrev turn : tie.After-factor-row invariant-loop decreases-loop → tie.At-loop invariant-loop decreases-loop
+abbrev turn : tie.After-factor_row invariant-loop-i decreases-loop-i → tie.At-loop-i invariant-loop-i decreases-loop-i
 turn c = c.before.before.before
 
-abbrev start : tie.At-loop invariant-loop decreases-loop → tie.Start invariant-loop decreases-loop
+abbrev start : tie.At-loop-i invariant-loop-i decreases-loop-i → tie.Start invariant-loop-i decreases-loop-i
 start c = c.before.before.before
 
-whole : (c : tie.Start invariant-loop decreases-loop) → length c.args.l.now ≡ c.args.n * c.args.n
+whole : (c : tie.Start invariant-loop-i decreases-loop-i) → length c.args.l.now ≡ c.args.n * c.args.n
 whole c = ap length c.requires.1 ∙ length-replicate _ _
 
 -- what is known of the pivots after the row
-pivots : (c : tie.After-factor-row invariant-loop decreases-loop) → let x = (start (turn c)).args in definite x.a.now x.n ((turn c).loop.i + 1) ≡ c.factor-row.result
-pivots c = let x = (start (turn c)).args in definite-suc x.a.now x.n (turn c).loop.i ∙ rw (turn c).loop.invariant.pivots (sym c.factor-row.ensures.answers)
+pivots : (c : tie.After-factor_row invariant-loop-i decreases-loop-i) → let x = (start (turn c)).args in definite x.a.now x.n ((turn c).loop-i.i + 1) ≡ c.factor_row.result
+pivots c = let x = (start (turn c)).args in definite-suc x.a.now x.n (turn c).loop-i.i ∙ rw (turn c).loop-i.invariant.pivots (sym c.factor_row.ensures.answers)
 
-loop-holds : tie.Need-loop-init invariant-loop decreases-loop
+loop-i-init : tie.Need-loop-i-init invariant-loop-i decreases-loop-i
 unfolding definite factor
-loop-holds c =
-    let start = c.before.before in
+loop-i-init c =
+    let start = c in
     let none = subst (λ (z : List Float). Padded [] z) (sym start.requires.1) (padded_none (start.args.n * start.args.n)) in
     record { turns = omega arith; size = refl; pivots = refl; rows = none }
 
-factor-row-requires : tie.Need-factor-row-requires invariant-loop decreases-loop
-factor-row-requires c κs =
-    let l = c.before.before in
-    let inv = l.loop.invariant in
-    record { row = omega arith; matrix = (start l).requires.0; room = inv.size ∙ whole (start l); rows = inv.rows }
+factor_row-requires : tie.Need-factor_row-requires invariant-loop-i decreases-loop-i
+factor_row-requires c κs =
+    let l = c in
+    let inv = l.loop-i.invariant in
+    record { row = omega arith; matrix = (start c.before.before).requires.0; room = inv.size ∙ whole (start c.before.before); rows = inv.rows }
 
-same_length : tie.Need-same-length invariant-loop decreases-loop
-same_length c = let row = c.before.before.before in row.factor-row.auto.1.1.1.0 ∙ (turn row).loop.invariant.size
+shape_of-l-then-not-factor_row : tie.Need-shape_of-l-then-not-factor_row invariant-loop-i decreases-loop-i
+shape_of-l-then-not-factor_row c = let row = c in row.factor_row.auto.l ∙ (turn c.before.before.before).loop-i.invariant.size
 
-returns : tie.Need-returns invariant-loop decreases-loop
+returns-then-not-factor_row : tie.Need-returns-then-not-factor_row invariant-loop-i decreases-loop-i
+returns-then-not-factor_row c =
+    let row = c in
+    let x = (start (turn c.before.before.before)).args in
+    record { answers = sym (definite_never x.a.now x.n ((turn c.before.before.before).loop-i.i + 1) (omega arith) (pivots c.before.before.before ∙ c.if-not-factor_row.true)); reached = λ e. never e }
+
+loop-i-preserved : tie.Need-loop-i-preserved invariant-loop-i decreases-loop-i
+loop-i-preserved c =
+    let row = c in
+    let taken : row.factor_row.result ≡ true = c.if-not-factor_row.false in
+    record { turns = omega arith; size = row.factor_row.auto.l ∙ (turn c.before.before.before).loop-i.invariant.size; pivots = pivots c.before.before.before ∙ taken; rows = row.factor_row.ensures.reached taken }
+
+returns : tie.Need-returns invariant-loop-i decreases-loop-i
 returns c =
-    let row = c.before.before.before in
-    let x = (start (turn row)).args in
-    record { answers = sym (definite_never x.a.now x.n ((turn row).loop.i + 1) (omega arith) (pivots row ∙ not-true _ c.if1.true)); reached = λ e. never e }
-
-loop-again : tie.Need-loop-preserved invariant-loop decreases-loop
-loop-again c =
-    let row = c.before.before.before in
-    let taken : row.factor-row.result ≡ true = not-false _ c.if1.false in
-    record { turns = omega arith; size = row.factor-row.auto.1.1.1.0 ∙ (turn row).loop.invariant.size; pivots = pivots row ∙ taken; rows = row.factor-row.ensures.reached taken }
-
-returns-2 : tie.Need-returns-2 invariant-loop decreases-loop
-returns-2 c =
     let s = start c.before in
     let x = s.args in
-    let l = c.before.loop in
+    let l = c.loop-i in
     let inv = l.invariant in
-    let end : l.i ≡ x.n = le_antisymm inv.turns c.loop-test.false in
+    let end : l.i ≡ x.n = le_antisymm inv.turns c.loop-i-test.false in
     let long : length (factor x.a.now x.n l.i) ≡ length l.l =
     omega (arith, length-factor x.a.now x.n l.i inv.turns, ap (λ (k : ℕ). k * x.n) end, inv.size, whole s) in
     record {
@@ -85,7 +85,7 @@ returns-2 c =
       reached = λ _. padded_all (factor x.a.now x.n l.i) l.l long inv.rows ∙ ap (factor x.a.now x.n) end;
     }
 
-pub factor-rows-spec : {M : Type 1} → statement M
-factor-rows-spec =
+pub factor_rows_spec : {M : Type 1} → statement M
+factor_rows_spec =
     tie.close
-    (tie.spec invariant-loop decreases-loop loop-holds factor-row-requires same_length returns (λ c. omega arith) (λ c. omega arith) loop-again (λ c. c.before.loop.invariant.size) returns-2)
+    (tie.spec invariant-loop-i decreases-loop-i loop-i-init factor_row-requires shape_of-l-then-not-factor_row returns-then-not-factor_row (λ c. omega arith) (λ c. omega arith) loop-i-preserved (λ c. c.loop-i.invariant.size) returns)

@@ -17,13 +17,13 @@ below-infinity (inf true) e = sym e
 below-infinity (inf false) e = refl
 below-infinity (fin s m x) e = refl
 
-returns : tie.Need-returns
+returns-then-not-d : tie.Need-returns-then-not-d
 unfolding is_pivot
-returns c = rw (not-true (lt nought c.before.args.d) c.if1.true)
+returns-then-not-d c = rw c.if-not-d.true
 
-returns-2 : tie.Need-returns-2
+returns : tie.Need-returns
 unfolding is_pivot Ieee.div of_bits
-returns-2 c = let e = not-false (lt nought c.before.args.d) c.if1.false in rw e (below-infinity c.before.args.d e)
+returns c = let e = c.if-not-d.false in rw e (below-infinity c.args.d e)
 
-pub is-pivot-spec : {M : Type 1} → statement M
-is-pivot-spec = tie.close (tie.spec returns returns-2)
+pub is_pivot_spec : {M : Type 1} → statement M
+is_pivot_spec = tie.close (tie.spec returns-then-not-d returns)

@@ -19,55 +19,55 @@ record Leftward (a : List Float) (n i : ℕ) (old l : List Float) (j : ℕ) : Ty
   pub size : length l ≡ length old
   pub entries : Padded (with_left a n (factor a n i) i j) l
 
-abbrev invariant-loop : tie.invariant-loop
-invariant-loop a n i l₀ j₀ l j = Leftward a n i l₀ l j
+abbrev invariant-loop-j : tie.invariant-loop-j
+invariant-loop-j a n i l₀ j₀ l j = Leftward a n i l₀ l j
 
-abbrev decreases-loop : tie.decreases-loop
-decreases-loop a n i l₀ j₀ l j = i - j
+abbrev decreases-loop-j : tie.decreases-loop-j
+decreases-loop-j a n i l₀ j₀ l j = i - j
 
-abbrev entered : tie.In-loop invariant-loop decreases-loop → tie.Start invariant-loop decreases-loop
+abbrev entered : tie.In-loop-j invariant-loop-j decreases-loop-j → tie.Start invariant-loop-j decreases-loop-j
 entered c = c.before.before.before.before
 
 -- rows i and j lie within the slice
-within : (c : tie.In-loop invariant-loop decreases-loop)
-    → let x = (entered c).args in (x.i * x.n + x.n ≤ x.n * x.n) × (c.before.loop.j * x.n + x.n ≤ x.n * x.n)
+within : (c : tie.In-loop-j invariant-loop-j decreases-loop-j)
+    → let x = (entered c).args in (x.i * x.n + x.n ≤ x.n * x.n) × (c.loop-j.j * x.n + x.n ≤ x.n * x.n)
 within c = let x = (entered c).args in (row_within x.n x.n (omega arith), row_within x.n x.n (omega arith))
 
-loop-holds : tie.Need-loop-init invariant-loop decreases-loop
+loop-j-init : tie.Need-loop-j-init invariant-loop-j decreases-loop-j
 unfolding with_left
-loop-holds c = record { turns = omega arith; size = refl; entries = c.before.before.requires.rows }
+loop-j-init c = record { turns = omega arith; size = refl; entries = c.requires.rows }
 
-loop-again : tie.Need-loop-preserved invariant-loop decreases-loop
-loop-again c =
-    let after-inner = c.before.before in
-    let after-entry = after-inner.before.before in
-    let at-loop = after-entry.before.before in
-    let start = at-loop.before.before.before in
+loop-j-preserved : tie.Need-loop-j-preserved invariant-loop-j decreases-loop-j
+loop-j-preserved c =
+    let after-inner = c in
+    let after-entry = after-inner in
+    let at-loop = after-entry in
+    let start = at-loop in
     let x = start.args in
-    let turn = at-loop.loop in
+    let turn = at-loop.loop-j in
     record {
       turns = omega arith;
       size = simp length-set turn.invariant.size;
       entries =
           left_more x.a.now turn.l x.n x.i (turn.invariant.size ∙ start.requires.room) start.requires.row turn.j _ (omega arith)
-          (rw (after-entry.entry.ensures, after-inner.inner.ensures, c.entry2.ensures)) turn.invariant.entries;
+          (rw (after-entry.entry.ensures, after-inner.inner.ensures, c.entry-in-loop-j.ensures)) turn.invariant.entries;
     }
 
-same_length : tie.Need-same-length invariant-loop decreases-loop
-same_length c = c.before.loop.invariant.size
+shape_of-l : tie.Need-shape_of-l invariant-loop-j decreases-loop-j
+shape_of-l c = c.loop-j.invariant.size
 
-returns : tie.Need-returns invariant-loop decreases-loop
+returns : tie.Need-returns invariant-loop-j decreases-loop-j
 returns c =
-    let start = c.before.before.before.before in
+    let start = c in
     let x = start.args in
-    subst (λ (j : ℕ). Padded (with_left x.a.now x.n (factor x.a.now x.n x.i) x.i j) c.before.loop.l)
-    (le_antisymm c.before.loop.invariant.turns c.loop-test.false) c.before.loop.invariant.entries
+    subst (λ (j : ℕ). Padded (with_left x.a.now x.n (factor x.a.now x.n x.i) x.i j) c.loop-j.l)
+    (le_antisymm c.loop-j.invariant.turns c.loop-j-test.false) c.loop-j.invariant.entries
 
-pub left-entries-spec : {M : Type 1} → statement M
-left-entries-spec =
+pub left_entries_spec : {M : Type 1} → statement M
+left_entries_spec =
     tie.close
-    (tie.spec invariant-loop decreases-loop loop-holds (λ c κs. omega (arith, within c)) (λ c κs. omega (arith, within c.before.before))
-    (λ c κs. omega (arith, within c.before.before.before.before)) (λ c. omega (arith, within c.before.before.before.before.before))
-    (λ c. omega (arith, within c.before.before.before.before.before)) (λ c. omega (arith, within c.before.before.before.before.before))
-    (λ c. omega (arith, within c.before.before.before.before.before)) (λ c. omega arith) (λ c. omega arith)
-    loop-again same_length returns)
+    (tie.spec invariant-loop-j decreases-loop-j loop-j-init (λ c κs. omega (arith, within c)) (λ c κs. omega (arith, within c.before))
+    (λ c κs. omega (arith, within c.before.before)) (λ c. omega (arith, within c.before.before.before))
+    (λ c. omega (arith, within c.before.before.before)) (λ c. omega (arith, within c.before.before.before))
+    (λ c. omega (arith, within c.before.before.before)) (λ c. omega arith) (λ c. omega arith)
+    loop-j-preserved shape_of-l returns)

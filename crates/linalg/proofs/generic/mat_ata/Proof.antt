@@ -7,39 +7,39 @@ use Rattle.dense.proofs.Answers.{done}
 use Rattle.linalg.proofs.generic.mat_ata.Statement.{statement}
 use Rattle.linalg.proofs.generic.mat_ata.Tie as tie
 
-returns : tie.Need-returns
+returns-then-not-are_sides : tie.Need-returns-then-not-are_sides
 unfolding mat_ata
-returns c = rw (unmet c.before.are-sides.ensures c.if1.true)
+returns-then-not-are_sides c = rw (unmet c.are_sides.ensures c.if-not-are_sides.true)
 
-are-matrices-requires : tie.Need-are-matrices-requires
-are-matrices-requires c κs =
-    let x = c.before.before.before.before.before.args in
-    let s = two-sides x.m x.n (met c.before.before.are-sides.ensures c.before.if1.false) in
+are_matrices-requires : tie.Need-are_matrices-requires
+are_matrices-requires c κs =
+    let x = c.args in
+    let s = two-sides x.m x.n (met c.are_sides.ensures c.if-not-are_sides.false) in
     (area x.m x.n s.0 s.1, area x.n x.n s.1 s.1)
 
-returns-2 : tie.Need-returns-2
+returns-then-not-are_matrices : tie.Need-returns-then-not-are_matrices
 unfolding mat_ata
-returns-2 c = let else1 = c.before.before.before in rw (met else1.before.are-sides.ensures else1.if1.false, unmet c.before.are-matrices.ensures c.if2.true)
+returns-then-not-are_matrices c = let else1 = c in rw (met else1.are_sides.ensures else1.if-not-are_sides.false, unmet c.are_matrices.ensures c.if-not-are_matrices.true)
 
-ata-by-width-requires : tie.Need-ata-by-width-requires
-ata-by-width-requires c κs =
-    let after-are-matrices = c.before.before in
-    let else1 = after-are-matrices.before.before in
-    let start = else1.before.before.before.before in
+ata_by_width-requires : tie.Need-ata_by_width-requires
+ata_by_width-requires c κs =
+    let after-are-matrices = c in
+    let else1 = after-are-matrices in
+    let start = else1 in
     let x = start.args in
-    let s = two-sides x.m x.n (met else1.before.are-sides.ensures else1.if1.false) in
-    let l = two-long x.a.now x.out.now (x.m * x.n) (x.n * x.n) (met after-are-matrices.are-matrices.ensures c.before.if2.false) in
+    let s = two-sides x.m x.n (met else1.are_sides.ensures else1.if-not-are_sides.false) in
+    let l = two-long x.a.now x.out.now (x.m * x.n) (x.n * x.n) (met after-are-matrices.are_matrices.ensures c.if-not-are_matrices.false) in
     (side_high x.n s.1, l.0, l.1)
 
-returns-3 : tie.Need-returns-3
+returns : tie.Need-returns
 unfolding mat_ata
-returns-3 c =
-    let after-ata-by-width = c.before.before in
-    let else2 = after-ata-by-width.before.before in
-    let else1 = else2.before.before.before in
-    rw (met else1.before.are-sides.ensures else1.if1.false, met else2.before.are-matrices.ensures else2.if2.false) (done after-ata-by-width.ata-by-width.ensures)
+returns c =
+    let after-ata-by-width = c in
+    let else2 = after-ata-by-width in
+    let else1 = else2 in
+    rw (met else1.are_sides.ensures else1.if-not-are_sides.false, met else2.are_matrices.ensures else2.if-not-are_matrices.false) (done after-ata-by-width.ata_by_width.ensures)
 
-pub mat-ata-spec : {M : Type 1} → statement M
-mat-ata-spec =
+pub mat_ata_spec : {M : Type 1} → statement M
+mat_ata_spec =
     tie.close
-    (tie.spec (λ c κs. search rules) returns are-matrices-requires (λ c. search rules) returns-2 ata-by-width-requires (λ c. search rules) returns-3)
+    (tie.spec (λ c κs. search rules) returns-then-not-are_sides are_matrices-requires (λ c. search rules) returns-then-not-are_matrices ata_by_width-requires (λ c. search rules) returns)

@@ -8,51 +8,51 @@ use Rattle.dense.proofs.Answers.{done, kept}
 use Rattle.linalg.proofs.generic.mat_cholesky.Statement.{statement}
 use Rattle.linalg.proofs.generic.mat_cholesky.Tie as tie
 
-returns : tie.Need-returns
+returns-then-not-is_side : tie.Need-returns-then-not-is_side
 unfolding mat_cholesky
-returns c = rw (unmet c.before.is-side.ensures c.if1.true)
+returns-then-not-is_side c = rw (unmet c.is_side.ensures c.if-not-is_side.true)
 
-are-matrices-requires : tie.Need-are-matrices-requires
-are-matrices-requires c κs = two_squares c.before.before.before.before.before.args.n (met c.before.before.is-side.ensures c.before.if1.false)
+are_matrices-requires : tie.Need-are_matrices-requires
+are_matrices-requires c κs = two_squares c.args.n (met c.is_side.ensures c.if-not-is_side.false)
 
-returns-2 : tie.Need-returns-2
+returns-then-not-are_matrices : tie.Need-returns-then-not-are_matrices
 unfolding mat_cholesky
-returns-2 c = let else1 = c.before.before.before in rw (met else1.before.is-side.ensures else1.if1.false, unmet c.before.are-matrices.ensures c.if2.true)
+returns-then-not-are_matrices c = let else1 = c in rw (met else1.is_side.ensures else1.if-not-is_side.false, unmet c.are_matrices.ensures c.if-not-are_matrices.true)
 
 cholesky-requires : tie.Need-cholesky-requires
 cholesky-requires c κs =
-    let after-are-matrices = c.before.before in
-    let else1 = after-are-matrices.before.before in
-    let start = else1.before.before.before.before in
+    let after-are-matrices = c in
+    let else1 = after-are-matrices in
+    let start = else1 in
     let x = start.args in
-    let s = met else1.before.is-side.ensures else1.if1.false in
-    let l = two-long x.a.now x.out.now (x.n * x.n) (x.n * x.n) (met after-are-matrices.are-matrices.ensures c.before.if2.false) in
+    let s = met else1.is_side.ensures else1.if-not-is_side.false in
+    let l = two-long x.a.now x.out.now (x.n * x.n) (x.n * x.n) (met after-are-matrices.are_matrices.ensures c.if-not-are_matrices.false) in
     (area x.n x.n s s, l.0, l.1)
 
-returns-3 : tie.Need-returns-3
+returns-then-not-cholesky : tie.Need-returns-then-not-cholesky
 unfolding mat_cholesky
-returns-3 c =
-    let after-cholesky = c.before.before.before in
-    let else2 = after-cholesky.before.before in
-    let else1 = else2.before.before.before in
+returns-then-not-cholesky c =
+    let after-cholesky = c in
+    let else2 = after-cholesky in
+    let else1 = else2 in
     rw (
-      met else1.before.is-side.ensures else1.if1.false,
-      met else2.before.are-matrices.ensures else2.if2.false,
-      unmet after-cholesky.cholesky.ensures.0 c.if3.true,
-    ) (kept (after-cholesky.cholesky.ensures.2 (not-true _ c.if3.true)))
+      met else1.is_side.ensures else1.if-not-is_side.false,
+      met else2.are_matrices.ensures else2.if-not-are_matrices.false,
+      unmet after-cholesky.cholesky.ensures.0 c.if-not-cholesky.true,
+    ) (kept (after-cholesky.cholesky.ensures.2 c.if-not-cholesky.true))
 
-returns-4 : tie.Need-returns-4
+returns : tie.Need-returns
 unfolding mat_cholesky
-returns-4 c =
-    let after-cholesky = c.before.before.before in
-    let else2 = after-cholesky.before.before in
-    let else1 = else2.before.before.before in
+returns c =
+    let after-cholesky = c in
+    let else2 = after-cholesky in
+    let else1 = else2 in
     rw
-    (met else1.before.is-side.ensures else1.if1.false, met else2.before.are-matrices.ensures else2.if2.false, met after-cholesky.cholesky.ensures.0 c.if3.false)
-    (done (after-cholesky.cholesky.ensures.1 (not-false _ c.if3.false)))
+    (met else1.is_side.ensures else1.if-not-is_side.false, met else2.are_matrices.ensures else2.if-not-are_matrices.false, met after-cholesky.cholesky.ensures.0 c.if-not-cholesky.false)
+    (done (after-cholesky.cholesky.ensures.1 c.if-not-cholesky.false))
 
-pub mat-cholesky-spec : {M : Type 1} → statement M
-mat-cholesky-spec =
+pub mat_cholesky_spec : {M : Type 1} → statement M
+mat_cholesky_spec =
     tie.close
-    (tie.spec (λ c κs. search rules) returns are-matrices-requires (λ c. search rules) returns-2 cholesky-requires (λ c. search rules) returns-3
-    (λ c. search rules) returns-4)
+    (tie.spec (λ c κs. search rules) returns-then-not-is_side are_matrices-requires (λ c. search rules) returns-then-not-are_matrices cholesky-requires (λ c. search rules) returns-then-not-cholesky
+    (λ c. search rules) returns)

@@ -8,35 +8,35 @@ use Rattle.dense.proofs.Answers.{value}
 use Rattle.linalg.proofs.generic.mat_frobenius.Statement.{statement}
 use Rattle.linalg.proofs.generic.mat_frobenius.Tie as tie
 
-returns : tie.Need-returns
+returns-then-not-are_sides : tie.Need-returns-then-not-are_sides
 unfolding mat_frobenius
-returns c = rw (unmet c.before.are-sides.ensures c.if1.true)
+returns-then-not-are_sides c = rw (unmet c.are_sides.ensures c.if-not-are_sides.true)
 
-is-matrix-requires : tie.Need-is-matrix-requires
-is-matrix-requires c κs =
-    let x = c.before.before.before.args in
-    let s = two-sides x.m x.n (met c.before.are-sides.ensures c.if1.false) in
+is_matrix-requires : tie.Need-is_matrix-requires
+is_matrix-requires c κs =
+    let x = c.args in
+    let s = two-sides x.m x.n (met c.are_sides.ensures c.if-not-are_sides.false) in
     area x.m x.n s.0 s.1
 
-returns-2 : tie.Need-returns-2
+returns-then-not-is_matrix : tie.Need-returns-then-not-is_matrix
 unfolding mat_frobenius
-returns-2 c = rw (met c.before.before.before.are-sides.ensures c.before.before.if1.false, unmet c.before.is-matrix.ensures c.if2.true)
+returns-then-not-is_matrix c = rw (met c.are_sides.ensures c.if-not-are_sides.false, unmet c.is_matrix.ensures c.if-not-is_matrix.true)
 
-mul-norm : tie.Need-overflow-mul-norm
-mul-norm c =
-    let x = c.before.before.before.before.before.args in
-    let s = two-sides x.m x.n (met c.before.before.before.are-sides.ensures c.before.before.if1.false) in
+overflow_mul-m : tie.Need-overflow_mul-m
+overflow_mul-m c =
+    let x = c.args in
+    let s = two-sides x.m x.n (met c.are_sides.ensures c.if-not-are_sides.false) in
     omega (arith, area x.m x.n s.0 s.1)
 
 norm-requires : tie.Need-norm-requires
-norm-requires c κs = let x = c.before.before.before.before.before.args in long-length x.a.now (x.m * x.n) (met c.before.is-matrix.ensures c.if2.false)
+norm-requires c κs = let x = c.args in long-length x.a.now (x.m * x.n) (met c.is_matrix.ensures c.if-not-is_matrix.false)
 
-returns-3 : tie.Need-returns-3
+returns : tie.Need-returns
 unfolding mat_frobenius
-returns-3 c =
-    let after-is-matrix = c.before.before in
-    let after-are-sides = after-is-matrix.before.before in
-    rw (met after-are-sides.are-sides.ensures after-is-matrix.before.if1.false, met after-is-matrix.is-matrix.ensures c.before.if2.false) (value c.norm.ensures)
+returns c =
+    let after-is-matrix = c in
+    let after-are-sides = after-is-matrix in
+    rw (met after-are-sides.are_sides.ensures after-is-matrix.if-not-are_sides.false, met after-is-matrix.is_matrix.ensures c.if-not-is_matrix.false) (value c.norm.ensures)
 
-pub mat-frobenius-spec : {M : Type 1} → statement M
-mat-frobenius-spec = tie.close (tie.spec (λ c κs. search rules) returns is-matrix-requires returns-2 mul-norm norm-requires returns-3)
+pub mat_frobenius_spec : {M : Type 1} → statement M
+mat_frobenius_spec = tie.close (tie.spec (λ c κs. search rules) returns-then-not-are_sides is_matrix-requires returns-then-not-is_matrix overflow_mul-m norm-requires returns)

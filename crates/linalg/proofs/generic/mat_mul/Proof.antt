@@ -7,42 +7,42 @@ use Rattle.dense.proofs.Answers.{done}
 use Rattle.linalg.proofs.generic.mat_mul.Statement.{statement}
 use Rattle.linalg.proofs.generic.mat_mul.Tie as tie
 
-returns : tie.Need-returns
+returns-then-not-are_three_sides : tie.Need-returns-then-not-are_three_sides
 unfolding mat_mul
-returns c = rw (unmet c.before.are-three-sides.ensures c.if1.true)
+returns-then-not-are_three_sides c = rw (unmet c.are_three_sides.ensures c.if-not-are_three_sides.true)
 
-are-factors-requires : tie.Need-are-factors-requires
-are-factors-requires c κs =
-    let after-are-three-sides = c.before.before in
-    let start = after-are-three-sides.before.before.before.before in
+are_factors-requires : tie.Need-are_factors-requires
+are_factors-requires c κs =
+    let after-are-three-sides = c in
+    let start = after-are-three-sides in
     let x = start.args in
-    let s = three-sides x.m x.k x.n (met after-are-three-sides.are-three-sides.ensures c.before.if1.false) in
+    let s = three-sides x.m x.k x.n (met after-are-three-sides.are_three_sides.ensures c.if-not-are_three_sides.false) in
     (area x.m x.k s.0 s.1, area x.k x.n s.1 s.2, area x.m x.n s.0 s.2)
 
-returns-2 : tie.Need-returns-2
+returns-then-not-are_factors : tie.Need-returns-then-not-are_factors
 unfolding mat_mul
-returns-2 c = let else1 = c.before.before.before in rw (met else1.before.are-three-sides.ensures else1.if1.false, unmet c.before.are-factors.ensures c.if2.true)
+returns-then-not-are_factors c = let else1 = c in rw (met else1.are_three_sides.ensures else1.if-not-are_three_sides.false, unmet c.are_factors.ensures c.if-not-are_factors.true)
 
-product-by-width-requires : tie.Need-product-by-width-requires
-product-by-width-requires c κs =
-    let after-are-factors = c.before.before in
-    let else1 = after-are-factors.before.before in
-    let start = else1.before.before.before.before.before in
+product_by_width-requires : tie.Need-product_by_width-requires
+product_by_width-requires c κs =
+    let after-are-factors = c in
+    let else1 = after-are-factors in
+    let start = else1 in
     let x = start.args in
-    let s = three-sides x.m x.k x.n (met else1.before.are-three-sides.ensures else1.if1.false) in
-    let l = three-long x.a.now x.b.now x.out.now (x.m * x.k) (x.k * x.n) (x.m * x.n) (met after-are-factors.are-factors.ensures c.before.if2.false) in
+    let s = three-sides x.m x.k x.n (met else1.are_three_sides.ensures else1.if-not-are_three_sides.false) in
+    let l = three-long x.a.now x.b.now x.out.now (x.m * x.k) (x.k * x.n) (x.m * x.n) (met after-are-factors.are_factors.ensures c.if-not-are_factors.false) in
     (side_high x.n s.2, l.0, l.1, l.2)
 
-returns-3 : tie.Need-returns-3
+returns : tie.Need-returns
 unfolding mat_mul
-returns-3 c =
-    let after-product-by-width = c.before.before in
-    let else2 = after-product-by-width.before.before in
-    let else1 = else2.before.before.before in
-    rw (met else1.before.are-three-sides.ensures else1.if1.false, met else2.before.are-factors.ensures else2.if2.false)
-    (done after-product-by-width.product-by-width.ensures)
+returns c =
+    let after-product-by-width = c in
+    let else2 = after-product-by-width in
+    let else1 = else2 in
+    rw (met else1.are_three_sides.ensures else1.if-not-are_three_sides.false, met else2.are_factors.ensures else2.if-not-are_factors.false)
+    (done after-product-by-width.product_by_width.ensures)
 
-pub mat-mul-spec : {M : Type 1} → statement M
-mat-mul-spec =
+pub mat_mul_spec : {M : Type 1} → statement M
+mat_mul_spec =
     tie.close
-    (tie.spec (λ c κs. search rules) returns are-factors-requires (λ c. search rules) returns-2 product-by-width-requires (λ c. search rules) returns-3)
+    (tie.spec (λ c κs. search rules) returns-then-not-are_three_sides are_factors-requires (λ c. search rules) returns-then-not-are_factors product_by_width-requires (λ c. search rules) returns)

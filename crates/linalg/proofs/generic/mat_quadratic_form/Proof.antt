@@ -7,32 +7,32 @@ use Rattle.dense.proofs.Answers.{value}
 use Rattle.linalg.proofs.generic.mat_quadratic_form.Statement.{statement}
 use Rattle.linalg.proofs.generic.mat_quadratic_form.Tie as tie
 
-returns : tie.Need-returns
+returns-then-not-is_side : tie.Need-returns-then-not-is_side
 unfolding mat_quadratic_form
-returns c = rw (unmet c.before.is-side.ensures c.if1.true)
+returns-then-not-is_side c = rw (unmet c.is_side.ensures c.if-not-is_side.true)
 
-is-form-requires : tie.Need-is-form-requires
-is-form-requires c κs =
-    let x = c.before.before.before.before.args in
-    let s = met c.before.is-side.ensures c.if1.false in
+is_form-requires : tie.Need-is_form-requires
+is_form-requires c κs =
+    let x = c.args in
+    let s = met c.is_side.ensures c.if-not-is_side.false in
     area x.n x.n s s
 
-returns-2 : tie.Need-returns-2
+returns-then-not-is_form : tie.Need-returns-then-not-is_form
 unfolding mat_quadratic_form
-returns-2 c = rw (met c.before.before.before.is-side.ensures c.before.before.if1.false, unmet c.before.is-form.ensures c.if2.true)
+returns-then-not-is_form c = rw (met c.is_side.ensures c.if-not-is_side.false, unmet c.is_form.ensures c.if-not-is_form.true)
 
-quadratic-form-requires : tie.Need-quadratic-form-requires
-quadratic-form-requires c κs =
-    let start = c.before.before.before.before.before.before in
+quadratic_form-requires : tie.Need-quadratic_form-requires
+quadratic_form-requires c κs =
+    let start = c in
     let x = start.args in
-    two-long x.x.now x.a.now x.n (x.n * x.n) (met c.before.is-form.ensures c.if2.false)
+    two-long x.x.now x.a.now x.n (x.n * x.n) (met c.is_form.ensures c.if-not-is_form.false)
 
-returns-3 : tie.Need-returns-3
+returns : tie.Need-returns
 unfolding mat_quadratic_form
-returns-3 c =
-    let after-is-form = c.before.before in
-    let after-is-side = after-is-form.before.before in
-    rw (met after-is-side.is-side.ensures after-is-form.before.if1.false, met after-is-form.is-form.ensures c.before.if2.false) (value c.quadratic-form.ensures)
+returns c =
+    let after-is-form = c in
+    let after-is-side = after-is-form in
+    rw (met after-is-side.is_side.ensures after-is-form.if-not-is_side.false, met after-is-form.is_form.ensures c.if-not-is_form.false) (value c.quadratic_form.ensures)
 
-pub mat-quadratic-form-spec : {M : Type 1} → statement M
-mat-quadratic-form-spec = tie.close (tie.spec (λ c κs. search rules) returns is-form-requires returns-2 quadratic-form-requires returns-3)
+pub mat_quadratic_form_spec : {M : Type 1} → statement M
+mat_quadratic_form_spec = tie.close (tie.spec (λ c κs. search rules) returns-then-not-is_side is_form-requires returns-then-not-is_form quadratic_form-requires returns)

@@ -7,33 +7,33 @@ use Rattle.dense.proofs.Answers.{done}
 use Rattle.linalg.proofs.generic.mat_symmetrize.Statement.{statement}
 use Rattle.linalg.proofs.generic.mat_symmetrize.Tie as tie
 
-returns : tie.Need-returns
+returns-then-not-is_side : tie.Need-returns-then-not-is_side
 unfolding mat_symmetrize
-returns c = rw (unmet c.before.is-side.ensures c.if1.true)
+returns-then-not-is_side c = rw (unmet c.is_side.ensures c.if-not-is_side.true)
 
-are-matrices-requires : tie.Need-are-matrices-requires
-are-matrices-requires c κs = two_squares c.before.before.before.before.before.args.n (met c.before.before.is-side.ensures c.before.if1.false)
+are_matrices-requires : tie.Need-are_matrices-requires
+are_matrices-requires c κs = two_squares c.args.n (met c.is_side.ensures c.if-not-is_side.false)
 
-returns-2 : tie.Need-returns-2
+returns-then-not-are_matrices : tie.Need-returns-then-not-are_matrices
 unfolding mat_symmetrize
-returns-2 c = let else1 = c.before.before.before in rw (met else1.before.is-side.ensures else1.if1.false, unmet c.before.are-matrices.ensures c.if2.true)
+returns-then-not-are_matrices c = let else1 = c in rw (met else1.is_side.ensures else1.if-not-is_side.false, unmet c.are_matrices.ensures c.if-not-are_matrices.true)
 
 symmetrize-requires : tie.Need-symmetrize-requires
 symmetrize-requires c κs =
-    let after-are-matrices = c.before.before in
-    let start = after-are-matrices.before.before.before.before.before.before in
+    let after-are-matrices = c in
+    let start = after-are-matrices in
     let x = start.args in
-    two-long x.a.now x.out.now (x.n * x.n) (x.n * x.n) (met after-are-matrices.are-matrices.ensures c.before.if2.false)
+    two-long x.a.now x.out.now (x.n * x.n) (x.n * x.n) (met after-are-matrices.are_matrices.ensures c.if-not-are_matrices.false)
 
-returns-3 : tie.Need-returns-3
+returns : tie.Need-returns
 unfolding mat_symmetrize
-returns-3 c =
-    let after-symmetrize = c.before.before in
-    let else2 = after-symmetrize.before.before in
-    let else1 = else2.before.before.before in
-    rw (met else1.before.is-side.ensures else1.if1.false, met else2.before.are-matrices.ensures else2.if2.false) (done after-symmetrize.symmetrize.ensures)
+returns c =
+    let after-symmetrize = c in
+    let else2 = after-symmetrize in
+    let else1 = else2 in
+    rw (met else1.is_side.ensures else1.if-not-is_side.false, met else2.are_matrices.ensures else2.if-not-are_matrices.false) (done after-symmetrize.symmetrize.ensures)
 
-pub mat-symmetrize-spec : {M : Type 1} → statement M
-mat-symmetrize-spec =
+pub mat_symmetrize_spec : {M : Type 1} → statement M
+mat_symmetrize_spec =
     tie.close
-    (tie.spec (λ c κs. search rules) returns are-matrices-requires (λ c. search rules) returns-2 symmetrize-requires (λ c. search rules) returns-3)
+    (tie.spec (λ c κs. search rules) returns-then-not-is_side are_matrices-requires (λ c. search rules) returns-then-not-are_matrices symmetrize-requires (λ c. search rules) returns)

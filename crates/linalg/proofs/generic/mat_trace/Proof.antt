@@ -7,26 +7,26 @@ use Rattle.dense.proofs.Answers.{value}
 use Rattle.linalg.proofs.generic.mat_trace.Statement.{statement}
 use Rattle.linalg.proofs.generic.mat_trace.Tie as tie
 
-returns : tie.Need-returns
+returns-then-not-is_side : tie.Need-returns-then-not-is_side
 unfolding mat_trace
-returns c = rw (unmet c.before.is-side.ensures c.if1.true)
+returns-then-not-is_side c = rw (unmet c.is_side.ensures c.if-not-is_side.true)
 
-is-matrix-requires : tie.Need-is-matrix-requires
-is-matrix-requires c κs = square_area c.before.before.before.args.n (met c.before.is-side.ensures c.if1.false)
+is_matrix-requires : tie.Need-is_matrix-requires
+is_matrix-requires c κs = square_area c.args.n (met c.is_side.ensures c.if-not-is_side.false)
 
-returns-2 : tie.Need-returns-2
+returns-then-not-is_matrix : tie.Need-returns-then-not-is_matrix
 unfolding mat_trace
-returns-2 c = rw (met c.before.before.before.is-side.ensures c.before.before.if1.false, unmet c.before.is-matrix.ensures c.if2.true)
+returns-then-not-is_matrix c = rw (met c.is_side.ensures c.if-not-is_side.false, unmet c.is_matrix.ensures c.if-not-is_matrix.true)
 
 trace-requires : tie.Need-trace-requires
-trace-requires c κs = let x = c.before.before.before.before.before.args in long-length x.a.now (x.n * x.n) (met c.before.is-matrix.ensures c.if2.false)
+trace-requires c κs = let x = c.args in long-length x.a.now (x.n * x.n) (met c.is_matrix.ensures c.if-not-is_matrix.false)
 
-returns-3 : tie.Need-returns-3
+returns : tie.Need-returns
 unfolding mat_trace
-returns-3 c =
-    let after-is-matrix = c.before.before in
-    let after-is-side = after-is-matrix.before.before in
-    rw (met after-is-side.is-side.ensures after-is-matrix.before.if1.false, met after-is-matrix.is-matrix.ensures c.before.if2.false) (value c.trace.ensures)
+returns c =
+    let after-is-matrix = c in
+    let after-is-side = after-is-matrix in
+    rw (met after-is-side.is_side.ensures after-is-matrix.if-not-is_side.false, met after-is-matrix.is_matrix.ensures c.if-not-is_matrix.false) (value c.trace.ensures)
 
-pub mat-trace-spec : {M : Type 1} → statement M
-mat-trace-spec = tie.close (tie.spec (λ c κs. search rules) returns is-matrix-requires returns-2 trace-requires returns-3)
+pub mat_trace_spec : {M : Type 1} → statement M
+mat_trace_spec = tie.close (tie.spec (λ c κs. search rules) returns-then-not-is_side is_matrix-requires returns-then-not-is_matrix trace-requires returns)

@@ -7,32 +7,32 @@ use Rattle.dense.proofs.Answers.{value}
 use Rattle.linalg.proofs.generic.mat_trace_cube.Statement.{statement}
 use Rattle.linalg.proofs.generic.mat_trace_cube.Tie as tie
 
-returns : tie.Need-returns
+returns-then-not-is_side : tie.Need-returns-then-not-is_side
 unfolding mat_trace_cube
-returns c = rw (unmet c.before.is-side.ensures c.if1.true)
+returns-then-not-is_side c = rw (unmet c.is_side.ensures c.if-not-is_side.true)
 
-are-matrices-requires : tie.Need-are-matrices-requires
-are-matrices-requires c κs = two_squares c.before.before.before.before.args.n (met c.before.is-side.ensures c.if1.false)
+are_matrices-requires : tie.Need-are_matrices-requires
+are_matrices-requires c κs = two_squares c.args.n (met c.is_side.ensures c.if-not-is_side.false)
 
-returns-2 : tie.Need-returns-2
+returns-then-not-are_matrices : tie.Need-returns-then-not-are_matrices
 unfolding mat_trace_cube
-returns-2 c = rw (met c.before.before.before.is-side.ensures c.before.before.if1.false, unmet c.before.are-matrices.ensures c.if2.true)
+returns-then-not-are_matrices c = rw (met c.is_side.ensures c.if-not-is_side.false, unmet c.are_matrices.ensures c.if-not-are_matrices.true)
 
-trace-cube-product-requires : tie.Need-trace-cube-product-requires
-trace-cube-product-requires c κs =
-    let else1 = c.before.before in
-    let start = else1.before.before.before.before in
+trace_cube_product-requires : tie.Need-trace_cube_product-requires
+trace_cube_product-requires c κs =
+    let else1 = c in
+    let start = else1 in
     let x = start.args in
-    let s = met else1.before.is-side.ensures else1.if1.false in
-    let l = two-long x.a.now x.b.now (x.n * x.n) (x.n * x.n) (met c.before.are-matrices.ensures c.if2.false) in
+    let s = met else1.is_side.ensures else1.if-not-is_side.false in
+    let l = two-long x.a.now x.b.now (x.n * x.n) (x.n * x.n) (met c.are_matrices.ensures c.if-not-are_matrices.false) in
     (area x.n x.n s s, l.0, l.1)
 
-returns-3 : tie.Need-returns-3
+returns : tie.Need-returns
 unfolding mat_trace_cube
-returns-3 c =
-    let after-are-matrices = c.before.before in
-    let after-is-side = after-are-matrices.before.before in
-    rw (met after-is-side.is-side.ensures after-are-matrices.before.if1.false, met after-are-matrices.are-matrices.ensures c.before.if2.false) (value c.trace-cube-product.ensures)
+returns c =
+    let after-are-matrices = c in
+    let after-is-side = after-are-matrices in
+    rw (met after-is-side.is_side.ensures after-are-matrices.if-not-is_side.false, met after-are-matrices.are_matrices.ensures c.if-not-are_matrices.false) (value c.trace_cube_product.ensures)
 
-pub mat-trace-cube-spec : {M : Type 1} → statement M
-mat-trace-cube-spec = tie.close (tie.spec (λ c κs. search rules) returns are-matrices-requires returns-2 trace-cube-product-requires returns-3)
+pub mat_trace_cube_spec : {M : Type 1} → statement M
+mat_trace_cube_spec = tie.close (tie.spec (λ c κs. search rules) returns-then-not-is_side are_matrices-requires returns-then-not-are_matrices trace_cube_product-requires returns)

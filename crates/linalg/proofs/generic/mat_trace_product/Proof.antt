@@ -7,29 +7,29 @@ use Rattle.dense.proofs.Answers.{value}
 use Rattle.linalg.proofs.generic.mat_trace_product.Statement.{statement}
 use Rattle.linalg.proofs.generic.mat_trace_product.Tie as tie
 
+returns-then-not-is_side : tie.Need-returns-then-not-is_side
+unfolding mat_trace_product
+returns-then-not-is_side c = rw (unmet c.is_side.ensures c.if-not-is_side.true)
+
+are_matrices-requires : tie.Need-are_matrices-requires
+are_matrices-requires c κs = two_squares c.args.n (met c.is_side.ensures c.if-not-is_side.false)
+
+returns-then-not-are_matrices : tie.Need-returns-then-not-are_matrices
+unfolding mat_trace_product
+returns-then-not-are_matrices c = rw (met c.is_side.ensures c.if-not-is_side.false, unmet c.are_matrices.ensures c.if-not-are_matrices.true)
+
+trace_product-requires : tie.Need-trace_product-requires
+trace_product-requires c κs =
+    let start = c in
+    let x = start.args in
+    two-long x.a.now x.b.now (x.n * x.n) (x.n * x.n) (met c.are_matrices.ensures c.if-not-are_matrices.false)
+
 returns : tie.Need-returns
 unfolding mat_trace_product
-returns c = rw (unmet c.before.is-side.ensures c.if1.true)
+returns c =
+    let after-are-matrices = c in
+    let after-is-side = after-are-matrices in
+    rw (met after-is-side.is_side.ensures after-are-matrices.if-not-is_side.false, met after-are-matrices.are_matrices.ensures c.if-not-are_matrices.false) (value c.trace_product.ensures)
 
-are-matrices-requires : tie.Need-are-matrices-requires
-are-matrices-requires c κs = two_squares c.before.before.before.before.args.n (met c.before.is-side.ensures c.if1.false)
-
-returns-2 : tie.Need-returns-2
-unfolding mat_trace_product
-returns-2 c = rw (met c.before.before.before.is-side.ensures c.before.before.if1.false, unmet c.before.are-matrices.ensures c.if2.true)
-
-trace-product-requires : tie.Need-trace-product-requires
-trace-product-requires c κs =
-    let start = c.before.before.before.before.before.before in
-    let x = start.args in
-    two-long x.a.now x.b.now (x.n * x.n) (x.n * x.n) (met c.before.are-matrices.ensures c.if2.false)
-
-returns-3 : tie.Need-returns-3
-unfolding mat_trace_product
-returns-3 c =
-    let after-are-matrices = c.before.before in
-    let after-is-side = after-are-matrices.before.before in
-    rw (met after-is-side.is-side.ensures after-are-matrices.before.if1.false, met after-are-matrices.are-matrices.ensures c.before.if2.false) (value c.trace-product.ensures)
-
-pub mat-trace-product-spec : {M : Type 1} → statement M
-mat-trace-product-spec = tie.close (tie.spec (λ c κs. search rules) returns are-matrices-requires returns-2 trace-product-requires returns-3)
+pub mat_trace_product_spec : {M : Type 1} → statement M
+mat_trace_product_spec = tie.close (tie.spec (λ c κs. search rules) returns-then-not-is_side are_matrices-requires returns-then-not-are_matrices trace_product-requires returns)

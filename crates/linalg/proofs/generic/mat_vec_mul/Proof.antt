@@ -7,38 +7,38 @@ use Rattle.dense.proofs.Answers.{done}
 use Rattle.linalg.proofs.generic.mat_vec_mul.Statement.{statement}
 use Rattle.linalg.proofs.generic.mat_vec_mul.Tie as tie
 
-returns : tie.Need-returns
+returns-then-not-is_side : tie.Need-returns-then-not-is_side
 unfolding mat_vec_mul
-returns c = rw (unmet c.before.is-side.ensures c.if1.true)
+returns-then-not-is_side c = rw (unmet c.is_side.ensures c.if-not-is_side.true)
 
-is-system-requires : tie.Need-is-system-requires
-is-system-requires c κs =
-    let after-is-side = c.before.before in
-    let start = after-is-side.before.before.before.before in
+is_system-requires : tie.Need-is_system-requires
+is_system-requires c κs =
+    let after-is-side = c in
+    let start = after-is-side in
     let x = start.args in
-    let s = met after-is-side.is-side.ensures c.before.if1.false in
+    let s = met after-is-side.is_side.ensures c.if-not-is_side.false in
     area x.n x.n s s
 
-returns-2 : tie.Need-returns-2
+returns-then-not-is_system : tie.Need-returns-then-not-is_system
 unfolding mat_vec_mul
-returns-2 c = let else1 = c.before.before.before in rw (met else1.before.is-side.ensures else1.if1.false, unmet c.before.is-system.ensures c.if2.true)
+returns-then-not-is_system c = let else1 = c in rw (met else1.is_side.ensures else1.if-not-is_side.false, unmet c.is_system.ensures c.if-not-is_system.true)
 
-times-vector-by-width-requires : tie.Need-times-vector-by-width-requires
-times-vector-by-width-requires c κs =
-    let after-is-system = c.before.before in
-    let start = after-is-system.before.before.before.before.before.before.before in
+times_vector_by_width-requires : tie.Need-times_vector_by_width-requires
+times_vector_by_width-requires c κs =
+    let after-is-system = c in
+    let start = after-is-system in
     let x = start.args in
-    three-long x.a.now x.x.now x.out.now (x.n * x.n) x.n x.n (met after-is-system.is-system.ensures c.before.if2.false)
+    three-long x.a.now x.x.now x.out.now (x.n * x.n) x.n x.n (met after-is-system.is_system.ensures c.if-not-is_system.false)
 
-returns-3 : tie.Need-returns-3
+returns : tie.Need-returns
 unfolding mat_vec_mul
-returns-3 c =
-    let after-times-vector-by-width = c.before.before in
-    let else2 = after-times-vector-by-width.before.before in
-    let else1 = else2.before.before.before in
-    rw (met else1.before.is-side.ensures else1.if1.false, met else2.before.is-system.ensures else2.if2.false) (done after-times-vector-by-width.times-vector-by-width.ensures)
+returns c =
+    let after-times-vector-by-width = c in
+    let else2 = after-times-vector-by-width in
+    let else1 = else2 in
+    rw (met else1.is_side.ensures else1.if-not-is_side.false, met else2.is_system.ensures else2.if-not-is_system.false) (done after-times-vector-by-width.times_vector_by_width.ensures)
 
-pub mat-vec-mul-spec : {M : Type 1} → statement M
-mat-vec-mul-spec =
+pub mat_vec_mul_spec : {M : Type 1} → statement M
+mat_vec_mul_spec =
     tie.close
-    (tie.spec (λ c κs. search rules) returns is-system-requires (λ c. search rules) returns-2 times-vector-by-width-requires (λ c. search rules) returns-3)
+    (tie.spec (λ c κs. search rules) returns-then-not-is_side is_system-requires (λ c. search rules) returns-then-not-is_system times_vector_by_width-requires (λ c. search rules) returns)

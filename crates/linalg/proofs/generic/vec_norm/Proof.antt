@@ -6,23 +6,23 @@ use Rattle.dense.proofs.Answers.{value}
 use Rattle.linalg.proofs.generic.vec_norm.Statement.{statement}
 use Rattle.linalg.proofs.generic.vec_norm.Tie as tie
 
-returns : tie.Need-returns
+returns-then-not-is_side : tie.Need-returns-then-not-is_side
 unfolding vec_norm
-returns c = rw (unmet c.before.is-side.ensures c.if1.true)
+returns-then-not-is_side c = rw (unmet c.is_side.ensures c.if-not-is_side.true)
 
-returns-2 : tie.Need-returns-2
+returns-then-not-is_vector : tie.Need-returns-then-not-is_vector
 unfolding vec_norm
-returns-2 c = rw (met c.before.before.before.is-side.ensures c.before.before.if1.false, unmet c.before.is-vector.ensures c.if2.true)
+returns-then-not-is_vector c = rw (met c.is_side.ensures c.if-not-is_side.false, unmet c.is_vector.ensures c.if-not-is_vector.true)
 
 norm-requires : tie.Need-norm-requires
-norm-requires c κs = let start = c.before.before.before.before.before in long-length start.args.x.now start.args.n (met c.before.is-vector.ensures c.if2.false)
+norm-requires c κs = let start = c in long-length start.args.x.now start.args.n (met c.is_vector.ensures c.if-not-is_vector.false)
 
-returns-3 : tie.Need-returns-3
+returns : tie.Need-returns
 unfolding vec_norm
-returns-3 c =
-    let after-is-vector = c.before.before in
-    let after-is-side = after-is-vector.before.before in
-    rw (met after-is-side.is-side.ensures after-is-vector.before.if1.false, met after-is-vector.is-vector.ensures c.before.if2.false) (value c.norm.ensures)
+returns c =
+    let after-is-vector = c in
+    let after-is-side = after-is-vector in
+    rw (met after-is-side.is_side.ensures after-is-vector.if-not-is_side.false, met after-is-vector.is_vector.ensures c.if-not-is_vector.false) (value c.norm.ensures)
 
-pub vec-norm-spec : {M : Type 1} → statement M
-vec-norm-spec = tie.close (tie.spec (λ c κs. search rules) returns (λ c κs. search rules) returns-2 norm-requires returns-3)
+pub vec_norm_spec : {M : Type 1} → statement M
+vec_norm_spec = tie.close (tie.spec (λ c κs. search rules) returns-then-not-is_side (λ c κs. search rules) returns-then-not-is_vector norm-requires returns)

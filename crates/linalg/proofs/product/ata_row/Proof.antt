@@ -12,41 +12,41 @@ use Rattle.linalg.proofs.Symmetry.{ata-either}
 use Rattle.linalg.proofs.product.ata_row.Statement.{statement}
 use Rattle.linalg.proofs.product.ata_row.Tie as tie
 
-abbrev invariant-loop : tie.invariant-loop
-invariant-loop a m n i y sums₀ k₀ sums k = SumsInFront (λ j q. mul (at a n q i) (at a n q j)) m n k sums
+abbrev invariant-loop-k : tie.invariant-loop-k
+invariant-loop-k a m n i y sums₀ k₀ sums k = SumsInFront (λ j q. mul (at a n q i) (at a n q j)) m n k sums
 
-abbrev decreases-loop : tie.decreases-loop
-decreases-loop a m n i y sums₀ k₀ sums k = m - k
+abbrev decreases-loop-k : tie.decreases-loop-k
+decreases-loop-k a m n i y sums₀ k₀ sums k = m - k
 
-entry-requires : tie.Need-entry-requires invariant-loop decreases-loop
-entry-requires c κs = let start = c.before.before.before.before in omega (arith, cell start.args.m start.args.n c.loop-test.true start.requires.1)
+entry-requires : tie.Need-entry-requires invariant-loop-k decreases-loop-k
+entry-requires c κs = let start = c in omega (arith, cell start.args.m start.args.n c.loop-k-test.true start.requires.1)
 
-row-requires : tie.Need-row-requires invariant-loop decreases-loop
-row-requires c κs = let x = c.before.before.before.before.before.args in omega (arith, row_within x.m x.n c.before.loop-test.true)
+row-requires : tie.Need-row-requires invariant-loop-k decreases-loop-k
+row-requires c κs = let x = c.args in omega (arith, row_within x.m x.n c.loop-k-test.true)
 
-add-scaled-requires : tie.Need-add-scaled-requires invariant-loop decreases-loop
-add-scaled-requires c κs = (c.before.row.ensures.0, sums-lent c.before.before.before.before.loop.invariant)
+add_scaled-requires : tie.Need-add_scaled-requires invariant-loop-k decreases-loop-k
+add_scaled-requires c κs = (c.row.ensures.0, sums-lent c.loop-k.invariant)
 
-loop-again : tie.Need-loop-preserved invariant-loop decreases-loop
-loop-again c =
-    let after-row = c.before.before.before in
-    let turn = after-row.before.before in
-    let x = turn.before.before.before.before.args in
-    term_added turn.before.loop.invariant _ turn.loop-test.true c.before.add-scaled.ensures
-    (λ j h. scaled x.a.now x.n turn.before.loop.k j after-row.before.entry.ensures after-row.row.ensures.1 h)
+loop-k-preserved : tie.Need-loop-k-preserved invariant-loop-k decreases-loop-k
+loop-k-preserved c =
+    let after-row = c in
+    let turn = after-row in
+    let x = turn.args in
+    term_added turn.loop-k.invariant _ turn.loop-k-test.true c.add_scaled.ensures
+    (λ j h. scaled x.a.now x.n turn.loop-k.k j after-row.entry.ensures after-row.row.ensures.1 h)
 
-copy-requires : tie.Need-copy-requires invariant-loop decreases-loop
-copy-requires c κs = let at-loop = c.before.before.before in (sums-lent at-loop.loop.invariant, at-loop.before.before.before.requires.3)
+copy-requires : tie.Need-copy-requires invariant-loop-k decreases-loop-k
+copy-requires c κs = let at-loop = c in (sums-lent at-loop.loop-k.invariant, at-loop.requires.3)
 
-returns : tie.Need-returns invariant-loop decreases-loop
+returns : tie.Need-returns invariant-loop-k decreases-loop-k
 returns c =
-    let end = c.before.before.before.before.before in
-    let x = end.before.before.before.before.args in
-    c.before.before.copy.ensures ∙ every_term end.before.loop.invariant end.loop-test.false ∙ tabulate_ext _ _ _ (λ j h. ata-either x.a.now x.m x.n x.i j)
+    let end = c in
+    let x = end.args in
+    c.copy.ensures ∙ every_term end.loop-k.invariant end.loop-k-test.false ∙ tabulate_ext _ _ _ (λ j h. ata-either x.a.now x.m x.n x.i j)
 
-pub ata-row-spec : {M : Type 1} → statement M
-ata-row-spec =
+pub ata_row_spec : {M : Type 1} → statement M
+ata_row_spec =
     tie.close
-    (tie.spec invariant-loop decreases-loop (λ c. no_term (omega arith)) entry-requires row-requires (λ c. omega arith)
-    (λ c. sym (sums-lent c.before.before.before.before.loop.invariant)) add-scaled-requires (λ c. omega arith) (λ c. omega arith) loop-again
-    (λ c. omega arith) (λ c. sym (sums-lent c.before.before.loop.invariant)) copy-requires (λ c. search rules) returns)
+    (tie.spec invariant-loop-k decreases-loop-k (λ c. no_term (omega arith)) entry-requires row-requires (λ c. omega arith)
+    (λ c. sym (sums-lent c.loop-k.invariant)) add_scaled-requires (λ c. omega arith) (λ c. omega arith) loop-k-preserved
+    (λ c. omega arith) (λ c. sym (sums-lent c.loop-k.invariant)) copy-requires (λ c. search rules) returns)

@@ -7,29 +7,29 @@ use Rattle.dense.proofs.Rows.{RowByRow, RowFits, no_row, row_fits, row-lent, row
 use Rattle.linalg.proofs.product.product.Statement.{statement}
 use Rattle.linalg.proofs.product.product.Tie as tie
 
-abbrev invariant-loop : tie.invariant-loop
-invariant-loop a b m k n out₀ i₀ out i = RowByRow (product_entry a b k n) m n out₀ i out
+abbrev invariant-loop-i : tie.invariant-loop-i
+invariant-loop-i a b m k n out₀ i₀ out i = RowByRow (product_entry a b k n) m n out₀ i out
 
-abbrev decreases-loop : tie.decreases-loop
-decreases-loop a b m k n out₀ i₀ out i = m - i
+abbrev decreases-loop-i : tie.decreases-loop-i
+decreases-loop-i a b m k n out₀ i₀ out i = m - i
 
-fits : (c : tie.In-loop invariant-loop decreases-loop) → RowFits c.before.loop.invariant
-fits c = row_fits c.before.loop.invariant c.loop-test.true
+fits : (c : tie.In-loop-i invariant-loop-i decreases-loop-i) → RowFits c.loop-i.invariant
+fits c = row_fits c.loop-i.invariant c.loop-i-test.true
 
-product-row-requires : tie.Need-product-row-requires invariant-loop decreases-loop
-product-row-requires c κs =
-    let x = c.before.before.before.before.before.before.args in
-    (omega arith, omega (arith, row_within x.m x.k c.before.loop-test.true), omega arith, row-lent c.before.before.loop.invariant c.before.loop-test.true)
+product_row-requires : tie.Need-product_row-requires invariant-loop-i decreases-loop-i
+product_row-requires c κs =
+    let x = c.args in
+    (omega arith, omega (arith, row_within x.m x.k c.loop-i-test.true), omega arith, row-lent c.loop-i.invariant c.loop-i-test.true)
 
-loop-again : tie.Need-loop-preserved invariant-loop decreases-loop
-loop-again c = let turn = c.before.before.before.before in row_written turn.before.loop.invariant turn.loop-test.true c.before.before.product-row.ensures
+loop-i-preserved : tie.Need-loop-i-preserved invariant-loop-i decreases-loop-i
+loop-i-preserved c = let turn = c in row_written turn.loop-i.invariant turn.loop-i-test.true c.product_row.ensures
 
-returns : tie.Need-returns invariant-loop decreases-loop
+returns : tie.Need-returns invariant-loop-i decreases-loop-i
 unfolding product
-returns c = every_row c.before.loop.invariant c.loop-test.false
+returns c = every_row c.loop-i.invariant c.loop-i-test.false
 
-pub product-spec : {M : Type 1} → statement M
-product-spec =
+pub product_spec : {M : Type 1} → statement M
+product_spec =
     tie.close
-    (tie.spec invariant-loop decreases-loop (λ c. no_row (omega arith)) (λ c. omega (arith, fits c)) (λ c. omega (arith, fits c)) (λ c. omega (arith, fits c)) (λ c. omega arith)
-    (λ c. omega arith) (λ c. omega (arith, fits c)) product-row-requires (λ c. omega arith) (λ c. omega arith) loop-again (λ c. c.before.loop.invariant.rows.size) returns)
+    (tie.spec invariant-loop-i decreases-loop-i (λ c. no_row (omega arith)) (λ c. omega (arith, fits c)) (λ c. omega (arith, fits c)) (λ c. omega (arith, fits c)) (λ c. omega arith)
+    (λ c. omega arith) (λ c. omega (arith, fits c)) product_row-requires (λ c. omega arith) (λ c. omega arith) loop-i-preserved (λ c. c.loop-i.invariant.rows.size) returns)

@@ -11,35 +11,35 @@ use Rattle.dense.proofs.Sums.{SumsInFront, no_term, sums-lent, term_added, every
 use Rattle.linalg.proofs.product.product_row.Statement.{statement}
 use Rattle.linalg.proofs.product.product_row.Tie as tie
 
-abbrev invariant-loop : tie.invariant-loop
-invariant-loop a b k n i y sums₀ l₀ sums l = SumsInFront (λ j q. mul (at a k i q) (at b n q j)) k n l sums
+abbrev invariant-loop-l : tie.invariant-loop-l
+invariant-loop-l a b k n i y sums₀ l₀ sums l = SumsInFront (λ j q. mul (at a k i q) (at b n q j)) k n l sums
 
-abbrev decreases-loop : tie.decreases-loop
-decreases-loop a b k n i y sums₀ l₀ sums l = k - l
+abbrev decreases-loop-l : tie.decreases-loop-l
+decreases-loop-l a b k n i y sums₀ l₀ sums l = k - l
 
-row-requires : tie.Need-row-requires invariant-loop decreases-loop
-row-requires c κs = let x = c.before.before.before.before.before.before.args in omega (arith, row_within x.k x.n c.before.loop-test.true)
+row-requires : tie.Need-row-requires invariant-loop-l decreases-loop-l
+row-requires c κs = let x = c.args in omega (arith, row_within x.k x.n c.loop-l-test.true)
 
-add-scaled-requires : tie.Need-add-scaled-requires invariant-loop decreases-loop
-add-scaled-requires c κs = (c.before.row.ensures.0, sums-lent c.before.before.before.before.loop.invariant)
+add_scaled-requires : tie.Need-add_scaled-requires invariant-loop-l decreases-loop-l
+add_scaled-requires c κs = (c.row.ensures.0, sums-lent c.loop-l.invariant)
 
-loop-again : tie.Need-loop-preserved invariant-loop decreases-loop
-loop-again c =
-    let after-row = c.before.before.before in
-    let turn = after-row.before.before in
-    let x = turn.before.before.before.before.before.args in
-    term_added turn.before.loop.invariant _ turn.loop-test.true c.before.add-scaled.ensures
-    (λ j h. scaled x.b.now x.n turn.before.loop.l j after-row.before.entry.ensures after-row.row.ensures.1 h)
+loop-l-preserved : tie.Need-loop-l-preserved invariant-loop-l decreases-loop-l
+loop-l-preserved c =
+    let after-row = c in
+    let turn = after-row in
+    let x = turn.args in
+    term_added turn.loop-l.invariant _ turn.loop-l-test.true c.add_scaled.ensures
+    (λ j h. scaled x.b.now x.n turn.loop-l.l j after-row.entry.ensures after-row.row.ensures.1 h)
 
-copy-requires : tie.Need-copy-requires invariant-loop decreases-loop
-copy-requires c κs = let at-loop = c.before.before.before in (sums-lent at-loop.loop.invariant, at-loop.before.before.before.before.requires.3)
+copy-requires : tie.Need-copy-requires invariant-loop-l decreases-loop-l
+copy-requires c κs = let at-loop = c in (sums-lent at-loop.loop-l.invariant, at-loop.requires.3)
 
-returns : tie.Need-returns invariant-loop decreases-loop
-returns c = let end = c.before.before.before.before.before in c.before.before.copy.ensures ∙ every_term end.before.loop.invariant end.loop-test.false
+returns : tie.Need-returns invariant-loop-l decreases-loop-l
+returns c = let end = c in c.copy.ensures ∙ every_term end.loop-l.invariant end.loop-l-test.false
 
-pub product-row-spec : {M : Type 1} → statement M
-product-row-spec =
+pub product_row_spec : {M : Type 1} → statement M
+product_row_spec =
     tie.close
-    (tie.spec invariant-loop decreases-loop (λ c. no_term (omega arith)) (λ c κs. omega arith) row-requires (λ c. omega arith)
-    (λ c. sym (sums-lent c.before.before.before.before.loop.invariant)) add-scaled-requires (λ c. omega arith) (λ c. omega arith) loop-again
-    (λ c. omega arith) (λ c. sym (sums-lent c.before.before.loop.invariant)) copy-requires (λ c. search rules) returns)
+    (tie.spec invariant-loop-l decreases-loop-l (λ c. no_term (omega arith)) (λ c κs. omega arith) row-requires (λ c. omega arith)
+    (λ c. sym (sums-lent c.loop-l.invariant)) add_scaled-requires (λ c. omega arith) (λ c. omega arith) loop-l-preserved
+    (λ c. omega arith) (λ c. sym (sums-lent c.loop-l.invariant)) copy-requires (λ c. search rules) returns)

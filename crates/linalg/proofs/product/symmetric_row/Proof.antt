@@ -8,29 +8,29 @@ use Rattle.linalg.proofs.Symmetry.{mean}
 use Rattle.linalg.proofs.product.symmetric_row.Statement.{statement}
 use Rattle.linalg.proofs.product.symmetric_row.Tie as tie
 
-abbrev invariant-loop : tie.invariant-loop
-invariant-loop a n i y₀ j₀ y j = EntryByEntry (symmetric_entry a n i) n y₀ j y
+abbrev invariant-loop-j : tie.invariant-loop-j
+invariant-loop-j a n i y₀ j₀ y j = EntryByEntry (symmetric_entry a n i) n y₀ j y
 
-abbrev decreases-loop : tie.decreases-loop
-decreases-loop a n i y₀ j₀ y j = n - j
+abbrev decreases-loop-j : tie.decreases-loop-j
+decreases-loop-j a n i y₀ j₀ y j = n - j
 
-entry-requires : tie.Need-entry-requires invariant-loop decreases-loop
-entry-requires c κs = let start = c.before.before.before.before in inside start.args.n start.requires.1 start.requires.0 c.loop-test.true
+entry-requires : tie.Need-entry-requires invariant-loop-j decreases-loop-j
+entry-requires c κs = let start = c.before.before.before.before in inside start.args.n start.requires.1 start.requires.0 c.loop-j-test.true
 
-entry-requires-2 : tie.Need-entry-requires-2 invariant-loop decreases-loop
-entry-requires-2 c κs = let start = c.before.before.before.before.before in inside start.args.n start.requires.1 c.before.loop-test.true start.requires.0
+entry-requires-in-loop-j : tie.Need-entry-requires-in-loop-j invariant-loop-j decreases-loop-j
+entry-requires-in-loop-j c κs = let start = c.before.before.before.before.before in inside start.args.n start.requires.1 c.loop-j-test.true start.requires.0
 
-loop-again : tie.Need-loop-preserved invariant-loop decreases-loop
-loop-again c =
-    let turn = c.before.before in
-    let x = turn.before.before.before.before.args in
-    entry-written turn.before.loop.invariant turn.loop-test.true (mean x.a.now x.n x.i turn.before.loop.j c.before.entry.ensures c.entry2.ensures)
+loop-j-preserved : tie.Need-loop-j-preserved invariant-loop-j decreases-loop-j
+loop-j-preserved c =
+    let turn = c in
+    let x = turn.args in
+    entry-written turn.loop-j.invariant turn.loop-j-test.true (mean x.a.now x.n x.i turn.loop-j.j c.entry.ensures c.entry-in-loop-j.ensures)
 
-returns : tie.Need-returns invariant-loop decreases-loop
-returns c = every_entry c.before.loop.invariant c.loop-test.false
+returns : tie.Need-returns invariant-loop-j decreases-loop-j
+returns c = every_entry c.loop-j.invariant c.loop-j-test.false
 
-pub symmetric-row-spec : {M : Type 1} → statement M
-symmetric-row-spec =
+pub symmetric_row_spec : {M : Type 1} → statement M
+symmetric_row_spec =
     tie.close
-    (tie.spec invariant-loop decreases-loop (λ c. no_entry c.before.before.requires.2) entry-requires entry-requires-2 (λ c. omega arith) (λ c. omega arith)
-    (λ c. omega arith) (λ c. omega arith) loop-again (λ c. c.before.loop.invariant.entries.size) returns)
+    (tie.spec invariant-loop-j decreases-loop-j (λ c. no_entry c.requires.2) entry-requires entry-requires-in-loop-j (λ c. omega arith) (λ c. omega arith)
+    (λ c. omega arith) (λ c. omega arith) loop-j-preserved (λ c. c.loop-j.invariant.entries.size) returns)

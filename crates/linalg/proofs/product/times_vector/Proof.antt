@@ -9,27 +9,27 @@ use Rattle.dense.proofs.Laws.{row-sum}
 use Rattle.linalg.proofs.product.times_vector.Statement.{statement}
 use Rattle.linalg.proofs.product.times_vector.Tie as tie
 
-abbrev invariant-loop : tie.invariant-loop
-invariant-loop a x n y₀ i₀ y i = EntryByEntry (vector_entry a x n) n y₀ i y
+abbrev invariant-loop-i : tie.invariant-loop-i
+invariant-loop-i a x n y₀ i₀ y i = EntryByEntry (vector_entry a x n) n y₀ i y
 
-abbrev decreases-loop : tie.decreases-loop
-decreases-loop a x n y₀ i₀ y i = n - i
+abbrev decreases-loop-i : tie.decreases-loop-i
+decreases-loop-i a x n y₀ i₀ y i = n - i
 
-row-requires : tie.Need-row-requires invariant-loop decreases-loop
-row-requires c κs = let start = c.before.before.before.before.before in omega (arith, row_within start.args.n start.args.n {i = c.before.loop.i} (omega arith))
+row-requires : tie.Need-row-requires invariant-loop-i decreases-loop-i
+row-requires c κs = let start = c in omega (arith, row_within start.args.n start.args.n {i = c.loop-i.i} (omega arith))
 
-loop-again : tie.Need-loop-preserved invariant-loop decreases-loop
-loop-again c =
-    let turn = c.before.before in
-    let x = turn.before.before.before.before.before.args in
-    entry-written turn.before.loop.invariant turn.loop-test.true (c.dot.ensures ∙ row-sum x.a.now x.x.now x.n turn.before.loop.i c.before.row.ensures.1)
+loop-i-preserved : tie.Need-loop-i-preserved invariant-loop-i decreases-loop-i
+loop-i-preserved c =
+    let turn = c in
+    let x = turn.args in
+    entry-written turn.loop-i.invariant turn.loop-i-test.true (c.dot.ensures ∙ row-sum x.a.now x.x.now x.n turn.loop-i.i c.row.ensures.1)
 
-returns : tie.Need-returns invariant-loop decreases-loop
+returns : tie.Need-returns invariant-loop-i decreases-loop-i
 unfolding times
-returns c = every_entry c.before.loop.invariant c.loop-test.false
+returns c = every_entry c.loop-i.invariant c.loop-i-test.false
 
-pub times-vector-spec : {M : Type 1} → statement M
-times-vector-spec =
+pub times_vector_spec : {M : Type 1} → statement M
+times_vector_spec =
     tie.close
-    (tie.spec invariant-loop decreases-loop (λ c. no_entry c.before.before.before.requires.2) row-requires (λ c κs. omega arith) (λ c. omega arith) (λ c. omega arith)
-    (λ c. omega arith) (λ c. omega arith) loop-again (λ c. c.before.loop.invariant.entries.size) returns)
+    (tie.spec invariant-loop-i decreases-loop-i (λ c. no_entry c.requires.2) row-requires (λ c κs. omega arith) (λ c. omega arith) (λ c. omega arith)
+    (λ c. omega arith) (λ c. omega arith) loop-i-preserved (λ c. c.loop-i.invariant.entries.size) returns)

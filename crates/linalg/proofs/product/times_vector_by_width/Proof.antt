@@ -3,26 +3,26 @@ use borrow.Author.Rules.{rules}
 use Rattle.linalg.proofs.product.times_vector_by_width.Statement.{statement}
 use Rattle.linalg.proofs.product.times_vector_by_width.Tie as tie
 
-times-vector-requires : tie.Need-times-vector-requires
-times-vector-requires c κs = rw c.before.if1.true at c.before.before.before.before.before.requires
+times_vector-requires : tie.Need-times_vector-requires
+times_vector-requires c κs = rw c.if-n-eq6.true at c.requires
 
-returns : tie.Need-returns
-returns c = rw c.before.before.before.before.if1.true c.before.before.times-vector.ensures
+returns-then-n-eq6 : tie.Need-returns-then-n-eq6
+returns-then-n-eq6 c = rw c.if-n-eq6.true c.times_vector.ensures
 
-times-vector-requires-2 : tie.Need-times-vector-requires-2
-times-vector-requires-2 c κs = let start = c.before.before.before.before.before.before in rw c.before.if2.true at start.requires
+times_vector-requires-then-n-eq9 : tie.Need-times_vector-requires-then-n-eq9
+times_vector-requires-then-n-eq9 c κs = let start = c in rw c.if-n-eq9.true at start.requires
 
-returns-2 : tie.Need-returns-2
-returns-2 c = rw c.before.before.before.before.if2.true c.before.before.times-vector2.ensures
+returns-then-n-eq9 : tie.Need-returns-then-n-eq9
+returns-then-n-eq9 c = rw c.if-n-eq9.true c.times_vector-then-n-eq9.ensures
 
-times-vector-requires-3 : tie.Need-times-vector-requires-3
-times-vector-requires-3 c κs = let start = c.before.before.before.before.before.before.before in rw c.before.if3.true at start.requires
+times_vector-requires-then-n-eq16 : tie.Need-times_vector-requires-then-n-eq16
+times_vector-requires-then-n-eq16 c κs = let start = c in rw c.if-n-eq16.true at start.requires
 
-returns-3 : tie.Need-returns-3
-returns-3 c = rw c.before.before.before.before.if3.true c.before.before.times-vector3.ensures
+returns-then-n-eq16 : tie.Need-returns-then-n-eq16
+returns-then-n-eq16 c = rw c.if-n-eq16.true c.times_vector-then-n-eq16.ensures
 
-pub times-vector-by-width-spec : {M : Type 1} → statement M
-times-vector-by-width-spec =
+pub times_vector_by_width_spec : {M : Type 1} → statement M
+times_vector_by_width_spec =
     tie.close
-    (tie.spec times-vector-requires (λ c. search rules) returns times-vector-requires-2 (λ c. search rules) returns-2 times-vector-requires-3
-    (λ c. search rules) returns-3 (λ c κs. search rules) (λ c. search rules) (λ c. search rules))
+    (tie.spec times_vector-requires (λ c. search rules) returns-then-n-eq6 times_vector-requires-then-n-eq9 (λ c. search rules) returns-then-n-eq9 times_vector-requires-then-n-eq16
+    (λ c. search rules) returns-then-n-eq16 (λ c κs. search rules) (λ c. search rules) (λ c. search rules))

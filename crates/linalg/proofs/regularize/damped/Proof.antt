@@ -6,27 +6,27 @@ use Rattle.dense.proofs.Rows.{RowByRow, RowFits, no_row, row_fits, row-lent, row
 use Rattle.linalg.proofs.regularize.damped.Statement.{statement}
 use Rattle.linalg.proofs.regularize.damped.Tie as tie
 
-abbrev invariant-loop : tie.invariant-loop
-invariant-loop a alpha n out₀ i₀ out i = RowByRow (damped_entry a n alpha) n n out₀ i out
+abbrev invariant-loop-i : tie.invariant-loop-i
+invariant-loop-i a alpha n out₀ i₀ out i = RowByRow (damped_entry a n alpha) n n out₀ i out
 
-abbrev decreases-loop : tie.decreases-loop
-decreases-loop a alpha n out₀ i₀ out i = n - i
+abbrev decreases-loop-i : tie.decreases-loop-i
+decreases-loop-i a alpha n out₀ i₀ out i = n - i
 
-fits : (c : tie.In-loop invariant-loop decreases-loop) → RowFits c.before.loop.invariant
-fits c = row_fits c.before.loop.invariant c.loop-test.true
+fits : (c : tie.In-loop-i invariant-loop-i decreases-loop-i) → RowFits c.loop-i.invariant
+fits c = row_fits c.loop-i.invariant c.loop-i-test.true
 
-damped-row-requires : tie.Need-damped-row-requires invariant-loop decreases-loop
-damped-row-requires c κs = (omega arith, omega arith, row-lent c.before.before.loop.invariant c.before.loop-test.true)
+damped_row-requires : tie.Need-damped_row-requires invariant-loop-i decreases-loop-i
+damped_row-requires c κs = (omega arith, omega arith, row-lent c.loop-i.invariant c.loop-i-test.true)
 
-loop-again : tie.Need-loop-preserved invariant-loop decreases-loop
-loop-again c = let turn = c.before.before.before.before in row_written turn.before.loop.invariant turn.loop-test.true c.before.before.damped-row.ensures
+loop-i-preserved : tie.Need-loop-i-preserved invariant-loop-i decreases-loop-i
+loop-i-preserved c = let turn = c in row_written turn.loop-i.invariant turn.loop-i-test.true c.damped_row.ensures
 
-returns : tie.Need-returns invariant-loop decreases-loop
+returns : tie.Need-returns invariant-loop-i decreases-loop-i
 unfolding damped
-returns c = every_row c.before.loop.invariant c.loop-test.false
+returns c = every_row c.loop-i.invariant c.loop-i-test.false
 
-pub damped-spec : {M : Type 1} → statement M
-damped-spec =
+pub damped_spec : {M : Type 1} → statement M
+damped_spec =
     tie.close
-    (tie.spec invariant-loop decreases-loop (λ c. no_row (omega arith)) (λ c. omega (arith, fits c)) (λ c. omega (arith, fits c)) (λ c. omega (arith, fits c)) (λ c. omega arith)
-    (λ c. omega arith) (λ c. omega (arith, fits c)) damped-row-requires (λ c. omega arith) (λ c. omega arith) loop-again (λ c. c.before.loop.invariant.rows.size) returns)
+    (tie.spec invariant-loop-i decreases-loop-i (λ c. no_row (omega arith)) (λ c. omega (arith, fits c)) (λ c. omega (arith, fits c)) (λ c. omega (arith, fits c)) (λ c. omega arith)
+    (λ c. omega arith) (λ c. omega (arith, fits c)) damped_row-requires (λ c. omega arith) (λ c. omega arith) loop-i-preserved (λ c. c.loop-i.invariant.rows.size) returns)

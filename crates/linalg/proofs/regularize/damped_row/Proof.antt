@@ -28,23 +28,23 @@ on_diagonal a n i alpha y h e r = by_entries n _ _ (length-set y i _ ∙ e) (λ 
     go q k (no s) = get_or-set_other y i q (add (nth y i) alpha) nan (λ w. s (sym w)) ∙ rw (ne_eqb i q s, entry q k)
 
 row-requires : tie.Need-row-requires
-row-requires c κs = let start = c.before.before in omega (arith, row_within start.args.n start.args.n start.requires.0)
+row-requires c κs = let start = c in omega (arith, row_within start.args.n start.args.n start.requires.0)
 
 -- the row that is copied has n entries
-size : (c : tie.After-copy) → length c.copy.new.1.1.0 ≡ c.before.before.before.before.before.args.n
-size c = c.copy.auto.1.1.0 ∙ c.before.before.before.before.before.requires.2
+size : (c : tie.After-copy) → length c.copy.new.y ≡ c.args.n
+size c = c.copy.auto.y ∙ c.requires.2
 
 returns : tie.Need-returns
 returns c =
-    let after-copy = c.before.before.before in
-    let after-row = after-copy.before.before in
-    let start = after-row.before.before.before in
+    let after-copy = c in
+    let after-row = after-copy in
+    let start = after-row in
     let x = start.args in
-    on_diagonal x.a.now x.n x.i x.alpha _ start.requires.0 (size after-copy) (after-copy.copy.ensures ∙ after-row.row.ensures.1)
+    on_diagonal x.a.now x.n x.i x.alpha _ start.requires.0 (size c.before.before.before) (after-copy.copy.ensures ∙ after-row.row.ensures.1)
 
-pub damped-row-spec : {M : Type 1} → statement M
-damped-row-spec =
+pub damped_row_spec : {M : Type 1} → statement M
+damped_row_spec =
     tie.close
     (tie.spec row-requires (λ c κs. omega arith) (λ c. omega (arith, size c.before.before)) (λ c. omega (arith, size c.before.before.before))
     (λ c. omega (arith, size c.before.before.before)) (λ c. omega (arith, size c.before.before.before))
-    (λ c. simp length-set c.before.before.before.copy.auto.1.1.0) returns)
+    (λ c. simp length-set c.copy.auto.y) returns)

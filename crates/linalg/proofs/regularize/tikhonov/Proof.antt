@@ -7,33 +7,33 @@ use Rattle.dense.proofs.Answers.{done}
 use Rattle.linalg.proofs.regularize.tikhonov.Statement.{statement}
 use Rattle.linalg.proofs.regularize.tikhonov.Tie as tie
 
-returns : tie.Need-returns
+returns-then-not-is_side : tie.Need-returns-then-not-is_side
 unfolding tikhonov
-returns c = rw (unmet c.before.is-side.ensures c.if1.true)
+returns-then-not-is_side c = rw (unmet c.is_side.ensures c.if-not-is_side.true)
 
-are-matrices-requires : tie.Need-are-matrices-requires
-are-matrices-requires c κs = two_squares c.before.before.before.before.before.args.n (met c.before.before.is-side.ensures c.before.if1.false)
+are_matrices-requires : tie.Need-are_matrices-requires
+are_matrices-requires c κs = two_squares c.args.n (met c.is_side.ensures c.if-not-is_side.false)
 
-returns-2 : tie.Need-returns-2
+returns-then-not-are_matrices : tie.Need-returns-then-not-are_matrices
 unfolding tikhonov
-returns-2 c = let else1 = c.before.before.before in rw (met else1.before.is-side.ensures else1.if1.false, unmet c.before.are-matrices.ensures c.if2.true)
+returns-then-not-are_matrices c = let else1 = c in rw (met else1.is_side.ensures else1.if-not-is_side.false, unmet c.are_matrices.ensures c.if-not-are_matrices.true)
 
 damped-requires : tie.Need-damped-requires
 damped-requires c κs =
-    let after-are-matrices = c.before.before in
-    let start = after-are-matrices.before.before.before.before.before.before in
+    let after-are-matrices = c in
+    let start = after-are-matrices in
     let x = start.args in
-    two-long x.cov.now x.out.now (x.n * x.n) (x.n * x.n) (met after-are-matrices.are-matrices.ensures c.before.if2.false)
+    two-long x.cov.now x.out.now (x.n * x.n) (x.n * x.n) (met after-are-matrices.are_matrices.ensures c.if-not-are_matrices.false)
 
-returns-3 : tie.Need-returns-3
+returns : tie.Need-returns
 unfolding tikhonov
-returns-3 c =
-    let after-damped = c.before.before in
-    let else2 = after-damped.before.before in
-    let else1 = else2.before.before.before in
-    rw (met else1.before.is-side.ensures else1.if1.false, met else2.before.are-matrices.ensures else2.if2.false) (done after-damped.damped.ensures)
+returns c =
+    let after-damped = c in
+    let else2 = after-damped in
+    let else1 = else2 in
+    rw (met else1.is_side.ensures else1.if-not-is_side.false, met else2.are_matrices.ensures else2.if-not-are_matrices.false) (done after-damped.damped.ensures)
 
-pub tikhonov-spec : {M : Type 1} → statement M
-tikhonov-spec =
+pub tikhonov_spec : {M : Type 1} → statement M
+tikhonov_spec =
     tie.close
-    (tie.spec (λ c κs. search rules) returns are-matrices-requires (λ c. search rules) returns-2 damped-requires (λ c. search rules) returns-3)
+    (tie.spec (λ c κs. search rules) returns-then-not-is_side are_matrices-requires (λ c. search rules) returns-then-not-are_matrices damped-requires (λ c. search rules) returns)

@@ -9,36 +9,36 @@ use Rattle.dense.proofs.Laws.{inside}
 use Rattle.linalg.proofs.sums.cube_cell.Statement.{statement}
 use Rattle.linalg.proofs.sums.cube_cell.Tie as tie
 
-abbrev invariant-loop : tie.invariant-loop
-invariant-loop start m n i j s₀ k₀ s k = AfterTurns (λ l. sum_from start l (λ q. mul (mul (at m n i j) (at m n j q)) (at m n q i))) n k s
+abbrev invariant-loop-k : tie.invariant-loop-k
+invariant-loop-k start m n i j s₀ k₀ s k = AfterTurns (λ l. sum_from start l (λ q. mul (mul (at m n i j) (at m n j q)) (at m n q i))) n k s
 
-abbrev decreases-loop : tie.decreases-loop
-decreases-loop start m n i j s₀ k₀ s k = n - k
+abbrev decreases-loop-k : tie.decreases-loop-k
+decreases-loop-k start m n i j s₀ k₀ s k = n - k
 
-loop-holds : tie.Need-loop-init invariant-loop decreases-loop
+loop-k-init : tie.Need-loop-k-init invariant-loop-k decreases-loop-k
 unfolding sum_from
-loop-holds c = turns_none refl
+loop-k-init c = turns_none refl
 
-entry-requires : tie.Need-entry-requires invariant-loop decreases-loop
+entry-requires : tie.Need-entry-requires invariant-loop-k decreases-loop-k
 entry-requires c κs = let start = c.before.before.before in inside start.args.n start.requires.matrix start.requires.row start.requires.column
 
-entry-requires-2 : tie.Need-entry-requires-2 invariant-loop decreases-loop
-entry-requires-2 c κs = let start = c.before.before.before.before in inside start.args.n start.requires.matrix start.requires.column c.before.loop-test.true
+entry-requires-in-loop-k : tie.Need-entry-requires-in-loop-k invariant-loop-k decreases-loop-k
+entry-requires-in-loop-k c κs = let start = c.before.before.before.before in inside start.args.n start.requires.matrix start.requires.column c.loop-k-test.true
 
-entry-requires-3 : tie.Need-entry-requires-3 invariant-loop decreases-loop
-entry-requires-3 c κs = let start = c.before.before.before.before.before in inside start.args.n start.requires.matrix c.before.before.loop-test.true start.requires.row
+entry-requires-in-loop-k-2 : tie.Need-entry-requires-in-loop-k-2 invariant-loop-k decreases-loop-k
+entry-requires-in-loop-k-2 c κs = let start = c.before.before.before.before.before in inside start.args.n start.requires.matrix c.loop-k-test.true start.requires.row
 
-loop-again : tie.Need-loop-preserved invariant-loop decreases-loop
+loop-k-preserved : tie.Need-loop-k-preserved invariant-loop-k decreases-loop-k
 unfolding sum_from
-loop-again c =
-    let after-entry = c.before.before in
-    let turn = after-entry.before in
-    turns_more turn.before.loop.invariant turn.loop-test.true (λ e. rw (e, after-entry.entry.ensures, c.before.entry2.ensures, c.entry3.ensures))
+loop-k-preserved c =
+    let after-entry = c in
+    let turn = after-entry in
+    turns_more turn.loop-k.invariant turn.loop-k-test.true (λ e. rw (e, after-entry.entry.ensures, c.entry-in-loop-k.ensures, c.entry-in-loop-k-2.ensures))
 
-returns : tie.Need-returns invariant-loop decreases-loop
-returns c = turns_all c.before.loop.invariant c.loop-test.false
+returns : tie.Need-returns invariant-loop-k decreases-loop-k
+returns c = turns_all c.loop-k.invariant c.loop-k-test.false
 
-pub cube-cell-spec : {M : Type 1} → statement M
-cube-cell-spec =
+pub cube_cell_spec : {M : Type 1} → statement M
+cube_cell_spec =
     tie.close
-    (tie.spec invariant-loop decreases-loop loop-holds entry-requires entry-requires-2 entry-requires-3 (λ c. omega arith) (λ c. omega arith) loop-again returns)
+    (tie.spec invariant-loop-k decreases-loop-k loop-k-init entry-requires entry-requires-in-loop-k entry-requires-in-loop-k-2 (λ c. omega arith) (λ c. omega arith) loop-k-preserved returns)

@@ -14,22 +14,22 @@ use Rattle.linalg.proofs.sums.cube_row.Tie as tie
 abbrev term : List Float → ℕ → ℕ → ℕ → ℕ → Float
 term m n i j k = mul (mul (at m n i j) (at m n j k)) (at m n k i)
 
-abbrev invariant-loop : tie.invariant-loop
-invariant-loop start m n i s₀ j₀ s j = AfterTurns (λ l. sum_rows_from start l n (term m n i)) n j s
+abbrev invariant-loop-j : tie.invariant-loop-j
+invariant-loop-j start m n i s₀ j₀ s j = AfterTurns (λ l. sum_rows_from start l n (term m n i)) n j s
 
-abbrev decreases-loop : tie.decreases-loop
-decreases-loop start m n i s₀ j₀ s j = n - j
+abbrev decreases-loop-j : tie.decreases-loop-j
+decreases-loop-j start m n i s₀ j₀ s j = n - j
 
-loop-holds : tie.Need-loop-init invariant-loop decreases-loop
+loop-j-init : tie.Need-loop-j-init invariant-loop-j decreases-loop-j
 unfolding sum_rows_from
-loop-holds c = turns_none refl
+loop-j-init c = turns_none refl
 
-loop-again : tie.Need-loop-preserved invariant-loop decreases-loop
+loop-j-preserved : tie.Need-loop-j-preserved invariant-loop-j decreases-loop-j
 unfolding sum_rows_from
-loop-again c = turns_more c.before.before.loop.invariant c.before.loop-test.true (λ e. c.cube-cell.ensures ∙ rw e)
+loop-j-preserved c = turns_more c.loop-j.invariant c.loop-j-test.true (λ e. c.cube_cell-s.ensures ∙ rw e)
 
-returns : tie.Need-returns invariant-loop decreases-loop
-returns c = turns_all c.before.loop.invariant c.loop-test.false
+returns : tie.Need-returns invariant-loop-j decreases-loop-j
+returns c = turns_all c.loop-j.invariant c.loop-j-test.false
 
-pub cube-row-spec : {M : Type 1} → statement M
-cube-row-spec = tie.close (tie.spec invariant-loop decreases-loop loop-holds (λ c κs. search rules) (λ c. omega arith) (λ c. omega arith) loop-again returns)
+pub cube_row_spec : {M : Type 1} → statement M
+cube_row_spec = tie.close (tie.spec invariant-loop-j decreases-loop-j loop-j-init (λ c κs. search rules) (λ c. omega arith) (λ c. omega arith) loop-j-preserved returns)

@@ -9,28 +9,28 @@ use Rattle.dense.proofs.Laws.{inside}
 use Rattle.linalg.proofs.sums.form_row.Statement.{statement}
 use Rattle.linalg.proofs.sums.form_row.Tie as tie
 
-abbrev invariant-loop : tie.invariant-loop
-invariant-loop start x a n i s₀ j₀ s j = AfterTurns (λ l. sum_from start l (λ q. mul (mul (nth x i) (at a n i q)) (nth x q))) n j s
+abbrev invariant-loop-j : tie.invariant-loop-j
+invariant-loop-j start x a n i s₀ j₀ s j = AfterTurns (λ l. sum_from start l (λ q. mul (mul (nth x i) (at a n i q)) (nth x q))) n j s
 
-abbrev decreases-loop : tie.decreases-loop
-decreases-loop start x a n i s₀ j₀ s j = n - j
+abbrev decreases-loop-j : tie.decreases-loop-j
+decreases-loop-j start x a n i s₀ j₀ s j = n - j
 
-loop-holds : tie.Need-loop-init invariant-loop decreases-loop
+loop-j-init : tie.Need-loop-j-init invariant-loop-j decreases-loop-j
 unfolding sum_from
-loop-holds c = turns_none refl
+loop-j-init c = turns_none refl
 
-entry-requires : tie.Need-entry-requires invariant-loop decreases-loop
-entry-requires c κs = let start = c.before.before.before.before.before in inside start.args.n start.requires.2 start.requires.0 c.before.loop-test.true
+entry-requires : tie.Need-entry-requires invariant-loop-j decreases-loop-j
+entry-requires c κs = let start = c.before.before.before.before.before in inside start.args.n start.requires.2 start.requires.0 c.loop-j-test.true
 
-loop-again : tie.Need-loop-preserved invariant-loop decreases-loop
+loop-j-preserved : tie.Need-loop-j-preserved invariant-loop-j decreases-loop-j
 unfolding sum_from
-loop-again c = turns_more c.before.before.before.before.loop.invariant c.before.before.before.loop-test.true (λ e. rw (e, c.before.entry.ensures))
+loop-j-preserved c = turns_more c.loop-j.invariant c.loop-j-test.true (λ e. rw (e, c.entry.ensures))
 
-returns : tie.Need-returns invariant-loop decreases-loop
-returns c = turns_all c.before.loop.invariant c.loop-test.false
+returns : tie.Need-returns invariant-loop-j decreases-loop-j
+returns c = turns_all c.loop-j.invariant c.loop-j-test.false
 
-pub form-row-spec : {M : Type 1} → statement M
-form-row-spec =
+pub form_row_spec : {M : Type 1} → statement M
+form_row_spec =
     tie.close
-    (tie.spec invariant-loop decreases-loop loop-holds (λ c. omega arith) (λ c. omega arith) entry-requires (λ c. omega arith) (λ c. omega arith) (λ c. omega arith)
-    (λ c. omega arith) loop-again returns)
+    (tie.spec invariant-loop-j decreases-loop-j loop-j-init (λ c. omega arith) (λ c. omega arith) entry-requires (λ c. omega arith) (λ c. omega arith) (λ c. omega arith)
+    (λ c. omega arith) loop-j-preserved returns)

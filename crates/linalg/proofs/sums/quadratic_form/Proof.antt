@@ -15,23 +15,23 @@ use Rattle.linalg.proofs.sums.quadratic_form.Tie as tie
 abbrev term : List Float → List Float → ℕ → ℕ → ℕ → Float
 term x a n i j = mul (mul (nth x i) (at a n i j)) (nth x j)
 
-abbrev invariant-loop : tie.invariant-loop
-invariant-loop x a n s₀ i₀ s i = AfterTurns (λ l. sum_rows_from nought l n (term x a n)) n i s
+abbrev invariant-loop-i : tie.invariant-loop-i
+invariant-loop-i x a n s₀ i₀ s i = AfterTurns (λ l. sum_rows_from nought l n (term x a n)) n i s
 
-abbrev decreases-loop : tie.decreases-loop
-decreases-loop x a n s₀ i₀ s i = n - i
+abbrev decreases-loop-i : tie.decreases-loop-i
+decreases-loop-i x a n s₀ i₀ s i = n - i
 
-loop-holds : tie.Need-loop-init invariant-loop decreases-loop
+loop-i-init : tie.Need-loop-i-init invariant-loop-i decreases-loop-i
 unfolding sum_rows_from
-loop-holds c = turns_none refl
+loop-i-init c = turns_none refl
 
-loop-again : tie.Need-loop-preserved invariant-loop decreases-loop
+loop-i-preserved : tie.Need-loop-i-preserved invariant-loop-i decreases-loop-i
 unfolding sum_rows_from
-loop-again c = turns_more c.before.before.loop.invariant c.before.loop-test.true (λ e. c.form-row.ensures ∙ rw e)
+loop-i-preserved c = turns_more c.loop-i.invariant c.loop-i-test.true (λ e. c.form_row-s.ensures ∙ rw e)
 
-returns : tie.Need-returns invariant-loop decreases-loop
+returns : tie.Need-returns invariant-loop-i decreases-loop-i
 unfolding quadratic_form
-returns c = turns_all c.before.loop.invariant c.loop-test.false
+returns c = turns_all c.loop-i.invariant c.loop-i-test.false
 
-pub quadratic-form-spec : {M : Type 1} → statement M
-quadratic-form-spec = tie.close (tie.spec invariant-loop decreases-loop loop-holds (λ c κs. omega arith) (λ c. omega arith) (λ c. omega arith) loop-again returns)
+pub quadratic_form_spec : {M : Type 1} → statement M
+quadratic_form_spec = tie.close (tie.spec invariant-loop-i decreases-loop-i loop-i-init (λ c κs. omega arith) (λ c. omega arith) (λ c. omega arith) loop-i-preserved returns)

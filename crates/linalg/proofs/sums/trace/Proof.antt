@@ -8,25 +8,25 @@ use Rattle.dense.proofs.Laws.{inside}
 use Rattle.linalg.proofs.sums.trace.Statement.{statement}
 use Rattle.linalg.proofs.sums.trace.Tie as tie
 
-abbrev invariant-loop : tie.invariant-loop
-invariant-loop a n s₀ i₀ s i = AfterTurns (λ l. total l (λ q. at a n q q)) n i s
+abbrev invariant-loop-i : tie.invariant-loop-i
+invariant-loop-i a n s₀ i₀ s i = AfterTurns (λ l. total l (λ q. at a n q q)) n i s
 
-abbrev decreases-loop : tie.decreases-loop
-decreases-loop a n s₀ i₀ s i = n - i
+abbrev decreases-loop-i : tie.decreases-loop-i
+decreases-loop-i a n s₀ i₀ s i = n - i
 
-loop-holds : tie.Need-loop-init invariant-loop decreases-loop
+loop-i-init : tie.Need-loop-i-init invariant-loop-i decreases-loop-i
 unfolding sum_from
-loop-holds c = turns_none refl
+loop-i-init c = turns_none refl
 
-entry-requires : tie.Need-entry-requires invariant-loop decreases-loop
-entry-requires c κs = let start = c.before.before.before in inside start.args.n start.requires c.loop-test.true c.loop-test.true
+entry-s-requires : tie.Need-entry-s-requires invariant-loop-i decreases-loop-i
+entry-s-requires c κs = let start = c.before.before.before in inside start.args.n start.requires c.loop-i-test.true c.loop-i-test.true
 
-loop-again : tie.Need-loop-preserved invariant-loop decreases-loop
+loop-i-preserved : tie.Need-loop-i-preserved invariant-loop-i decreases-loop-i
 unfolding sum_from
-loop-again c = turns_more c.before.before.loop.invariant c.before.loop-test.true (λ e. rw (e, c.entry.ensures))
+loop-i-preserved c = turns_more c.loop-i.invariant c.loop-i-test.true (λ e. rw (e, c.entry-s.ensures))
 
-returns : tie.Need-returns invariant-loop decreases-loop
-returns c = turns_all c.before.loop.invariant c.loop-test.false
+returns : tie.Need-returns invariant-loop-i decreases-loop-i
+returns c = turns_all c.loop-i.invariant c.loop-i-test.false
 
-pub trace-spec : {M : Type 1} → statement M
-trace-spec = tie.close (tie.spec invariant-loop decreases-loop loop-holds entry-requires (λ c. omega arith) (λ c. omega arith) loop-again returns)
+pub trace_spec : {M : Type 1} → statement M
+trace_spec = tie.close (tie.spec invariant-loop-i decreases-loop-i loop-i-init entry-s-requires (λ c. omega arith) (λ c. omega arith) loop-i-preserved returns)

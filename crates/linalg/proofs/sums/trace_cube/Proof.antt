@@ -15,23 +15,23 @@ use Rattle.linalg.proofs.sums.trace_cube.Tie as tie
 abbrev term : List Float → ℕ → ℕ → ℕ → ℕ → Float
 term m n i j k = mul (mul (at m n i j) (at m n j k)) (at m n k i)
 
-abbrev invariant-loop : tie.invariant-loop
-invariant-loop m n s₀ i₀ s i = AfterTurns (λ l. sum_planes_from nought l n n (term m n)) n i s
+abbrev invariant-loop-i : tie.invariant-loop-i
+invariant-loop-i m n s₀ i₀ s i = AfterTurns (λ l. sum_planes_from nought l n n (term m n)) n i s
 
-abbrev decreases-loop : tie.decreases-loop
-decreases-loop m n s₀ i₀ s i = n - i
+abbrev decreases-loop-i : tie.decreases-loop-i
+decreases-loop-i m n s₀ i₀ s i = n - i
 
-loop-holds : tie.Need-loop-init invariant-loop decreases-loop
+loop-i-init : tie.Need-loop-i-init invariant-loop-i decreases-loop-i
 unfolding sum_planes_from
-loop-holds c = turns_none refl
+loop-i-init c = turns_none refl
 
-loop-again : tie.Need-loop-preserved invariant-loop decreases-loop
+loop-i-preserved : tie.Need-loop-i-preserved invariant-loop-i decreases-loop-i
 unfolding sum_planes_from
-loop-again c = turns_more c.before.before.loop.invariant c.before.loop-test.true (λ e. c.cube-row.ensures ∙ rw e)
+loop-i-preserved c = turns_more c.loop-i.invariant c.loop-i-test.true (λ e. c.cube_row-s.ensures ∙ rw e)
 
-returns : tie.Need-returns invariant-loop decreases-loop
+returns : tie.Need-returns invariant-loop-i decreases-loop-i
 unfolding trace_cube
-returns c = turns_all c.before.loop.invariant c.loop-test.false
+returns c = turns_all c.loop-i.invariant c.loop-i-test.false
 
-pub trace-cube-spec : {M : Type 1} → statement M
-trace-cube-spec = tie.close (tie.spec invariant-loop decreases-loop loop-holds (λ c κs. omega arith) (λ c. omega arith) (λ c. omega arith) loop-again returns)
+pub trace_cube_spec : {M : Type 1} → statement M
+trace_cube_spec = tie.close (tie.spec invariant-loop-i decreases-loop-i loop-i-init (λ c κs. omega arith) (λ c. omega arith) (λ c. omega arith) loop-i-preserved returns)

@@ -13,31 +13,31 @@ use Rattle.linalg.proofs.Lengths.{length-product}
 use Rattle.linalg.proofs.sums.trace_cube_product.Statement.{statement}
 use Rattle.linalg.proofs.sums.trace_cube_product.Tie as tie
 
-slice-aggregate-product : tie.Need-slice-aggregate-product
-slice-aggregate-product c = sym (length-take-le _ _ (omega arith))
+slice_bounds-product-end : tie.Need-slice_bounds-product-end
+slice_bounds-product-end c = sym (length-take-le _ _ (omega arith))
 
 product-requires : tie.Need-product-requires
-product-requires c κs = let start = c.before.before.before in (side_of_area start.args.n (omega arith), start.requires.1, start.requires.2, length-take-le _ _ (omega arith))
+product-requires c κs = let start = c in (side_of_area start.args.n (omega arith), start.requires.1, start.requires.2, length-take-le _ _ (omega arith))
 
-array-share-prefix-m : tie.Need-array-share-prefix-m
-array-share-prefix-m c =
-    let start = c.before.before.before.before.before in
-    omega (arith, length_front _ c.before.product.new.1.1.1.1.1.0 (start.args.n * start.args.n) c.before.product.auto.1.1.1.1.1.0)
+slice_bounds-m-end-2 : tie.Need-slice_bounds-m-end-2
+slice_bounds-m-end-2 c =
+    let start = c in
+    omega (arith, length_front _ c.product.new.out (start.args.n * start.args.n) c.product.auto.out)
 
-slice-aggregate-trace-cube : tie.Need-slice-aggregate-trace-cube
-slice-aggregate-trace-cube c = sym (ap length (front _ (length-product _ _ _ _ _) c.before.before.product.ensures) ∙ length-product _ _ _ _ _)
+slice_bounds-trace_cube-end : tie.Need-slice_bounds-trace_cube-end
+slice_bounds-trace_cube-end c = sym (ap length (front _ (length-product _ _ _ _ _) c.product.ensures) ∙ length-product _ _ _ _ _)
 
-trace-cube-requires : tie.Need-trace-cube-requires
-trace-cube-requires c κs = ap length (front _ (length-product _ _ _ _ _) c.before.before.product.ensures) ∙ length-product _ _ _ _ _
+trace_cube-requires : tie.Need-trace_cube-requires
+trace_cube-requires c κs = ap length (front _ (length-product _ _ _ _ _) c.product.ensures) ∙ length-product _ _ _ _ _
 
 returns : tie.Need-returns
 returns c =
-    let after-product = c.before.before.before in
-    let start = after-product.before.before.before.before in
-    c.trace-cube.ensures ∙ ap (λ (d : List Float). trace_cube d start.args.n) (front _ (length-product _ _ _ _ _) after-product.product.ensures)
+    let after-product = c in
+    let start = after-product in
+    c.trace_cube.ensures ∙ ap (λ (d : List Float). trace_cube d start.args.n) (front _ (length-product _ _ _ _ _) after-product.product.ensures)
 
-pub trace-cube-product-spec : {M : Type 1} → statement M
-trace-cube-product-spec =
+pub trace_cube_product_spec : {M : Type 1} → statement M
+trace_cube_product_spec =
     tie.close
-    (tie.spec (λ c. omega arith) (λ c. omega arith) slice-aggregate-product product-requires array-share-prefix-m slice-aggregate-trace-cube trace-cube-requires
+    (tie.spec (λ c. omega arith) (λ c. omega arith) slice_bounds-product-end product-requires slice_bounds-m-end-2 slice_bounds-trace_cube-end trace_cube-requires
     returns)

@@ -14,22 +14,22 @@ use Rattle.linalg.proofs.sums.trace_product.Tie as tie
 abbrev term : List Float → List Float → ℕ → ℕ → ℕ → Float
 term a b n i j = mul (at a n i j) (at b n j i)
 
-abbrev invariant-loop : tie.invariant-loop
-invariant-loop a b n s₀ i₀ s i = AfterTurns (λ l. sum_rows_from nought l n (term a b n)) n i s
+abbrev invariant-loop-i : tie.invariant-loop-i
+invariant-loop-i a b n s₀ i₀ s i = AfterTurns (λ l. sum_rows_from nought l n (term a b n)) n i s
 
-abbrev decreases-loop : tie.decreases-loop
-decreases-loop a b n s₀ i₀ s i = n - i
+abbrev decreases-loop-i : tie.decreases-loop-i
+decreases-loop-i a b n s₀ i₀ s i = n - i
 
-loop-holds : tie.Need-loop-init invariant-loop decreases-loop
+loop-i-init : tie.Need-loop-i-init invariant-loop-i decreases-loop-i
 unfolding sum_rows_from
-loop-holds c = turns_none refl
+loop-i-init c = turns_none refl
 
-loop-again : tie.Need-loop-preserved invariant-loop decreases-loop
+loop-i-preserved : tie.Need-loop-i-preserved invariant-loop-i decreases-loop-i
 unfolding sum_rows_from
-loop-again c = turns_more c.before.before.loop.invariant c.before.loop-test.true (λ e. c.trace-row.ensures ∙ rw e)
+loop-i-preserved c = turns_more c.loop-i.invariant c.loop-i-test.true (λ e. c.trace_row-s.ensures ∙ rw e)
 
-returns : tie.Need-returns invariant-loop decreases-loop
-returns c = turns_all c.before.loop.invariant c.loop-test.false
+returns : tie.Need-returns invariant-loop-i decreases-loop-i
+returns c = turns_all c.loop-i.invariant c.loop-i-test.false
 
-pub trace-product-spec : {M : Type 1} → statement M
-trace-product-spec = tie.close (tie.spec invariant-loop decreases-loop loop-holds (λ c κs. omega arith) (λ c. omega arith) (λ c. omega arith) loop-again returns)
+pub trace_product_spec : {M : Type 1} → statement M
+trace_product_spec = tie.close (tie.spec invariant-loop-i decreases-loop-i loop-i-init (λ c κs. omega arith) (λ c. omega arith) (λ c. omega arith) loop-i-preserved returns)

@@ -9,32 +9,32 @@ use Rattle.dense.proofs.Laws.{inside}
 use Rattle.linalg.proofs.sums.trace_row.Statement.{statement}
 use Rattle.linalg.proofs.sums.trace_row.Tie as tie
 
-abbrev invariant-loop : tie.invariant-loop
-invariant-loop start a b n i s₀ j₀ s j = AfterTurns (λ l. sum_from start l (λ q. mul (at a n i q) (at b n q i))) n j s
+abbrev invariant-loop-j : tie.invariant-loop-j
+invariant-loop-j start a b n i s₀ j₀ s j = AfterTurns (λ l. sum_from start l (λ q. mul (at a n i q) (at b n q i))) n j s
 
-abbrev decreases-loop : tie.decreases-loop
-decreases-loop start a b n i s₀ j₀ s j = n - j
+abbrev decreases-loop-j : tie.decreases-loop-j
+decreases-loop-j start a b n i s₀ j₀ s j = n - j
 
-loop-holds : tie.Need-loop-init invariant-loop decreases-loop
+loop-j-init : tie.Need-loop-j-init invariant-loop-j decreases-loop-j
 unfolding sum_from
-loop-holds c = turns_none refl
+loop-j-init c = turns_none refl
 
-entry-requires : tie.Need-entry-requires invariant-loop decreases-loop
-entry-requires c κs = let start = c.before.before.before.before in inside start.args.n start.requires.1 start.requires.0 c.loop-test.true
+entry-requires : tie.Need-entry-requires invariant-loop-j decreases-loop-j
+entry-requires c κs = let start = c.before.before.before.before in inside start.args.n start.requires.1 start.requires.0 c.loop-j-test.true
 
-entry-requires-2 : tie.Need-entry-requires-2 invariant-loop decreases-loop
-entry-requires-2 c κs =
-    let start = c.before.before.before.before.before in
+entry-requires-in-loop-j : tie.Need-entry-requires-in-loop-j invariant-loop-j decreases-loop-j
+entry-requires-in-loop-j c κs =
+    let start = c in
     let n = start.args.n in
-    let taken = c.before.loop-test.true in
+    let taken = c.loop-j-test.true in
     omega (arith, inside n start.requires.2 taken start.requires.0, inside n start.requires.2 start.requires.0 taken)
 
-loop-again : tie.Need-loop-preserved invariant-loop decreases-loop
+loop-j-preserved : tie.Need-loop-j-preserved invariant-loop-j decreases-loop-j
 unfolding sum_from
-loop-again c = turns_more c.before.before.before.loop.invariant c.before.before.loop-test.true (λ e. rw (e, c.before.entry.ensures, c.entry2.ensures))
+loop-j-preserved c = turns_more c.loop-j.invariant c.loop-j-test.true (λ e. rw (e, c.entry.ensures, c.entry-in-loop-j.ensures))
 
-returns : tie.Need-returns invariant-loop decreases-loop
-returns c = turns_all c.before.loop.invariant c.loop-test.false
+returns : tie.Need-returns invariant-loop-j decreases-loop-j
+returns c = turns_all c.loop-j.invariant c.loop-j-test.false
 
-pub trace-row-spec : {M : Type 1} → statement M
-trace-row-spec = tie.close (tie.spec invariant-loop decreases-loop loop-holds entry-requires entry-requires-2 (λ c. omega arith) (λ c. omega arith) loop-again returns)
+pub trace_row_spec : {M : Type 1} → statement M
+trace_row_spec = tie.close (tie.spec invariant-loop-j decreases-loop-j loop-j-init entry-requires entry-requires-in-loop-j (λ c. omega arith) (λ c. omega arith) loop-j-preserved returns)

@@ -8,20 +8,20 @@ use Rattle.dense.proofs.Entries.{EntryByEntry, no_entry, entry-written, every_en
 use Rattle.linalg.proofs.vector.subtract.Statement.{statement}
 use Rattle.linalg.proofs.vector.subtract.Tie as tie
 
-abbrev invariant-loop : tie.invariant-loop
-invariant-loop x mu n y₀ j₀ y j = EntryByEntry (λ q. sub (nth x q) (nth mu q)) n y₀ j y
+abbrev invariant-loop-j : tie.invariant-loop-j
+invariant-loop-j x mu n y₀ j₀ y j = EntryByEntry (λ q. sub (nth x q) (nth mu q)) n y₀ j y
 
-abbrev decreases-loop : tie.decreases-loop
-decreases-loop x mu n y₀ j₀ y j = n - j
+abbrev decreases-loop-j : tie.decreases-loop-j
+decreases-loop-j x mu n y₀ j₀ y j = n - j
 
-loop-again : tie.Need-loop-preserved invariant-loop decreases-loop
-loop-again c = entry-written c.before.before.before.loop.invariant c.before.before.loop-test.true refl
+loop-j-preserved : tie.Need-loop-j-preserved invariant-loop-j decreases-loop-j
+loop-j-preserved c = entry-written c.loop-j.invariant c.loop-j-test.true refl
 
-returns : tie.Need-returns invariant-loop decreases-loop
-returns c = every_entry c.before.loop.invariant c.loop-test.false
+returns : tie.Need-returns invariant-loop-j decreases-loop-j
+returns c = every_entry c.loop-j.invariant c.loop-j-test.false
 
-pub subtract-spec : {M : Type 1} → statement M
-subtract-spec =
+pub subtract_spec : {M : Type 1} → statement M
+subtract_spec =
     tie.close
-    (tie.spec invariant-loop decreases-loop (λ c. no_entry c.requires.2) (λ c. omega arith) (λ c. omega arith) (λ c. omega arith) (λ c. omega arith) (λ c. omega arith) (λ c. omega arith)
-    (λ c. omega arith) (λ c. omega arith) loop-again (λ c. c.before.loop.invariant.entries.size) returns)
+    (tie.spec invariant-loop-j decreases-loop-j (λ c. no_entry c.requires.2) (λ c. omega arith) (λ c. omega arith) (λ c. omega arith) (λ c. omega arith) (λ c. omega arith) (λ c. omega arith)
+    (λ c. omega arith) (λ c. omega arith) loop-j-preserved (λ c. c.loop-j.invariant.entries.size) returns)

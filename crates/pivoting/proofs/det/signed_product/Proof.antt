@@ -40,7 +40,7 @@ start c = (turn c).before.before.before.before.before
 
 -- the pivot stands in one of the rows
 chosen : (c : tie.After-choose invariant-loop decreases-loop) → c.choose.result.row < (start c).args.n
-chosen c = let t = turn c in let l = t.before.loop in pivot-row l.m l.s (start c).args.n (start c).args.n l.k t.loop-test.taken c.choose.ensures
+chosen c = let t = turn c in let l = t.before.loop in pivot-row l.m l.s (start c).args.n (start c).args.n l.k t.loop-test.true c.choose.ensures
 
 -- whether it is taken
 decided : (c : tie.After-is-taken invariant-loop decreases-loop) → let l = (turn c.before).before.loop in let n = (start c.before).args.n in c.is-taken.result ≡ taken (pivot l.m l.s n n l.k)
@@ -52,7 +52,7 @@ loop-holds c = record { reduced = eliminating_none refl; sign = refl; product = 
 
 returns : tie.Need-returns invariant-loop decreases-loop
 unfolding signed_product
-returns c = let t = turn c.before.before in rw (columns_never t.before.loop.inv.reduced.columns t.loop-test.taken (decided c.before) (not-true _ c.if1.true))
+returns c = let t = turn c.before.before in rw (columns_never t.before.loop.inv.reduced.columns t.loop-test.true (decided c.before) (not-true _ c.if1.true))
 
 entry-requires : tie.Need-entry-requires invariant-loop decreases-loop
 entry-requires c κs =
@@ -61,10 +61,10 @@ entry-requires c κs =
     omega (arith, cell n n (chosen b) (turn b).loop-test.true, (turn b).before.loop.invariant.reduced.lengths.rows)
 
 swap-norms-requires : tie.Need-swap-norms-requires invariant-loop decreases-loop
-swap-norms-requires c κs = ((turn (choice c)).loop-test.taken, chosen (choice c), omega arith)
+swap-norms-requires c κs = ((turn (choice c)).loop-test.true, chosen (choice c), omega arith)
 
 forward-step-requires : tie.Need-forward-step-requires invariant-loop decreases-loop
-forward-step-requires c κs = let b = choice c.before.before.before.before.before in record { row = chosen b; column = (turn b).loop-test.taken; matrix = omega arith; room = omega arith }
+forward-step-requires c κs = let b = choice c.before.before.before.before.before in record { row = chosen b; column = (turn b).loop-test.true; matrix = omega arith; room = omega arith }
 
 loop-again : tie.Need-loop-preserved invariant-loop decreases-loop
 loop-again c =
@@ -83,7 +83,7 @@ loop-again c =
     record {
       reduced =
           record {
-            columns = columns_more inv.reduced.columns (turn b).loop-test.taken (decided flipped.before.before) (not-false _ flipped.before.if1.false) next;
+            columns = columns_more inv.reduced.columns (turn b).loop-test.true (decided flipped.before.before) (not-false _ flipped.before.if1.false) next;
             lengths = lengths_kept inv.reduced.lengths kept.0 swapped.swap-norms.auto.0 kept.1.0;
           };
       sign = sign_more _ f l.k here b.choose.ensures inv.sign flipped.flipped.ensures;

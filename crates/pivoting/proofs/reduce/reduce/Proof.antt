@@ -39,7 +39,7 @@ returns : tie.Need-returns invariant-loop decreases-loop
 returns c =
     let t = turn c.before in
     record {
-      answers = sym (columns_never t.before.loop.inv.columns t.loop-test.taken (called c.before).reduce-column.ensures.answers (not-true _ c.if1.true));
+      answers = sym (columns_never t.before.loop.inv.columns t.loop-test.true (called c.before).reduce-column.ensures.answers (not-true _ c.if1.true));
       reached = never;
     }
 
@@ -50,7 +50,7 @@ loop-again c =
     let call = (called c.before).reduce-column in
     let ok : call.result ≡ true = not-false _ c.if1.false in
     record {
-      columns = columns_more columns t.loop-test.taken call.ensures.answers ok (reduced_more _ _ _ _ _ _ columns.here (call.ensures.reached ok));
+      columns = columns_more columns t.loop-test.true call.ensures.answers ok (reduced_more _ _ _ _ _ _ columns.here (call.ensures.reached ok));
       lengths = lengths c.before;
     }
 

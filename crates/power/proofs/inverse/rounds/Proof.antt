@@ -90,7 +90,7 @@ returns-3 c =
     let after-norm = normed after-dot in
     let turn = turn-of after-norm in
     ends_steady turn.loop.inv (passed after-dot) (solution-at after-norm) after-dot.dot.ensures (entered turn).args.sigma
-    (solved-at after-norm).before.before.before.loop-test.taken (sym c.before.before.is-steady.ensures ∙ c.before.if3.true) c.ratio.ensures
+    (solved-at after-norm).before.before.before.loop-test.true (sym c.before.before.is-steady.ensures ∙ c.before.if3.true) c.ratio.ensures
 
 normalize-requires : tie.Need-normalize-requires invariant-loop decreases-loop
 normalize-requires c κs =
@@ -103,7 +103,7 @@ loop-again c =
     let tested = after-normalize.before.before.before in
     let after-dot = tested.before.before in
     let after-norm = normed after-dot in
-    goes_on (turn-of after-norm).loop.inv (passed after-dot) (solution-at after-norm) after-dot.dot.ensures (solved-at after-norm).before.before.before.loop-test.taken
+    goes_on (turn-of after-norm).loop.inv (passed after-dot) (solution-at after-norm) after-dot.dot.ensures (solved-at after-norm).before.before.before.loop-test.true
     (sym tested.before.is-steady.ensures ∙ tested.if3.false) after-normalize.normalize.ensures (wide (solved-at after-norm))
 
 returns-4 : tie.Need-returns-4 invariant-loop decreases-loop
