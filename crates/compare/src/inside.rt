@@ -13,7 +13,7 @@ use crate::gate::{compared_after, single_after};
 use repair::inside::{repair, single_answer, single_rebuilt};
 
 // What two tracks are compared by.
-#[derive(Drop)]
+#[derive(Clone, Copy)]
 struct FloorAndGate {
     floor: f64,
     gate: f64,

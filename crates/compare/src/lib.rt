@@ -16,7 +16,7 @@ use kernel::question::{FLOOR_AND_GATE, LENGTH, SIDE};
 use repair::Repaired;
 
 // What a comparison answers: the squared distance, near or far by the gate, or that there is none.
-#[derive(Drop)]
+#[derive(Clone, Copy)]
 pub enum Comparison {
     Near(f64),
     Far(f64),
@@ -24,14 +24,14 @@ pub enum Comparison {
 }
 
 // A comparison with what its repair answered, for the merge.
-#[derive(Drop)]
+#[derive(Clone, Copy)]
 pub struct ComparisonReport {
     pub comparison: Comparison,
     pub repair: Repaired,
 }
 
 // The answer of the call.
-#[derive(Drop)]
+#[derive(Clone, Copy)]
 pub enum Compared {
     Answered(Comparison),
     Refused(u8),

@@ -7,14 +7,14 @@ pub mod unit;
 pub mod vector;
 
 // The answer of a call that writes a lent slice.
-#[derive(Drop)]
+#[derive(Clone, Copy)]
 pub enum Written {
     Done,
     Refused(u8),
 }
 
 // The answer of a call that gives one number.
-#[derive(Drop)]
+#[derive(Clone, Copy)]
 pub enum Number {
     Value(f64),
     Refused(u8),

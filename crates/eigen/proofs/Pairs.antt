@@ -23,7 +23,7 @@ pub sorted_below : (e : List Float) (n : ℕ) {l : List ℕ} → l ≡ order e n
 sorted_below e n p = subst (λ (z : List ℕ). Below n n z) (sym p) (order_below e n)
 
 module _ (n : ℕ) (m v values vectors : List Float) where
-  pub pairs-refused : {e : List Float} {b : Bool} → e ≡ diagonal m n → b ≡ finite_entries e n → not b ≡ true
+  pub pairs-refused : {e : List Float} {b : Bool} → e ≡ diagonal m n → b ≡ finite_entries e n → b ≡ false
       → ◌≡◌ {A = Written × List Float × List Float} (Refused 4, values, vectors) (after_pairs (pairs_of n (state_of n m v)) values vectors)
   unfolding pairs_of
   pairs-refused p q t = rw (← p, unmet q t)
@@ -33,7 +33,7 @@ module _ (n : ℕ) (m v values vectors : List Float) where
   unfolding Below
   columns l h = matrix_ext n n _ _ (λ i k a b. sym (at-matrix n n (λ x y. at v n y x) i (index_at l k) a (h k b)))
 
-  pub pairs_made : {e x y : List Float} {l : List ℕ} {b : Bool} → e ≡ diagonal m n → b ≡ finite_entries e n → not b ≡ false → l ≡ order e n
+  pub pairs_made : {e x y : List Float} {l : List ℕ} {b : Bool} → e ≡ diagonal m n → b ≡ finite_entries e n → b ≡ true → l ≡ order e n
       → x ≡ tabulate n (λ k. nth e (index_at l k)) → y ≡ matrix n n (λ i k. at v n (index_at l k) i)
       → ◌≡◌ {A = Written × List Float × List Float} (Done, x, y) (after_pairs (pairs_of n (state_of n m v)) values vectors)
   unfolding pairs_of arranged

@@ -13,7 +13,7 @@ mod sweep;
 pub use dense::Written;
 
 // The angle of a rotation, by its tangent, cosine and sine.
-#[derive(Drop)]
+#[derive(Clone, Copy)]
 pub struct Rotation {
     pub tangent: f64,
     pub cosine: f64,
@@ -21,7 +21,7 @@ pub struct Rotation {
 }
 
 // A symmetric matrix of order 2, app and aqq on its diagonal, with the vectors in its columns.
-#[derive(Drop)]
+#[derive(Clone, Copy)]
 pub struct Plane {
     pub app: f64,
     pub apq: f64,

@@ -15,7 +15,7 @@ use inside::fuse_tracks;
 use kernel::question::{LENGTH, SIDE};
 
 // What a fusion answers: that the fused track is written, that there is none, or the number of the first question that is not met.
-#[derive(Drop)]
+#[derive(Clone, Copy)]
 pub enum Fusion {
     Fused,
     NotFused,

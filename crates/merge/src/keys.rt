@@ -13,7 +13,7 @@ use compare::inside::{compare_tracks, track_covariance};
 use dense::shape::row;
 
 // What tracks are compared by: their dimension and number of fields, the floor and the gate.
-#[derive(Drop)]
+#[derive(Clone, Copy)]
 pub(crate) struct Terms {
     pub(crate) d: usize,
     pub(crate) f: usize,

@@ -23,7 +23,7 @@ use inside::merge_fused;
 pub const NO_TRACK: u8 = pairing::NOBODY;
 
 // How many rows have three, two and one track.
-#[derive(Drop)]
+#[derive(Clone, Copy)]
 pub struct Counts {
     pub full: usize,
     pub half: usize,
@@ -31,7 +31,7 @@ pub struct Counts {
 }
 
 // What a merge answers: its counts, or the number of the first question that is not met.
-#[derive(Drop)]
+#[derive(Clone, Copy)]
 pub enum Merged {
     Counts(Counts),
     Refused(u8),

@@ -11,14 +11,14 @@ use pairing::pair_tracks;
 use tracks::inside::fields;
 
 // Each track's partner in a pairing, or 255.
-#[derive(Drop)]
+#[derive(Clone, Copy)]
 pub(crate) struct Partners {
     pub(crate) firsts: [u8; 32],
     pub(crate) seconds: [u8; 32],
 }
 
 // The partners of base with ours, base with theirs, and ours with theirs.
-#[derive(Drop)]
+#[derive(Clone, Copy)]
 pub(crate) struct Pairings {
     pub(crate) base_ours: Partners,
     pub(crate) base_theirs: Partners,

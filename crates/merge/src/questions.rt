@@ -6,7 +6,7 @@ use kernel::question;
 use tracks::read::ReadList;
 
 // How many tracks base, ours and theirs have, and their one dimension.
-#[derive(Drop)]
+#[derive(Clone, Copy)]
 pub(crate) struct Sizes {
     pub(crate) base: usize,
     pub(crate) ours: usize,
@@ -15,7 +15,7 @@ pub(crate) struct Sizes {
 }
 
 // The sizes of three lists, or the number of the first question that is not met.
-#[derive(Drop)]
+#[derive(Clone, Copy)]
 pub(crate) enum Accepted {
     Lists(Sizes),
     Refused(u8),

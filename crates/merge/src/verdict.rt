@@ -21,7 +21,7 @@ pub const CONFLICT: u8 = 4;
 pub const FUSE: u8 = 5;
 
 // Where the tracks of base, ours and theirs start, and where the last one of each ends.
-#[derive(Drop)]
+#[derive(Clone, Copy)]
 pub struct Offsets {
     pub base: [usize; 33],
     pub ours: [usize; 33],
@@ -29,7 +29,7 @@ pub struct Offsets {
 }
 
 // The indices of a row.
-#[derive(Drop)]
+#[derive(Clone, Copy)]
 pub(crate) struct Indices {
     pub(crate) base: u8,
     pub(crate) ours: u8,

@@ -7,14 +7,14 @@ use tracks::read::ReadList;
 use tracks::record::{track_offsets, track_record};
 
 // Where a record stands in its list.
-#[derive(Drop)]
+#[derive(Clone, Copy)]
 pub(crate) enum Place {
     Nowhere,
     At { start: usize, length: usize },
 }
 
 // Whose record wins, and where it stands in that list.
-#[derive(Drop)]
+#[derive(Clone, Copy)]
 pub enum WinningPart {
     Nobody,
     Ours { start: usize, length: usize },

@@ -18,7 +18,7 @@ use writing::write_chosen;
 const MOST_ROW_BYTES: usize = 384;
 
 // What a merge into a list answers: the merge's counts and the length of the list, or the number of the first question that is not met.
-#[derive(Drop)]
+#[derive(Clone, Copy)]
 pub enum MergedList {
     Written { counts: Counts, length: usize },
     Refused(u8),

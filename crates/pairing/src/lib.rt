@@ -11,7 +11,7 @@ mod table;
 pub const NOBODY: u8 = 255;
 
 // The pair that comes first of those looked at, if there is one, and its key.
-#[derive(Drop)]
+#[derive(Clone, Copy)]
 pub struct Foremost {
     pub found: bool,
     pub key: f64,

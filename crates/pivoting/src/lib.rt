@@ -15,7 +15,7 @@ mod solve;
 pub use dense::{Number, Written};
 
 // The best pivot row of a column so far, and its ratio.
-#[derive(Drop)]
+#[derive(Clone, Copy)]
 pub struct Pivot {
     pub ratio: f64,
     pub row: usize,

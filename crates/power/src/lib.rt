@@ -10,7 +10,7 @@ mod vector;
 pub use dense::Number;
 
 // What a damping did to the condition number.
-#[derive(Drop)]
+#[derive(Clone, Copy)]
 pub struct TikhonovReport {
     pub alpha: f64,
     pub condition_number_before: f64,
@@ -18,7 +18,7 @@ pub struct TikhonovReport {
 }
 
 // The answer of a damping.
-#[derive(Drop)]
+#[derive(Clone, Copy)]
 pub enum Damped {
     Report(TikhonovReport),
     Refused(u8),

@@ -11,7 +11,7 @@ pub mod regularize;
 pub use dense::Written;
 
 // What a repair did: how many eigenvalues were clipped, by how much at most, and which, in descending order of the eigenvalues.
-#[derive(Drop)]
+#[derive(Clone, Copy)]
 pub struct RegularizationReport {
     pub n_clipped: usize,
     pub max_clip_magnitude: f64,
@@ -19,7 +19,7 @@ pub struct RegularizationReport {
 }
 
 // The answer of a repair.
-#[derive(Drop)]
+#[derive(Clone, Copy)]
 pub struct Repaired {
     pub answer: Written,
     pub report: RegularizationReport,

@@ -15,7 +15,7 @@ const KINDS: usize = 32;
 
 // A replay underway: at which offset of the input the next record starts, how many records of each kind came before it, and how many of these were
 // not met, that is, answered otherwise than they say.
-#[derive(Drop)]
+#[derive(Clone, Copy)]
 pub struct Run {
     pub at: usize,
     pub cases: [u64; KINDS],

@@ -12,21 +12,21 @@ const HIDDEN: u64 = 0x10_0000_0000_0000;
 pub(crate) const ORIGIN: usize = 400;
 
 // How many digits there are, and the place of the point.
-#[derive(Drop)]
+#[derive(Clone, Copy)]
 pub(crate) struct Place {
     pub(crate) count: usize,
     pub(crate) point: usize,
 }
 
 // Whether digits end here: not yet, as they are, or with one more in the last place.
-#[derive(Drop)]
+#[derive(Clone, Copy)]
 enum End {
     Open,
     Down,
     Up,
 }
 
-#[derive(Drop)]
+#[derive(Clone, Copy)]
 struct Digit {
     text: u8,
     last: bool,

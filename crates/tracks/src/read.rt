@@ -10,14 +10,14 @@ use crate::{inside, layout};
 use kernel::{bytes, question};
 
 // Where an item of a list ends, or the number of the first question that it does not meet.
-#[derive(Drop)]
+#[derive(Clone, Copy)]
 pub(crate) enum Checked {
     End(usize),
     Refused(u8),
 }
 
 // The answer to a list that is read.
-#[derive(Drop)]
+#[derive(Clone, Copy)]
 pub enum ReadList {
     Read { count: usize, dimension: usize },
     Refused(u8),

@@ -5,7 +5,7 @@ ghost use Rattle.tracks.specs.Record.{record_at, OwnBytes, next_offset, at_end};
 
 use crate::record;
 
-#[derive(Drop)]
+#[derive(Clone, Copy)]
 pub struct Reader<'a> {
     pub list: &'a [u8],
     pub at: usize,

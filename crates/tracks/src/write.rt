@@ -11,7 +11,7 @@ use crate::{inside, layout};
 use kernel::question;
 
 // The answer to a list that is written.
-#[derive(Drop)]
+#[derive(Clone, Copy)]
 pub enum WrittenList {
     Length(usize),
     Refused(u8),

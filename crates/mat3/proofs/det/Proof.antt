@@ -7,10 +7,10 @@ use Rattle.mat3.proofs.det.Tie as tie
 
 returns : tie.Need-returns
 unfolding det3
-returns c = c.of-entries.ensures
+returns c = c.of_entries.ensures
 
-pub det-spec : {M : Type 1} → statement M
-det-spec =
+pub det_spec : {M : Type 1} → statement M
+det_spec =
     tie.close
     (tie.spec (λ c. omega arith) (λ c. omega arith) (λ c. omega arith) (λ c. omega arith) (λ c. omega arith) (λ c. omega arith) (λ c. omega arith)
     (λ c. omega arith) (λ c. omega arith) (λ c κs. search rules) returns)

@@ -6,10 +6,10 @@ use Rattle.mat3.proofs.inverse.Tie as tie
 
 returns : tie.Need-returns
 unfolding inverse3
-returns c = let start = c.before.before.before.before.before.before.before.before.before in rw start.requires.1
+returns c = let start = c in rw start.requires.1
 
-pub inverse-spec : {M : Type 1} → statement M
-inverse-spec =
+pub inverse_spec : {M : Type 1} → statement M
+inverse_spec =
     tie.close
     (tie.spec (λ c. omega arith) (λ c. omega arith) (λ c. omega arith) (λ c. omega arith) (λ c. omega arith) (λ c. omega arith) (λ c. omega arith)
     (λ c. omega arith) (λ c. omega arith) returns)

@@ -6,7 +6,7 @@ use Rattle.mat3.proofs.is_regular.Tie as tie
 
 returns : tie.Need-returns
 unfolding regular scale
-returns c = rw (c.max.ensures, c.before.abs.ensures, c.before.before.max-abs.ensures, c.before.before.before.before.requires.1)
+returns c = rw (c.max.ensures, c.abs.ensures, c.max_abs-g.ensures, c.requires.1)
 
-pub is-regular-spec : {M : Type 1} → statement M
-is-regular-spec = tie.close (tie.spec (λ c κs. search rules) (λ c κs. search rules) (λ c κs. search rules) returns)
+pub is_regular_spec : {M : Type 1} → statement M
+is_regular_spec = tie.close (tie.spec (λ c κs. search rules) (λ c κs. search rules) (λ c κs. search rules) returns)

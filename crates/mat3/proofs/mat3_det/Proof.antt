@@ -6,16 +6,16 @@ use Rattle.dense.proofs.Answers.{value}
 use Rattle.mat3.proofs.mat3_det.Statement.{statement}
 use Rattle.mat3.proofs.mat3_det.Tie as tie
 
-returns : tie.Need-returns
+returns-then-not-is_vector : tie.Need-returns-then-not-is_vector
 unfolding mat3_det
-returns c = rw (unmet c.before.is-vector.ensures c.if1.true)
+returns-then-not-is_vector c = rw (unmet c.is_vector.ensures c.if-not-is_vector.true)
 
 det-requires : tie.Need-det-requires
-det-requires c κs = long-length c.before.before.before.args.m.now 9 (met c.before.is-vector.ensures c.if1.false)
+det-requires c κs = long-length c.args.m.now 9 (met c.is_vector.ensures c.if-not-is_vector.false)
 
-returns-2 : tie.Need-returns-2
+returns : tie.Need-returns
 unfolding mat3_det
-returns-2 c = rw (met c.before.before.is-vector.ensures c.before.if1.false) (value c.det.ensures)
+returns c = rw (met c.is_vector.ensures c.if-not-is_vector.false) (value c.det.ensures)
 
-pub mat3-det-spec : {M : Type 1} → statement M
-mat3-det-spec = tie.close (tie.spec (λ c κs. search rules) returns det-requires returns-2)
+pub mat3_det_spec : {M : Type 1} → statement M
+mat3_det_spec = tie.close (tie.spec (λ c κs. search rules) returns-then-not-is_vector det-requires returns)

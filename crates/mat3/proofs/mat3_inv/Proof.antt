@@ -11,43 +11,43 @@ use Rattle.mat3.proofs.mat3_inv.Statement.{statement}
 use Rattle.mat3.proofs.mat3_inv.Tie as tie
 
 -- where the first question is met: where the call began, and what the question says
-abbrev start : tie.Else1 → tie.Start
-start c = c.before.before.before.before.before
+abbrev start : tie.Else-not-are_3_by_3 → tie.Start
+start c = c.before.before.before.before
 
-met_2 : (c : tie.Else1) → (has_length (start c).args.m.now 9 && has_length (start c).args.out.now 9) ≡ true
-met_2 c = met c.before.are-3-by-3.ensures c.if1.false
+met_2 : (c : tie.Else-not-are_3_by_3) → (has_length (start c).args.m.now 9 && has_length (start c).args.out.now 9) ≡ true
+met_2 c = met c.are_3_by_3.ensures c.if-not-are_3_by_3.false
 
-lengths : (c : tie.Else1) → (length (start c).args.m.now ≡ 9) × (length (start c).args.out.now ≡ 9)
+lengths : (c : tie.Else-not-are_3_by_3) → (length (start c).args.m.now ≡ 9) × (length (start c).args.out.now ≡ 9)
 lengths c = two-long (start c).args.m.now (start c).args.out.now 9 9 (met_2 c)
 
-returns : tie.Need-returns
+returns-then-not-are_3_by_3 : tie.Need-returns-then-not-are_3_by_3
 unfolding mat3_inv
-returns c = rw (unmet c.before.are-3-by-3.ensures c.if1.true)
+returns-then-not-are_3_by_3 c = rw (unmet c.are_3_by_3.ensures c.if-not-are_3_by_3.true)
 
-is-regular-requires : tie.Need-is-regular-requires
-is-regular-requires c κs = ((lengths c.before).0, c.det.ensures)
+is_regular-requires : tie.Need-is_regular-requires
+is_regular-requires c κs = ((lengths c.before).0, c.det-d.ensures)
 
-returns-2 : tie.Need-returns-2
+returns-then-not-is_regular : tie.Need-returns-then-not-is_regular
 unfolding mat3_inv
-returns-2 c = rw (met_2 c.before.before.before, unmet c.before.is-regular.ensures c.if2.true)
+returns-then-not-is_regular c = rw (met_2 c.before.before.before, unmet c.is_regular.ensures c.if-not-is_regular.true)
 
-inverse-requires : tie.Need-inverse-requires
-inverse-requires c κs = let after-det = c.before.before in ((lengths after-det.before).0, after-det.det.ensures)
+inverse-inv-requires : tie.Need-inverse-inv-requires
+inverse-inv-requires c κs = let after-det = c in ((lengths c.before.before.before).0, after-det.det-d.ensures)
 
 copy-requires : tie.Need-copy-requires
 unfolding inverse3
-copy-requires c κs = let after-inverse = c.before.before in (ap length after-inverse.inverse.ensures, (lengths after-inverse.before.before.before.before).1)
+copy-requires c κs = let after-inverse = c in (ap length after-inverse.inverse-inv.ensures, (lengths c.before.before.before.before.before.before).1)
 
-returns-3 : tie.Need-returns-3
+returns : tie.Need-returns
 unfolding mat3_inv
-returns-3 c =
-    let after-copy = c.before.before in
-    let after-inverse = after-copy.before.before.before in
-    let after-is-regular = after-inverse.before.before in
-    rw (met_2 after-is-regular.before.before, met after-is-regular.is-regular.ensures after-inverse.before.if2.false) (done (after-copy.copy.ensures ∙ after-inverse.inverse.ensures))
+returns c =
+    let after-copy = c in
+    let after-inverse = after-copy in
+    let after-is-regular = after-inverse in
+    rw (met_2 c.before.before.before.before.before.before.before.before.before, met after-is-regular.is_regular.ensures after-inverse.if-not-is_regular.false) (done (after-copy.copy.ensures ∙ after-inverse.inverse-inv.ensures))
 
-pub mat3-inv-spec : {M : Type 1} → statement M
-mat3-inv-spec =
+pub mat3_inv_spec : {M : Type 1} → statement M
+mat3_inv_spec =
     tie.close
-    (tie.spec (λ c κs. search rules) (λ c. search rules) returns (λ c κs. (lengths c).0) is-regular-requires (λ c. search rules) returns-2 inverse-requires
-    (λ c. search rules) copy-requires (λ c. search rules) returns-3)
+    (tie.spec (λ c κs. search rules) (λ c. search rules) returns-then-not-are_3_by_3 (λ c κs. (lengths c).0) is_regular-requires (λ c. search rules) returns-then-not-is_regular inverse-inv-requires
+    (λ c. search rules) copy-requires (λ c. search rules) returns)

@@ -11,44 +11,44 @@ use Rattle.mat3.proofs.mat3_solve.Statement.{statement}
 use Rattle.mat3.proofs.mat3_solve.Tie as tie
 
 -- where the first question is met: where the call began, and what the question says
-abbrev start : tie.Else1 → tie.Start
-start c = c.before.before.before.before.before.before
+abbrev start : tie.Else-not-is_3_by_3_system → tie.Start
+start c = c.before.before.before.before.before
 
-met_2 : (c : tie.Else1) → let x = (start c).args in (has_length x.a.now 9 && (has_length x.b.now 3 && has_length x.out.now 3)) ≡ true
-met_2 c = met c.before.is-3-by-3-system.ensures c.if1.false
+met_2 : (c : tie.Else-not-is_3_by_3_system) → let x = (start c).args in (has_length x.a.now 9 && (has_length x.b.now 3 && has_length x.out.now 3)) ≡ true
+met_2 c = met c.is_3_by_3_system.ensures c.if-not-is_3_by_3_system.false
 
-lengths : (c : tie.Else1) → let x = (start c).args in (length x.a.now ≡ 9) × (length x.b.now ≡ 3) × (length x.out.now ≡ 3)
+lengths : (c : tie.Else-not-is_3_by_3_system) → let x = (start c).args in (length x.a.now ≡ 9) × (length x.b.now ≡ 3) × (length x.out.now ≡ 3)
 lengths c = let x = (start c).args in three-long x.a.now x.b.now x.out.now 9 3 3 (met_2 c)
 
-returns : tie.Need-returns
+returns-then-not-is_3_by_3_system : tie.Need-returns-then-not-is_3_by_3_system
 unfolding mat3_solve
-returns c = rw (unmet c.before.is-3-by-3-system.ensures c.if1.true)
+returns-then-not-is_3_by_3_system c = rw (unmet c.is_3_by_3_system.ensures c.if-not-is_3_by_3_system.true)
 
-is-regular-requires : tie.Need-is-regular-requires
-is-regular-requires c κs = ((lengths c.before).0, c.det.ensures)
+is_regular-requires : tie.Need-is_regular-requires
+is_regular-requires c κs = ((lengths c.before).0, c.det-d.ensures)
 
-returns-2 : tie.Need-returns-2
+returns-then-not-is_regular : tie.Need-returns-then-not-is_regular
 unfolding mat3_solve
-returns-2 c = rw (met_2 c.before.before.before, unmet c.before.is-regular.ensures c.if2.true)
+returns-then-not-is_regular c = rw (met_2 c.before.before.before, unmet c.is_regular.ensures c.if-not-is_regular.true)
 
-solution-requires : tie.Need-solution-requires
-solution-requires c κs = let after-det = c.before.before in let l = lengths after-det.before in (l.0, l.1, after-det.det.ensures)
+solution-x-requires : tie.Need-solution-x-requires
+solution-x-requires c κs = let after-det = c in let l = lengths c.before.before.before in (l.0, l.1, after-det.det-d.ensures)
 
 copy-requires : tie.Need-copy-requires
 unfolding solution3
-copy-requires c κs = let after-solution = c.before.before in (ap length after-solution.solution.ensures, (lengths after-solution.before.before.before.before).2)
+copy-requires c κs = let after-solution = c in (ap length after-solution.solution-x.ensures, (lengths c.before.before.before.before.before.before).2)
 
-returns-3 : tie.Need-returns-3
+returns : tie.Need-returns
 unfolding mat3_solve
-returns-3 c =
-    let after-copy = c.before.before in
-    let after-solution = after-copy.before.before.before in
-    let after-is-regular = after-solution.before.before in
-    rw (met_2 after-is-regular.before.before, met after-is-regular.is-regular.ensures after-solution.before.if2.false)
-    (done (after-copy.copy.ensures ∙ after-solution.solution.ensures))
+returns c =
+    let after-copy = c in
+    let after-solution = after-copy in
+    let after-is-regular = after-solution in
+    rw (met_2 c.before.before.before.before.before.before.before.before.before, met after-is-regular.is_regular.ensures after-solution.if-not-is_regular.false)
+    (done (after-copy.copy.ensures ∙ after-solution.solution-x.ensures))
 
-pub mat3-solve-spec : {M : Type 1} → statement M
-mat3-solve-spec =
+pub mat3_solve_spec : {M : Type 1} → statement M
+mat3_solve_spec =
     tie.close
-    (tie.spec (λ c κs. search rules) (λ c. search rules) returns (λ c κs. (lengths c).0) is-regular-requires (λ c. search rules) returns-2 solution-requires
-    (λ c. search rules) copy-requires (λ c. search rules) returns-3)
+    (tie.spec (λ c κs. search rules) (λ c. search rules) returns-then-not-is_3_by_3_system (λ c κs. (lengths c).0) is_regular-requires (λ c. search rules) returns-then-not-is_regular solution-x-requires
+    (λ c. search rules) copy-requires (λ c. search rules) returns)

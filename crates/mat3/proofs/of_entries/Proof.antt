@@ -9,8 +9,8 @@ returns : tie.Need-returns
 unfolding det3
 returns c = refl
 
-pub of-entries-spec : {M : Type 1} → statement M
-of-entries-spec =
+pub of_entries_spec : {M : Type 1} → statement M
+of_entries_spec =
     tie.close
     (tie.spec (λ c. search rules) (λ c. search rules) (λ c. search rules) (λ c. search rules) (λ c. search rules) (λ c. search rules) (λ c. search rules)
     (λ c. search rules) (λ c. search rules) (λ c. search rules) (λ c. search rules) (λ c. search rules) (λ c. search rules) (λ c. search rules)

@@ -10,12 +10,12 @@ use Rattle.mat3.proofs.solution.Tie as tie
 returns : tie.Need-returns
 unfolding solution3 replaced det3 matrix tabulate
 returns c =
-    let after-of-entries = c.before.before in
-    let start = after-of-entries.before.before.before.before.before.before.before.before.before.before.before.before.before.before.before in
-    rw (after-of-entries.of-entries.ensures, c.before.of-entries2.ensures, c.of-entries3.ensures, start.requires.2)
+    let after-of-entries = c in
+    let start = after-of-entries in
+    rw (after-of-entries.of_entries-x.ensures, c.of_entries-y.ensures, c.of_entries-z.ensures, start.requires.2)
 
-pub solution-spec : {M : Type 1} → statement M
-solution-spec =
+pub solution_spec : {M : Type 1} → statement M
+solution_spec =
     tie.close
     (tie.spec (λ c. omega arith) (λ c. omega arith) (λ c. omega arith) (λ c. omega arith) (λ c. omega arith) (λ c. omega arith) (λ c. omega arith)
     (λ c. omega arith) (λ c. omega arith) (λ c. omega arith) (λ c. omega arith) (λ c. omega arith) (λ c κs. search rules) (λ c κs. search rules)

@@ -13,106 +13,106 @@ use Rattle.pairing.proofs.Partners.Tables.{tables_start, tables-next, firsts-don
 use Rattle.pairing.proofs.pair_tracks.Statement.{statement}
 use Rattle.pairing.proofs.pair_tracks.Tie as tie
 
-abbrev invariant-loop : tie.invariant-loop
-invariant-loop keys m n firsts₀ seconds₀ firsts seconds = Underway (from_keys keys m n) firsts seconds
+abbrev invariant-loop-best : tie.invariant-loop-best
+invariant-loop-best keys m n firsts₀ seconds₀ firsts seconds = Underway (from_keys keys m n) firsts seconds
 
-abbrev decreases-loop : tie.decreases-loop
-decreases-loop keys m n firsts₀ seconds₀ firsts seconds = count_free firsts
+abbrev decreases-loop-best : tie.decreases-loop-best
+decreases-loop-best keys m n firsts₀ seconds₀ firsts seconds = count_free firsts
 
 -- ---- the places on the way
 
-abbrev cleared : tie.After-slice-known4 invariant-loop decreases-loop → tie.Start invariant-loop decreases-loop
+abbrev cleared : tie.After-slice_known-4-1 invariant-loop-best decreases-loop-best → tie.Start invariant-loop-best decreases-loop-best
 cleared c = c.before.before.before.before.before.before.before.before.before.before.before
 
-abbrev entered : tie.At-loop invariant-loop decreases-loop → tie.Start invariant-loop decreases-loop
+abbrev entered : tie.At-loop-best invariant-loop-best decreases-loop-best → tie.Start invariant-loop-best decreases-loop-best
 entered c = cleared c.before
 
-abbrev this-turn : tie.After-search invariant-loop decreases-loop → tie.At-loop invariant-loop decreases-loop
-this-turn c = c.before.before.before
+abbrev this-turn : tie.After-search-best invariant-loop-best decreases-loop-best → tie.At-loop-best invariant-loop-best decreases-loop-best
+this-turn c = c.before
 
-abbrev none_found : tie.Then1 invariant-loop decreases-loop → tie.After-search invariant-loop decreases-loop
+abbrev none_found : tie.Then-not-best invariant-loop-best decreases-loop-best → tie.After-search-best invariant-loop-best decreases-loop-best
 none_found c = c.before.before
 
-abbrev one_found : tie.Else1 invariant-loop decreases-loop → tie.After-search invariant-loop decreases-loop
+abbrev one_found : tie.Else-not-best invariant-loop-best decreases-loop-best → tie.After-search-best invariant-loop-best decreases-loop-best
 one_found c = c.before.before
 
 -- ---- what is known there
 
 -- the pairs that can be taken
-abbrev Left : (c : tie.At-loop invariant-loop decreases-loop) → Pair → Type 0
-Left c = let a = (entered c).args in Open a.keys.now a.m a.n c.loop.firsts c.loop.seconds
+abbrev Left : (c : tie.At-loop-best invariant-loop-best decreases-loop-best) → Pair → Type 0
+Left c = let a = (entered c).args in Open a.keys.now a.m a.n c.loop-best.firsts c.loop-best.seconds
 
-best : (c : tie.After-search invariant-loop decreases-loop) → let a = (entered (this-turn c)).args in Best a.keys.now a.m a.n (Left (this-turn c)) c.search.result
+best : (c : tie.After-search-best invariant-loop-best decreases-loop-best) → let a = (entered (this-turn c)).args in Best a.keys.now a.m a.n (Left (this-turn c)) c.search-best.result
 best c =
     let a = (entered (this-turn c)).args in
-    search_best a.keys.now a.m a.n (this-turn c).loop.firsts (this-turn c).loop.seconds c.search.result c.search.ensures
+    search_best a.keys.now a.m a.n (this-turn c).loop-best.firsts (this-turn c).loop-best.seconds c.search-best.result c.search-best.ensures
 
-first_of : (c : tie.Else1 invariant-loop decreases-loop) → let a = (entered (this-turn (one_found c))).args in let r = (one_found c).search.result in
+first_of : (c : tie.Else-not-best invariant-loop-best decreases-loop-best) → let a = (entered (this-turn (one_found c))).args in let r = (one_found c).search-best.result in
     IsFirst a.keys.now a.m a.n (Left (this-turn (one_found c))) (pair r.first r.second)
-first_of c = something_first _ _ _ _ (one_found c).search.result (best (one_found c)) (not-false _ c.if1.false)
+first_of c = something_first _ _ _ _ (one_found c).search-best.result (best (one_found c)) c.if-not-best.false
 
-none_left : (c : tie.Then1 invariant-loop decreases-loop) → (p : Pair) → Left (this-turn (none_found c)) p → ⊥
-none_left c = nothing_left _ _ _ _ (none_found c).search.result (best (none_found c)) (not-true _ c.if1.true)
+none_left : (c : tie.Then-not-best invariant-loop-best decreases-loop-best) → (p : Pair) → Left (this-turn (none_found c)) p → ⊥
+none_left c = nothing_left _ _ _ _ (none_found c).search-best.result (best (none_found c)) c.if-not-best.true
 
-loop-holds : tie.Need-loop-init invariant-loop decreases-loop
-loop-holds c =
+loop-best-init : tie.Need-loop-best-init invariant-loop-best decreases-loop-best
+loop-best-init c =
     let a = (cleared c).args in
-    subst₂ (Underway (from_keys a.keys.now a.m a.n)) (sym c.before.before.before.before.before.before.clear.ensures) (sym c.before.before.clear2.ensures)
+    subst₂ (Underway (from_keys a.keys.now a.m a.n)) (sym c.clear.ensures) (sym c.clear-2.ensures)
     (tables_start a.keys.now a.m a.n (cleared c).requires.0 (cleared c).requires.1)
 
-search-requires : tie.Need-search-requires invariant-loop decreases-loop
-search-requires c κs =
-    let u = c.before.before.loop.invariant in
-    record { all_keys = (entered c.before.before).pre.2.all_keys; all_firsts = u.all_firsts; all_seconds = u.all_seconds }
+search-best-requires : tie.Need-search-best-requires invariant-loop-best decreases-loop-best
+search-best-requires c κs =
+    let u = c.loop-best.invariant in
+    record { all_keys = (entered c).requires.2.all_keys; all_firsts = u.all_firsts; all_seconds = u.all_seconds }
 
-same_length : tie.Need-same-length invariant-loop decreases-loop
-same_length c = let t = this-turn (none_found c) in t.loop.inv.all_firsts ∙ sym (entered t).pre.2.all_firsts
+shape_of-firsts-then-not-best : tie.Need-shape_of-firsts-then-not-best invariant-loop-best decreases-loop-best
+shape_of-firsts-then-not-best c = let t = this-turn (none_found c) in t.loop-best.invariant.all_firsts ∙ sym (entered t).requires.2.all_firsts
 
-same-length-2 : tie.Need-same-length-2 invariant-loop decreases-loop
-same-length-2 c = let t = this-turn (none_found c) in t.loop.inv.all_seconds ∙ sym (entered t).pre.2.all_seconds
+shape_of-seconds-then-not-best : tie.Need-shape_of-seconds-then-not-best invariant-loop-best decreases-loop-best
+shape_of-seconds-then-not-best c = let t = this-turn (none_found c) in t.loop-best.invariant.all_seconds ∙ sym (entered t).requires.2.all_seconds
 
-returns : tie.Need-returns invariant-loop decreases-loop
-returns c =
+returns-then-not-best : tie.Need-returns-then-not-best invariant-loop-best decreases-loop-best
+returns-then-not-best c =
     let t = this-turn (none_found c) in
     let a = (entered t).args in
-    let h = (entered t).pre in (
-      firsts-done a.keys.now a.m a.n h.0 h.1 t.loop.firsts t.loop.seconds t.loop.inv (none_left c),
-      seconds-done a.keys.now a.m a.n h.0 h.1 t.loop.firsts t.loop.seconds t.loop.inv (none_left c),
+    let h = (entered t).requires in (
+      firsts-done a.keys.now a.m a.n h.0 h.1 t.loop-best.firsts t.loop-best.seconds t.loop-best.invariant (none_left c),
+      seconds-done a.keys.now a.m a.n h.0 h.1 t.loop-best.firsts t.loop-best.seconds t.loop-best.invariant (none_left c),
     )
 
 -- the pair that was found has its tracks
-fits : (c : tie.Else1 invariant-loop decreases-loop) → let a = (entered (this-turn (one_found c))).args in let r = (one_found c).search.result in
+fits : (c : tie.Else-not-best invariant-loop-best decreases-loop-best) → let a = (entered (this-turn (one_found c))).args in let r = (one_found c).search-best.result in
     Keyed a.keys.now a.m a.n (pair r.first r.second)
 fits c = (first_of c).inside.keyed
 
-cast-firsts : tie.Need-overflow-cast-firsts invariant-loop decreases-loop
-cast-firsts c = omega (arith, fits c, (entered (this-turn (one_found c))).pre)
+overflow_cast-firsts : tie.Need-overflow_cast-firsts invariant-loop-best decreases-loop-best
+overflow_cast-firsts c = omega (arith, fits c, (entered (this-turn (one_found c))).requires)
 
-slice-write-firsts : tie.Need-slice-write-firsts invariant-loop decreases-loop
-slice-write-firsts c = omega (arith, (fits c).first, (this-turn (one_found c)).loop.inv.all_firsts)
+bounds-firsts-i : tie.Need-bounds-firsts-i invariant-loop-best decreases-loop-best
+bounds-firsts-i c = omega (arith, (fits c).first, (this-turn (one_found c)).loop-best.invariant.all_firsts)
 
-cast-seconds : tie.Need-overflow-cast-seconds invariant-loop decreases-loop
-cast-seconds c = omega (arith, fits c, (entered (this-turn (one_found c))).pre)
+overflow_cast-seconds : tie.Need-overflow_cast-seconds invariant-loop-best decreases-loop-best
+overflow_cast-seconds c = omega (arith, fits c, (entered (this-turn (one_found c))).requires)
 
-slice-write-seconds : tie.Need-slice-write-seconds invariant-loop decreases-loop
-slice-write-seconds c = omega (arith, (fits c).second, (this-turn (one_found c)).loop.inv.all_seconds)
+bounds-seconds-j : tie.Need-bounds-seconds-j invariant-loop-best decreases-loop-best
+bounds-seconds-j c = omega (arith, (fits c).second, (this-turn (one_found c)).loop-best.invariant.all_seconds)
 
-loop-less : tie.Need-loop-smaller invariant-loop decreases-loop
-loop-less c =
+loop-best-smaller : tie.Need-loop-best-smaller invariant-loop-best decreases-loop-best
+loop-best-smaller c =
     let t = this-turn (one_found c) in
-    let r = (one_found c).search.result in
-    fewer_free t.loop.firsts r.first r.second (slice-write-firsts c) (first_of c).inside.first (omega (arith, (fits c).second, (entered t).pre.1))
+    let r = (one_found c).search-best.result in
+    fewer_free t.loop-best.firsts r.first r.second (bounds-firsts-i c) (first_of c).inside.first (omega (arith, (fits c).second, (entered t).requires.1))
 
-loop-again : tie.Need-loop-preserved invariant-loop decreases-loop
-loop-again c =
+loop-best-preserved : tie.Need-loop-best-preserved invariant-loop-best decreases-loop-best
+loop-best-preserved c =
     let t = this-turn (one_found c) in
     let a = (entered t).args in
-    let h = (entered t).pre in
+    let h = (entered t).requires in
     let w = first_of c in
-    tables-next a.keys.now a.m a.n h.0 h.1 t.loop.firsts t.loop.seconds t.loop.inv _ w.inside w.least
+    tables-next a.keys.now a.m a.n h.0 h.1 t.loop-best.firsts t.loop-best.seconds t.loop-best.invariant _ w.inside w.least
 
-pub pair-tracks-spec : {M : Type 1} → statement M
-pair-tracks-spec =
+pub pair_tracks_spec : {M : Type 1} → statement M
+pair_tracks_spec =
     tie.close
-    (tie.spec invariant-loop decreases-loop (λ c κs. omega arith) (λ c κs. omega arith) loop-holds search-requires same_length same-length-2 returns cast-firsts slice-write-firsts
-    cast-seconds slice-write-seconds loop-less loop-again)
+    (tie.spec invariant-loop-best decreases-loop-best (λ c κs. omega arith) (λ c κs. omega arith) loop-best-init search-best-requires shape_of-firsts-then-not-best shape_of-seconds-then-not-best returns-then-not-best overflow_cast-firsts bounds-firsts-i
+    overflow_cast-seconds bounds-seconds-j loop-best-smaller loop-best-preserved)

@@ -32,41 +32,41 @@ module _ {values : List Float} {s : List ℕ} {i at : ℕ} (w : Comparing values
       told : same (get_or values i nan) (word s at) ≡ r
       told = sym (e ∙ ap (same (get_or values i nan)) f)
 
-      differs : not r ≡ true → false ≡ all_same values s
-      differs t = rw (next, le-leb (at + 8) (length s) k, told, not-true r t)
+      differs : r ≡ false → false ≡ all_same values s
+      differs t = rw (next, le-leb (at + 8) (length s) k, told, t)
 
-      goes_on : not r ≡ false → Comparing values s (i + 1) (at + 8)
-      goes_on t = record { turns = omega arith; within = k; rest = rw (next, le-leb (at + 8) (length s) k, told, not-false r t) refl }
+      goes_on : r ≡ true → Comparing values s (i + 1) (at + 8)
+      goes_on t = record { turns = omega arith; within = k; rest = rw (next, le-leb (at + 8) (length s) k, told, t) refl }
 
-abbrev invariant-loop : tie.invariant-loop
-invariant-loop values s at₀ i₀ i-end at i = Comparing values s i at
+abbrev invariant-loop-i : tie.invariant-loop-i
+invariant-loop-i values s at₀ i₀ i-end at i = Comparing values s i at
 
-abbrev decreases-loop : tie.decreases-loop
-decreases-loop values s at₀ i₀ i-end at i = length values - i
+abbrev decreases-loop-i : tie.decreases-loop-i
+decreases-loop-i values s at₀ i₀ i-end at i = length values - i
 
-loop-holds : tie.Need-loop-init invariant-loop decreases-loop
+loop-i-init : tie.Need-loop-i-init invariant-loop-i decreases-loop-i
 unfolding all_same
-loop-holds c = record { turns = omega arith; within = omega arith; rest = refl }
+loop-i-init c = record { turns = omega arith; within = omega arith; rest = refl }
 
 -- from the answer of `is_same` to the start of its turn
-abbrev turn : tie.After-is-same invariant-loop decreases-loop → tie.In-loop invariant-loop decreases-loop
+abbrev turn : tie.After-is_same invariant-loop-i decreases-loop-i → tie.In-loop-i invariant-loop-i decreases-loop-i
 turn c = c.before.before.before.before
 
-returns : tie.Need-returns invariant-loop decreases-loop
-returns c = absent c.before.before.loop.invariant c.before.loop-test.true (omega arith)
+returns-then-s-at-lt8 : tie.Need-returns-then-s-at-lt8 invariant-loop-i decreases-loop-i
+returns-then-s-at-lt8 c = absent c.loop-i.invariant c.loop-i-test.true (omega arith)
 
-returns-2 : tie.Need-returns-2 invariant-loop decreases-loop
-returns-2 c =
+returns-then-not-is_same : tie.Need-returns-then-not-is_same invariant-loop-i decreases-loop-i
+returns-then-not-is_same c =
     let t = turn c.before in
-    differs t.before.loop.inv t.loop-test.true (omega arith) c.before.is_same.ensures c.before.before.word.ensures c.if2.true
+    differs t.loop-i.invariant t.loop-i-test.true (omega arith) c.is_same.ensures c.word.ensures c.if-not-is_same.true
 
-loop-again : tie.Need-loop-preserved invariant-loop decreases-loop
-loop-again c =
+loop-i-preserved : tie.Need-loop-i-preserved invariant-loop-i decreases-loop-i
+loop-i-preserved c =
     let t = turn c.before in
-    goes_on t.before.loop.inv t.loop-test.true (omega arith) c.before.is_same.ensures c.before.before.word.ensures c.if2.false
+    goes_on t.loop-i.invariant t.loop-i-test.true (omega arith) c.is_same.ensures c.word.ensures c.if-not-is_same.false
 
-pub are-same-spec : {M : Type 1} → statement M
-are-same-spec =
+pub are_same_spec : {M : Type 1} → statement M
+are_same_spec =
     tie.close
-    (tie.spec invariant-loop decreases-loop loop-holds (λ c. omega arith) returns (λ c. search rules) (λ c. omega arith) (λ c κs. search rules) (λ c κs. search rules) returns-2
-    (λ c. omega arith) (λ c. omega arith) (λ c. omega arith) loop-again (λ c. none_left c.before.loop.invariant c.loop-test.false))
+    (tie.spec invariant-loop-i decreases-loop-i loop-i-init (λ c. omega arith) returns-then-s-at-lt8 (λ c. search rules) (λ c. omega arith) (λ c κs. search rules) (λ c κs. search rules) returns-then-not-is_same
+    (λ c. omega arith) (λ c. omega arith) (λ c. omega arith) loop-i-preserved (λ c. none_left c.loop-i.invariant c.loop-i-test.false))

@@ -6,14 +6,14 @@ use Rattle.replay.proofs.Laws.{of_nan-pattern}
 use Rattle.replay.proofs.double.Statement.{statement}
 use Rattle.replay.proofs.double.Tie as tie
 
-returns : tie.Need-returns
+returns-then-p-gt-INFINITY_BITS : tie.Need-returns-then-p-gt-INFINITY_BITS
 unfolding of_bits div
-returns c = of_nan-pattern c.before.args.p c.if1.true
+returns-then-p-gt-INFINITY_BITS c = of_nan-pattern c.args.p c.if-p-gt-INFINITY_BITS.true
 
-float-from-bits-result : tie.Need-float-from-bits-result
-float-from-bits-result c = no_nan-pattern c.before.args.p c.if1.false
+float_from_bits-result : tie.Need-float_from_bits-result
+float_from_bits-result c = no_nan-pattern c.args.p c.if-p-gt-INFINITY_BITS.false
 
-pub double-spec : {M : Type 1} → statement M
-double-spec =
+pub double_spec : {M : Type 1} → statement M
+double_spec =
     tie.close
-    (tie.spec returns float-from-bits-result (λ c. search rules))
+    (tie.spec returns-then-p-gt-INFINITY_BITS float_from_bits-result (λ c. search rules))

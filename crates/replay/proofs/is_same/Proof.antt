@@ -7,14 +7,14 @@ use Rattle.replay.proofs.Laws.{same-nan, same_number}
 use Rattle.replay.proofs.is_same.Statement.{statement}
 use Rattle.replay.proofs.is_same.Tie as tie
 
+returns-then-x : tie.Need-returns-then-x
+returns-then-x c = let p = c.args.p in sym (nan_bits_above binary64 p) ∙ same-nan c.args.x p c.if-x.true
+
+float_to_bits-result : tie.Need-float_to_bits-result
+float_to_bits-result c = equals_itself c.args.x c.if-x.false
+
 returns : tie.Need-returns
-returns c = let p = c.before.args.p in sym (nan_bits_above binary64 p) ∙ same-nan c.before.args.x p c.if1.true
+returns c = same_number c.args.x c.args.p c.if-x.false
 
-float-to-bits-result : tie.Need-float-to-bits-result
-float-to-bits-result c = equals_itself c.before.args.x c.if1.false
-
-returns-2 : tie.Need-returns-2
-returns-2 c = same_number c.before.args.x c.before.args.p c.if1.false
-
-pub is-same-spec : {M : Type 1} → statement M
-is-same-spec = tie.close (tie.spec returns float-to-bits-result returns-2)
+pub is_same_spec : {M : Type 1} → statement M
+is_same_spec = tie.close (tie.spec returns-then-x float_to_bits-result returns)

@@ -8,5 +8,5 @@ returns : tie.Need-returns
 unfolding kind_of
 returns c = ap (λ (n : ℕ). n % 32) c.number.ensures
 
-pub kind-spec : {M : Type 1} → statement M
-kind-spec = tie.close (tie.spec (λ c κs. search rules) returns)
+pub kind_spec : {M : Type 1} → statement M
+kind_spec = tie.close (tie.spec (λ c κs. search rules) returns)

@@ -4,6 +4,6 @@ use Rattle.kernel.proofs.Words.{word_outside}
 use Rattle.replay.proofs.number.Statement.{statement}
 use Rattle.replay.proofs.number.Tie as tie
 
-pub number-spec : {M : Type 1} → statement M
-number-spec =
+pub number_spec : {M : Type 1} → statement M
+number_spec =
     tie.close (tie.spec (λ c. sym (word_outside _ _ (omega arith))) (λ c. search rules) (λ c κs. search rules) (λ c. search rules))

@@ -6,17 +6,17 @@ use Rattle.replay.proofs.Blocks.{bytes_missing}
 use Rattle.replay.proofs.record.Statement.{statement}
 use Rattle.replay.proofs.record.Tie as tie
 
+returns-then-s-numbers : tie.Need-returns-then-s-numbers
+unfolding frozen_record
+returns-then-s-numbers c =
+    let x = c.args in
+    sym (bytes_missing x.s.now x.at (8 * word x.s.now x.at) (omega (arith, c.word-numbers.ensures)))
+
 returns : tie.Need-returns
 unfolding frozen_record
 returns c =
-    let x = c.before.before.before.before.args in
-    sym (bytes_missing x.s.now x.at (8 * word x.s.now x.at) (omega (arith, c.before.before.word.ensures)))
+    let x = c.args in
+    c.part.ensures ∙ ap (λ (k : ℕ). bytes_at x.s.now x.at (8 * k)) c.word-numbers.ensures
 
-returns-2 : tie.Need-returns-2
-unfolding frozen_record
-returns-2 c =
-    let x = c.before.before.before.before.args in
-    c.part.ensures ∙ ap (λ (k : ℕ). bytes_at x.s.now x.at (8 * k)) c.before.before.word.ensures
-
-pub record-spec : {M : Type 1} → statement M
-record-spec = tie.close (tie.spec (λ c κs. search rules) (λ c. search rules) returns (λ c. search rules) (λ c κs. search rules) returns-2)
+pub record_spec : {M : Type 1} → statement M
+record_spec = tie.close (tie.spec (λ c κs. search rules) (λ c. search rules) returns-then-s-numbers (λ c. search rules) (λ c κs. search rules) returns)

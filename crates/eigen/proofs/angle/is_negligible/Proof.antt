@@ -7,11 +7,11 @@ use Rattle.eigen.proofs.angle.is_negligible.Tie as tie
 returns : tie.Need-returns
 unfolding negligible
 returns c =
-    let after-max = c.before.before in
-    let after-abs = after-max.before.before in
-    rw (c.abs3.ensures, c.before.max2.ensures, after-max.max.ensures, after-max.before.abs2.ensures, after-abs.abs.ensures)
+    let after-max = c in
+    let after-abs = after-max in
+    rw (c.abs-3.ensures, c.max-scale.ensures, after-max.max.ensures, after-max.abs-2.ensures, after-abs.abs.ensures)
 
-pub is-negligible-spec : {M : Type 1} → statement M
-is-negligible-spec =
+pub is_negligible_spec : {M : Type 1} → statement M
+is_negligible_spec =
     tie.close
     (tie.spec (λ c κs. search rules) (λ c κs. search rules) (λ c κs. search rules) (λ c κs. search rules) (λ c κs. search rules) returns)

@@ -6,9 +6,9 @@ use Rattle.eigen.proofs.angle.rotation.Tie as tie
 
 returns : tie.Need-returns
 unfolding rotation
-returns c = rw (c.sqrt-near.ensures, c.before.tangent.ensures)
+returns c = rw (c.sqrt_near-c.ensures, c.tangent-t.ensures)
 
-pub rotation-spec : {M : Type 1} → statement M
-rotation-spec =
+pub rotation_spec : {M : Type 1} → statement M
+rotation_spec =
     tie.close
     (tie.spec (λ c κs. search rules) (λ c κs. search rules) (λ c κs. search rules) (λ c κs. search rules) (λ c κs. search rules) returns)

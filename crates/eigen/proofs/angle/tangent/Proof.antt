@@ -9,20 +9,20 @@ use Rattle.eigen.proofs.angle.tangent.Statement.{statement}
 use Rattle.eigen.proofs.angle.tangent.Tie as tie
 
 -- no zero turns as the numbers below it do
-below-nought : (c : tie.Else2) → le nought c.before.before.before.args.theta ≡ false
-below-nought c = c.if2.false
+below-nought : (c : tie.Else-theta) → le nought c.args.theta ≡ false
+below-nought c = c.if-theta.false
+
+returns-then-size : tie.Need-returns-then-size
+unfolding tangent
+returns-then-size c = rw (← c.requires, c.if-size.true)
+
+returns-then-theta : tie.Need-returns-then-theta
+unfolding tangent
+returns-then-theta c = rw (← c.requires, ← c.sqrt_near-root.ensures, c.if-size.false, c.if-theta.true)
 
 returns : tie.Need-returns
-unfolding tangent
-returns c = rw (← c.before.requires, c.if1.true)
-
-returns-2 : tie.Need-returns-2
-unfolding tangent
-returns-2 c = rw (← c.before.before.before.requires, ← c.before.sqrt-near.ensures, c.before.before.if1.false, c.if2.true)
-
-returns-3 : tie.Need-returns-3
 unfolding tangent neg of_bits
-returns-3 c = rw (← c.before.before.before.requires, ← c.before.sqrt-near.ensures, c.before.before.if1.false, below-nought c)
+returns c = rw (← c.requires, ← c.sqrt_near-root.ensures, c.if-size.false, below-nought c)
 
-pub tangent-spec : {M : Type 1} → statement M
-tangent-spec = tie.close (tie.spec returns (λ c κs. search rules) returns-2 returns-3)
+pub tangent_spec : {M : Type 1} → statement M
+tangent_spec = tie.close (tie.spec returns-then-size (λ c κs. search rules) returns-then-theta returns)

@@ -11,31 +11,31 @@ use Rattle.eigen.proofs.generic.eigenpairs.Tie as tie
 lent_at : {n k : ℕ} {a x y : List Float} → n ≡ k → Lent n a x y → Lent k a x y
 lent_at {a = a} {x} {y} e = subst (λ (i : ℕ). Lent i a x y) e
 
-single-eigenpair-requires : tie.Need-single-eigenpair-requires
-single-eigenpair-requires c κs =
-    let start = c.before.before.before.before.before.before in
-    let one = c.before.before.if1.true in
+single_eigenpair-requires : tie.Need-single_eigenpair-requires
+single_eigenpair-requires c κs =
+    let start = c in
+    let one = c.if-n-eq1.true in
     lent_at one start.requires.1
 
-returns : tie.Need-returns
-returns c =
-    let called = c.before.before.before.before in
-    rw called.before.before.before.if1.true called.single-eigenpair.ensures
+returns-then-n-eq1 : tie.Need-returns-then-n-eq1
+returns-then-n-eq1 c =
+    let called = c in
+    rw called.if-n-eq1.true called.single_eigenpair.ensures
 
-plane-eigenpairs-requires : tie.Need-plane-eigenpairs-requires
-plane-eigenpairs-requires c κs =
-    let start = c.before.before.before.before.before.before.before in
-    let two = c.before.before.if2.true in
+plane_eigenpairs-requires : tie.Need-plane_eigenpairs-requires
+plane_eigenpairs-requires c κs =
+    let start = c in
+    let two = c.if-n-eq2.true in
     lent_at two start.requires.1
 
-returns-2 : tie.Need-returns-2
-returns-2 c =
-    let called = c.before.before.before.before in
-    rw called.before.before.before.if2.true called.plane-eigenpairs.ensures
+returns-then-n-eq2 : tie.Need-returns-then-n-eq2
+returns-then-n-eq2 c =
+    let called = c in
+    rw called.if-n-eq2.true called.plane_eigenpairs.ensures
 
-pub eigenpairs-spec : {M : Type 1} → statement M
-eigenpairs-spec =
+pub eigenpairs_spec : {M : Type 1} → statement M
+eigenpairs_spec =
     tie.close
-    (tie.spec single-eigenpair-requires (λ c. search rules) (λ c. search rules) returns plane-eigenpairs-requires (λ c. search rules) (λ c. search rules)
-    returns-2 (λ c κs. search rules) (λ c. search rules) (λ c. search rules) (λ c. search rules) (λ c κs. search rules) (λ c. search rules) (λ c. search rules)
+    (tie.spec single_eigenpair-requires (λ c. search rules) (λ c. search rules) returns-then-n-eq1 plane_eigenpairs-requires (λ c. search rules) (λ c. search rules)
+    returns-then-n-eq2 (λ c κs. search rules) (λ c. search rules) (λ c. search rules) (λ c. search rules) (λ c κs. search rules) (λ c. search rules) (λ c. search rules)
     (λ c. search rules))

@@ -7,55 +7,55 @@ use Rattle.eigen.proofs.generic.pairs.Statement.{statement}
 use Rattle.eigen.proofs.generic.pairs.Tie as tie
 
 -- the places on the way
-abbrev measured : tie.After-are-finite → tie.After-diagonal
-measured c = c.before.before.before.before
+abbrev measured : tie.After-are_finite → tie.After-diagonal
+measured c = c.before.before.before
 
 abbrev entered : tie.After-diagonal → tie.Start
 entered c = c.before.before.before.before.before.before.before.before
 
-abbrev tested : tie.After-sort → tie.After-are-finite
-tested c = c.before.before.before.before
+abbrev tested : tie.After-sort → tie.After-are_finite
+tested c = c.before.before.before
 
-abbrev sorted : tie.After-arrange-values → tie.After-sort
-sorted c = c.before.before.before.before.before.before
+abbrev sorted : tie.After-arrange_values → tie.After-sort
+sorted c = c.before.before.before.before
 
 -- the order of the diagonal
-ordered : (c : tie.After-sort) → Ordering (entered (measured (tested c))).args.n c.sort.new.1.1.0
+ordered : (c : tie.After-sort) → Ordering (entered (measured (tested c))).args.n c.sort.new.l
 ordered c =
     let x = entered (measured (tested c)) in
-    record { size = c.sort.auto.1.1.0 ∙ x.pre.0.order-room; below = sorted_below _ x.args.n c.sort.ensures }
+    record { size = c.sort.auto.l ∙ x.requires.0.order-room; below = sorted_below _ x.args.n c.sort.ensures }
+
+returns-then-not-are_finite : tie.Need-returns-then-not-are_finite
+returns-then-not-are_finite c =
+    let read = measured c.before in
+    let x = (entered read).args in
+    pairs-refused x.n x.m.now x.v.now x.values.now x.vectors.now read.diagonal.ensures c.are_finite.ensures c.if-not-are_finite.true
+
+arrange_values-requires : tie.Need-arrange_values-requires
+arrange_values-requires c κs =
+    let call = c in
+    let read = measured (tested c.before.before.before) in
+    let x = entered read in
+    (read.diagonal.auto.e ∙ x.requires.0.values-room, ordered c.before.before.before, x.requires.1.values-size)
+
+arrange_vectors-requires : tie.Need-arrange_vectors-requires
+arrange_vectors-requires c κs =
+    let call = sorted c.before.before.before in
+    let x = entered (measured (tested call)) in
+    (x.requires.0.vectors-room, ordered call, x.requires.1.vectors-size)
 
 returns : tie.Need-returns
 returns c =
-    let read = measured c.before in
-    let x = (entered read).args in
-    pairs-refused x.n x.m.now x.v.now x.values.now x.vectors.now read.diagonal.ensures c.before.are-finite.ensures c.if1.true
-
-arrange-values-requires : tie.Need-arrange-values-requires
-arrange-values-requires c κs =
-    let call = c.before.before.before.before.before in
-    let read = measured (tested call) in
-    let x = entered read in
-    (read.diagonal.kept.1.1.0 ∙ x.pre.0.values-room, ordered call, x.pre.1.values-size)
-
-arrange-vectors-requires : tie.Need-arrange-vectors-requires
-arrange-vectors-requires c κs =
-    let call = sorted c.before.before.before.before in
-    let x = entered (measured (tested call)) in
-    (x.pre.0.vectors-room, ordered call, x.pre.1.vectors-size)
-
-returns-2 : tie.Need-returns-2
-returns-2 c =
-    let after-arrange-vectors = c.before.before in
-    let after-arrange-values = after-arrange-vectors.before.before.before.before.before in
-    let call = sorted after-arrange-values in
+    let after-arrange-vectors = c in
+    let after-arrange-values = after-arrange-vectors in
+    let call = sorted c.before.before.before.before.before.before in
     let read = measured (tested call) in
     let x = (entered read).args in
-    pairs_made x.n x.m.now x.v.now x.values.now x.vectors.now read.diagonal.ensures (tested call).are-finite.ensures
-    call.before.before.before.if1.left call.sort.ensures after-arrange-values.arrange-values.ensures after-arrange-vectors.arrange-vectors.ensures
+    pairs_made x.n x.m.now x.v.now x.values.now x.vectors.now read.diagonal.ensures (tested call).are_finite.ensures
+    call.if-not-are_finite.false call.sort.ensures after-arrange-values.arrange_values.ensures after-arrange-vectors.arrange_vectors.ensures
 
-pub pairs-spec : {M : Type 1} → statement M
-pairs-spec =
+pub pairs_spec : {M : Type 1} → statement M
+pairs_spec =
     tie.close
-    (tie.spec (λ c κs. search rules) (λ c κs. search rules) (λ c. search rules) returns (λ c κs. search rules) arrange-values-requires arrange-vectors-requires
-    (λ c. search rules) (λ c. search rules) (λ c. search rules) (λ c. search rules) returns-2)
+    (tie.spec (λ c κs. search rules) (λ c κs. search rules) (λ c. search rules) returns-then-not-are_finite (λ c κs. search rules) arrange_values-requires arrange_vectors-requires
+    (λ c. search rules) (λ c. search rules) (λ c. search rules) (λ c. search rules) returns)

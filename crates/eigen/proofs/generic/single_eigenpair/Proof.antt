@@ -5,21 +5,21 @@ use Rattle.eigen.proofs.Cases.Single.{single-eigenpairs, single-stored}
 use Rattle.eigen.proofs.generic.single_eigenpair.Statement.{statement}
 use Rattle.eigen.proofs.generic.single_eigenpair.Tie as tie
 
-returns : tie.Need-returns
-returns c = let x = c.before.before.before.before.before.before.args in rw (single-eigenpairs x.a.now, unmet c.before.is_finite.ensures c.if1.true)
+returns-then-not-is_finite : tie.Need-returns-then-not-is_finite
+returns-then-not-is_finite c = let x = c.args in rw (single-eigenpairs x.a.now, unmet c.is_finite.ensures c.if-not-is_finite.true)
 
-returns-2 : tie.Need-returns-2
-returns-2 c =
-    let start = c.before.before.before.before.before.before in
+returns : tie.Need-returns
+returns c =
+    let start = c in
     let x = start.args in
     rw (
       single-eigenpairs x.a.now,
-      met c.before.is_finite.ensures c.if1.false,
+      met c.is_finite.ensures c.if-not-is_finite.false,
       single-stored x.values.now _ start.requires.values-size,
       single-stored x.vectors.now _ start.requires.vectors-size,
     )
 
-pub single-eigenpair-spec : {M : Type 1} → statement M
-single-eigenpair-spec =
+pub single_eigenpair_spec : {M : Type 1} → statement M
+single_eigenpair_spec =
     tie.close
-    (tie.spec (λ c. search rules) (λ c κs. search rules) returns (λ c. search rules) (λ c. search rules) (λ c. search rules) (λ c. search rules) returns-2)
+    (tie.spec (λ c. search rules) (λ c κs. search rules) returns-then-not-is_finite (λ c. search rules) (λ c. search rules) (λ c. search rules) (λ c. search rules) returns)

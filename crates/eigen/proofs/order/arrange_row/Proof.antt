@@ -9,29 +9,29 @@ use Rattle.eigen.specs.Private.{Below}
 use Rattle.eigen.proofs.order.arrange_row.Statement.{statement}
 use Rattle.eigen.proofs.order.arrange_row.Tie as tie
 
-abbrev invariant-loop : tie.invariant-loop
-invariant-loop v l n i y₀ k₀ y k = EntryByEntry (λ j. at v n (index_at l j) i) n y₀ k y
+abbrev invariant-loop-k : tie.invariant-loop-k
+invariant-loop-k v l n i y₀ k₀ y k = EntryByEntry (λ j. at v n (index_at l j) i) n y₀ k y
 
-abbrev decreases-loop : tie.decreases-loop
-decreases-loop v l n i y₀ k₀ y k = n - k
+abbrev decreases-loop-k : tie.decreases-loop-k
+decreases-loop-k v l n i y₀ k₀ y k = n - k
 
-entry-requires : tie.Need-entry-requires invariant-loop decreases-loop
+entry-requires : tie.Need-entry-requires invariant-loop-k decreases-loop-k
 unfolding Below
 entry-requires c κs =
-    let at-loop = c.before.before in
-    let start = at-loop.before.before.before.before in
+    let at-loop = c in
+    let start = at-loop in
     let x = start.args in
-    let k = at-loop.loop.k in
+    let k = at-loop.loop-k.k in
     omega (arith, cell x.n x.n {i = index_at x.l.now k} {j = x.i} (start.requires.2.below k (omega arith)) start.requires.0)
 
-loop-again : tie.Need-loop-preserved invariant-loop decreases-loop
-loop-again c = entry-written c.before.before.before.loop.invariant c.before.before.loop-test.true c.entry.ensures
+loop-k-preserved : tie.Need-loop-k-preserved invariant-loop-k decreases-loop-k
+loop-k-preserved c = entry-written c.loop-k.invariant c.loop-k-test.true c.entry.ensures
 
-returns : tie.Need-returns invariant-loop decreases-loop
-returns c = every_entry c.before.loop.invariant c.loop-test.false
+returns : tie.Need-returns invariant-loop-k decreases-loop-k
+returns c = every_entry c.loop-k.invariant c.loop-k-test.false
 
-pub arrange-row-spec : {M : Type 1} → statement M
-arrange-row-spec =
+pub arrange_row_spec : {M : Type 1} → statement M
+arrange_row_spec =
     tie.close
-    (tie.spec invariant-loop decreases-loop (λ c. no_entry c.before.before.before.requires.3) (λ c. omega arith) (λ c. omega arith) entry-requires (λ c. omega arith)
-    (λ c. omega arith) (λ c. omega arith) (λ c. omega arith) loop-again (λ c. c.before.loop.invariant.entries.size) returns)
+    (tie.spec invariant-loop-k decreases-loop-k (λ c. no_entry c.requires.3) (λ c. omega arith) (λ c. omega arith) entry-requires (λ c. omega arith)
+    (λ c. omega arith) (λ c. omega arith) (λ c. omega arith) loop-k-preserved (λ c. c.loop-k.invariant.entries.size) returns)

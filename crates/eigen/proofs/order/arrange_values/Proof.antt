@@ -8,24 +8,24 @@ use Rattle.eigen.specs.Private.{Below}
 use Rattle.eigen.proofs.order.arrange_values.Statement.{statement}
 use Rattle.eigen.proofs.order.arrange_values.Tie as tie
 
-abbrev invariant-loop : tie.invariant-loop
-invariant-loop e l n y₀ k₀ y k = EntryByEntry (λ i. nth e (index_at l i)) n y₀ k y
+abbrev invariant-loop-k : tie.invariant-loop-k
+invariant-loop-k e l n y₀ k₀ y k = EntryByEntry (λ i. nth e (index_at l i)) n y₀ k y
 
-abbrev decreases-loop : tie.decreases-loop
-decreases-loop e l n y₀ k₀ y k = n - k
+abbrev decreases-loop-k : tie.decreases-loop-k
+decreases-loop-k e l n y₀ k₀ y k = n - k
 
-value-at-requires : tie.Need-value-at-requires invariant-loop decreases-loop
+value_at-requires : tie.Need-value_at-requires invariant-loop-k decreases-loop-k
 unfolding Below
-value-at-requires c κs = let h = c.before.before.before.before.before.requires.1.below c.before.loop.k (omega arith) in (omega arith, omega arith)
+value_at-requires c κs = let h = c.requires.1.below c.loop-k.k (omega arith) in (omega arith, omega arith)
 
-loop-again : tie.Need-loop-preserved invariant-loop decreases-loop
-loop-again c = entry-written c.before.before.loop.invariant c.before.loop-test.true c.value-at.ensures
+loop-k-preserved : tie.Need-loop-k-preserved invariant-loop-k decreases-loop-k
+loop-k-preserved c = entry-written c.loop-k.invariant c.loop-k-test.true c.value_at.ensures
 
-returns : tie.Need-returns invariant-loop decreases-loop
-returns c = every_entry c.before.loop.invariant c.loop-test.false
+returns : tie.Need-returns invariant-loop-k decreases-loop-k
+returns c = every_entry c.loop-k.invariant c.loop-k-test.false
 
-pub arrange-values-spec : {M : Type 1} → statement M
-arrange-values-spec =
+pub arrange_values_spec : {M : Type 1} → statement M
+arrange_values_spec =
     tie.close
-    (tie.spec invariant-loop decreases-loop (λ c. no_entry c.before.before.before.requires.2) value-at-requires (λ c. omega arith) (λ c. omega arith)
-    (λ c. omega arith) (λ c. omega arith) loop-again (λ c. c.before.loop.invariant.entries.size) returns)
+    (tie.spec invariant-loop-k decreases-loop-k (λ c. no_entry c.requires.2) value_at-requires (λ c. omega arith) (λ c. omega arith)
+    (λ c. omega arith) (λ c. omega arith) loop-k-preserved (λ c. c.loop-k.invariant.entries.size) returns)

@@ -15,38 +15,38 @@ record Shifting (k j : ℕ) (old : List ℕ) (i : ℕ) (new : List ℕ) : Type 0
   pub turns : i ≤ k
   pub shifted : Shifted old k i new
 
-abbrev invariant-loop : tie.invariant-loop
-invariant-loop l₀ k j i₀ l i = Shifting k j l₀ i l
+abbrev invariant-loop-i : tie.invariant-loop-i
+invariant-loop-i l₀ k j i₀ l i = Shifting k j l₀ i l
 
-abbrev decreases-loop : tie.decreases-loop
-decreases-loop l₀ k j i₀ l i = i
+abbrev decreases-loop-i : tie.decreases-loop-i
+decreases-loop-i l₀ k j i₀ l i = i
 
-loop-holds : tie.Need-loop-init invariant-loop decreases-loop
-loop-holds c = record { after = c.requires.0; turns = omega arith; shifted = shifted_none _ _ }
+loop-i-init : tie.Need-loop-i-init invariant-loop-i decreases-loop-i
+loop-i-init c = record { after = c.requires.0; turns = omega arith; shifted = shifted_none _ _ }
 
-loop-again : tie.Need-loop-preserved invariant-loop decreases-loop
-loop-again c =
-    let at-loop = c.before.before in
-    let turn = at-loop.loop in
+loop-i-preserved : tie.Need-loop-i-preserved invariant-loop-i decreases-loop-i
+loop-i-preserved c =
+    let at-loop = c in
+    let turn = at-loop.loop-i in
     let moved = turn.invariant.shifted in
     record {
       after = omega arith;
       turns = omega arith;
-      shifted = shifted_more at-loop.before.args.k turn.i (omega arith) (omega (arith, moved.size)) refl moved;
+      shifted = shifted_more at-loop.args.k turn.i (omega arith) (omega (arith, moved.size)) refl moved;
     }
 
-same_length : tie.Need-same-length invariant-loop decreases-loop
-same_length c = length-set c.before.loop.l c.before.before.args.j _ ∙ c.before.loop.invariant.shifted.size
+shape_of-l : tie.Need-shape_of-l invariant-loop-i decreases-loop-i
+shape_of-l c = length-set c.loop-i.l c.args.j _ ∙ c.loop-i.invariant.shifted.size
 
-returns : tie.Need-returns invariant-loop decreases-loop
+returns : tie.Need-returns invariant-loop-i decreases-loop-i
 returns c =
-    let start = c.before.before in
+    let start = c in
     let x = start.args in
-    let end = le_antisymm c.loop-test.false c.before.loop.invariant.after in
-    inserted x.k x.j start.requires.0 start.requires.1 (subst (λ i. Shifted x.l.now x.k i c.before.loop.l) end c.before.loop.invariant.shifted)
+    let end = le_antisymm c.loop-i-test.false c.loop-i.invariant.after in
+    inserted x.k x.j start.requires.0 start.requires.1 (subst (λ i. Shifted x.l.now x.k i c.loop-i.l) end c.loop-i.invariant.shifted)
 
-pub insert-spec : {M : Type 1} → statement M
-insert-spec =
+pub insert_spec : {M : Type 1} → statement M
+insert_spec =
     tie.close
-    (tie.spec invariant-loop decreases-loop loop-holds (λ c. omega arith) (λ c. omega arith) (λ c. omega arith) (λ c. omega arith) (λ c. omega arith) (λ c. omega arith)
-    (λ c. omega arith) loop-again (λ c. omega arith) (λ c. omega arith) same_length returns)
+    (tie.spec invariant-loop-i decreases-loop-i loop-i-init (λ c. omega arith) (λ c. omega arith) (λ c. omega arith) (λ c. omega arith) (λ c. omega arith) (λ c. omega arith)
+    (λ c. omega arith) loop-i-preserved (λ c. omega arith) (λ c. omega arith) shape_of-l returns)

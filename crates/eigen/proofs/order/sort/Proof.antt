@@ -18,55 +18,55 @@ record Sorting (e : List Float) (n k : ℕ) (l : List ℕ) : Type 0 where
   pub size : length l ≡ n
   pub sorted : take k l ≡ order e k
 
-abbrev invariant-loop : tie.invariant-loop
-invariant-loop e n l₀ k₀ l k = Sorting e n k l
+abbrev invariant-loop-k : tie.invariant-loop-k
+invariant-loop-k e n l₀ k₀ l k = Sorting e n k l
 
-abbrev decreases-loop : tie.decreases-loop
-decreases-loop e n l₀ k₀ l k = n - k
+abbrev decreases-loop-k : tie.decreases-loop-k
+decreases-loop-k e n l₀ k₀ l k = n - k
 
 -- the place where the function begins, and the list there
-abbrev entered : tie.At-loop invariant-loop decreases-loop → tie.Start invariant-loop decreases-loop
+abbrev entered : tie.At-loop-k invariant-loop-k decreases-loop-k → tie.Start invariant-loop-k decreases-loop-k
 entered c = c.before.before.before
 
-abbrev values : tie.At-loop invariant-loop decreases-loop → List Float
+abbrev values : tie.At-loop-k invariant-loop-k decreases-loop-k → List Float
 values c = (entered c).args.e.now
 
-loop-holds : tie.Need-loop-init invariant-loop decreases-loop
+loop-k-init : tie.Need-loop-k-init invariant-loop-k decreases-loop-k
 unfolding order
-loop-holds c = record { turns = omega arith; size = c.before.before.requires.1; sorted = refl }
+loop-k-init c = record { turns = omega arith; size = c.requires.1; sorted = refl }
 
-spot-requires : tie.Need-spot-requires invariant-loop decreases-loop
-spot-requires c κs =
-    let at-loop = c.before.before in
-    let turn = at-loop.loop in
-    (omega arith, omega arith, front_below (values at-loop) _ turn.k turn.l (omega arith) turn.invariant.sorted)
+spot-j-requires : tie.Need-spot-j-requires invariant-loop-k decreases-loop-k
+spot-j-requires c κs =
+    let at-loop = c in
+    let turn = at-loop.loop-k in
+    (omega arith, omega arith, front_below (values c.before) _ turn.k turn.l (omega arith) turn.invariant.sorted)
 
-insert-requires : tie.Need-insert-requires invariant-loop decreases-loop
+insert-requires : tie.Need-insert-requires invariant-loop-k decreases-loop-k
 insert-requires c κs =
-    let at-loop = c.before.before.before.before in
-    (omega (arith, c.before.spot.ensures, spot-within (values at-loop) at-loop.loop.l at-loop.loop.k), omega arith)
+    let at-loop = c in
+    (omega (arith, c.spot-j.ensures, spot-within (values c.before.before.before) at-loop.loop-k.l at-loop.loop-k.k), omega arith)
 
-loop-again : tie.Need-loop-preserved invariant-loop decreases-loop
-loop-again c =
-    let after-insert = c.before.before in
-    let after-spot = after-insert.before.before in
-    let at-loop = after-spot.before.before.before in
-    let turn = at-loop.loop in
+loop-k-preserved : tie.Need-loop-k-preserved invariant-loop-k decreases-loop-k
+loop-k-preserved c =
+    let after-insert = c in
+    let after-spot = after-insert in
+    let at-loop = after-spot in
+    let turn = at-loop.loop-k in
     let call = after-insert.insert in
     record {
       turns = omega arith;
-      size = call.auto.0 ∙ turn.invariant.size;
-      sorted = order_more (values at-loop) turn.k turn.l _ turn.invariant.sorted after-spot.spot.ensures call.ensures;
+      size = call.auto.l ∙ turn.invariant.size;
+      sorted = order_more (values c.before.before.before.before.before.before) turn.k turn.l _ turn.invariant.sorted after-spot.spot-j.ensures call.ensures;
     }
 
-same_length : tie.Need-same-length invariant-loop decreases-loop
-same_length c = c.before.loop.invariant.size ∙ sym (entered c.before).pre.1
+shape_of-l : tie.Need-shape_of-l invariant-loop-k decreases-loop-k
+shape_of-l c = c.loop-k.invariant.size ∙ sym (entered c.before).requires.1
 
-returns : tie.Need-returns invariant-loop decreases-loop
+returns : tie.Need-returns invariant-loop-k decreases-loop-k
 returns c =
-    let turn = c.before.loop in
-    let end = le_antisymm turn.invariant.turns c.loop-test.false in
+    let turn = c.loop-k in
+    let end = le_antisymm turn.invariant.turns c.loop-k-test.false in
     sym (take_all (entered c.before).args.n turn.l (omega arith)) ∙ subst (λ k. take k turn.l ≡ order (values c.before) k) end turn.invariant.sorted
 
-pub sort-spec : {M : Type 1} → statement M
-sort-spec = tie.close (tie.spec invariant-loop decreases-loop loop-holds spot-requires insert-requires (λ c. omega arith) (λ c. omega arith) loop-again same_length returns)
+pub sort_spec : {M : Type 1} → statement M
+sort_spec = tie.close (tie.spec invariant-loop-k decreases-loop-k loop-k-init spot-j-requires insert-requires (λ c. omega arith) (λ c. omega arith) loop-k-preserved shape_of-l returns)

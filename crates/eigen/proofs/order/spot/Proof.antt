@@ -17,29 +17,29 @@ use Rattle.eigen.proofs.order.spot.Tie as tie
 abbrev less : List Float → List ℕ → ℕ → ℕ → Bool
 less e l k j = lt (nth e (index_at l j)) (nth e k)
 
-abbrev invariant-loop : tie.invariant-loop
-invariant-loop e l k j₀ j = Standing (λ i. i) (less e l k) k j j
+abbrev invariant-loop-j : tie.invariant-loop-j
+invariant-loop-j e l k j₀ j = Standing (λ i. i) (less e l k) k j j
 
-abbrev decreases-loop : tie.decreases-loop
-decreases-loop e l k j₀ j = k - j
+abbrev decreases-loop-j : tie.decreases-loop-j
+decreases-loop-j e l k j₀ j = k - j
 
-value-at-requires : tie.Need-value-at-requires invariant-loop decreases-loop
+value_at-requires : tie.Need-value_at-requires invariant-loop-j decreases-loop-j
 unfolding Below
-value-at-requires c κs = (omega arith, c.before.before.before.before.requires.2 c.before.loop.j (omega arith))
+value_at-requires c κs = (omega arith, c.requires.2 c.loop-j.j (omega arith))
 
-returns : tie.Need-returns invariant-loop decreases-loop
+returns-then-value_at-e : tie.Need-returns-then-value_at-e invariant-loop-j decreases-loop-j
 unfolding spot
-returns c = let read = c.before.before in sym (stopped read.before.before.loop.invariant (omega arith) (rw read.value-at.ensures at c.if1.true))
+returns-then-value_at-e c = let read = c in sym (stopped read.loop-j.invariant (omega arith) (rw read.value_at.ensures at c.if-value_at-e.true))
 
-loop-again : tie.Need-loop-preserved invariant-loop decreases-loop
-loop-again c = let read = c.before.before in stands-next read.before.before.loop.invariant (omega arith) (rw read.value-at.ensures at c.if1.false) refl
+loop-j-preserved : tie.Need-loop-j-preserved invariant-loop-j decreases-loop-j
+loop-j-preserved c = let read = c in stands-next read.loop-j.invariant (omega arith) (rw read.value_at.ensures at c.if-value_at-e.false) refl
 
-returns-2 : tie.Need-returns-2 invariant-loop decreases-loop
+returns : tie.Need-returns invariant-loop-j decreases-loop-j
 unfolding spot
-returns-2 c = let held = c.before.loop.invariant in sym (unstopped held c.loop-test.false ∙ le_antisymm held.low c.loop-test.false)
+returns c = let held = c.loop-j.invariant in sym (unstopped held c.loop-j-test.false ∙ le_antisymm held.low c.loop-j-test.false)
 
-pub spot-spec : {M : Type 1} → statement M
-spot-spec =
+pub spot_spec : {M : Type 1} → statement M
+spot_spec =
     tie.close
-    (tie.spec invariant-loop decreases-loop (λ c. stands-first refl) value-at-requires (λ c. omega arith) (λ c. omega arith) returns (λ c. omega arith) (λ c. omega arith)
-    loop-again returns-2)
+    (tie.spec invariant-loop-j decreases-loop-j (λ c. stands-first refl) value_at-requires (λ c. omega arith) (λ c. omega arith) returns-then-value_at-e (λ c. omega arith) (λ c. omega arith)
+    loop-j-preserved returns)

@@ -9,5 +9,5 @@ returns : tie.Need-returns
 unfolding of_bits
 returns c = sym (plane_begun _ _ _ _)
 
-pub begin-spec : {M : Type 1} → statement M
-begin-spec = tie.close (tie.spec returns)
+pub begin_spec : {M : Type 1} → statement M
+begin_spec = tie.close (tie.spec returns)

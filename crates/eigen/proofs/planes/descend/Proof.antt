@@ -3,13 +3,13 @@ use Rattle.eigen.specs.Private.{descended}
 use Rattle.eigen.proofs.planes.descend.Statement.{statement}
 use Rattle.eigen.proofs.planes.descend.Tie as tie
 
+returns-then-s : tie.Need-returns-then-s
+unfolding descended
+returns-then-s c = rw c.if-s.true
+
 returns : tie.Need-returns
 unfolding descended
-returns c = rw c.if1.true
+returns c = rw c.if-s.false
 
-returns-2 : tie.Need-returns-2
-unfolding descended
-returns-2 c = rw c.if1.false
-
-pub descend-spec : {M : Type 1} → statement M
-descend-spec = tie.close (tie.spec returns returns-2)
+pub descend_spec : {M : Type 1} → statement M
+descend_spec = tie.close (tie.spec returns-then-s returns)

@@ -11,16 +11,16 @@ use Rattle.eigen.proofs.planes.plane_eigenpairs.Tie as tie
 
 returns : tie.Need-returns
 returns c =
-    let written = c.before.before.before.before in
-    let call = written.before.before.before in
-    let start = call.before.before.before.before.before.before.before.before in
+    let written = c in
+    let call = written in
+    let start = call in
     let x = start.args in
-    written.write-plane.ensures
+    written.write_plane.ensures
     ∙ ap (λ (o : Outcome Eigenpairs). after_pairs o x.values.now x.vectors.now)
-    (call.eigenplane.ensures.1 ∙ ap (λ (l : List Float). eigenpairs l 2) (sym (four-list x.a.now start.requires.matrix-size)))
+    (call.eigenplane-p.ensures.1 ∙ ap (λ (l : List Float). eigenpairs l 2) (sym (four-list x.a.now start.requires.matrix-size)))
 
-pub plane-eigenpairs-spec : {M : Type 1} → statement M
-plane-eigenpairs-spec =
+pub plane_eigenpairs_spec : {M : Type 1} → statement M
+plane_eigenpairs_spec =
     tie.close
     (tie.spec (λ c. search rules) (λ c. search rules) (λ c. search rules) (λ c. search rules) (λ c κs. search rules) (λ c κs. search rules)
     (λ c. search rules) (λ c. search rules) returns)

@@ -7,5 +7,5 @@ use Rattle.eigen.proofs.planes.plane_tolerance.Tie as tie
 returns : tie.Need-returns
 returns c = rw (plane_tolerance, c.max.ensures)
 
-pub plane-tolerance-spec : {M : Type 1} → statement M
-plane-tolerance-spec = tie.close (tie.spec (λ c κs. search rules) returns)
+pub plane_tolerance_spec : {M : Type 1} → statement M
+plane_tolerance_spec = tie.close (tie.spec (λ c κs. search rules) returns)

@@ -8,22 +8,22 @@ use Rattle.eigen.proofs.Rotations.Sweeps.{Sweeping, first-sweep, next-sweep, sto
 use Rattle.eigen.proofs.planes.sweep_plane.Statement.{statement}
 use Rattle.eigen.proofs.planes.sweep_plane.Tie as tie
 
-abbrev invariant-loop : tie.invariant-loop
-invariant-loop tol p₀ k₀ p k = Sweeping 2 tol (plane_state p₀) k (plane_state p)
+abbrev invariant-loop-k : tie.invariant-loop-k
+invariant-loop-k tol p₀ k₀ p k = Sweeping 2 tol (plane_state p₀) k (plane_state p)
 
-abbrev decreases-loop : tie.decreases-loop
-decreases-loop tol p₀ k₀ p k = 64 - k
+abbrev decreases-loop-k : tie.decreases-loop-k
+decreases-loop-k tol p₀ k₀ p k = 64 - k
 
-returns : tie.Need-returns invariant-loop decreases-loop
-returns c = let turn = c.before.before.before.loop in stops_now turn.invariant (omega arith) (plane_stops _ turn.p ∙ c.if1.true)
+returns-then-p-tol : tie.Need-returns-then-p-tol invariant-loop-k decreases-loop-k
+returns-then-p-tol c = let turn = c.loop-k in stops_now turn.invariant (omega arith) (plane_stops _ turn.p ∙ c.if-p-tol.true)
 
-loop-again : tie.Need-loop-preserved invariant-loop decreases-loop
-loop-again c =
-    let turn = c.before.before.before.before.loop in
-    next-sweep turn.invariant (omega arith) (plane_stops _ turn.p ∙ c.before.if1.false) (c.turn.ensures ∙ sym (plane_sweep _))
+loop-k-preserved : tie.Need-loop-k-preserved invariant-loop-k decreases-loop-k
+loop-k-preserved c =
+    let turn = c.loop-k in
+    next-sweep turn.invariant (omega arith) (plane_stops _ turn.p ∙ c.if-p-tol.false) (c.turn-p.ensures ∙ sym (plane_sweep _))
 
-pub sweep-plane-spec : {M : Type 1} → statement M
-sweep-plane-spec =
+pub sweep_plane_spec : {M : Type 1} → statement M
+sweep_plane_spec =
     tie.close
-    (tie.spec invariant-loop decreases-loop (λ c. first-sweep) returns (λ c κs. omega arith) (λ c. omega arith) (λ c. omega arith) loop-again
-    (λ c. stops_never c.before.loop.invariant c.loop-test.false))
+    (tie.spec invariant-loop-k decreases-loop-k (λ c. first-sweep) returns-then-p-tol (λ c κs. omega arith) (λ c. omega arith) (λ c. omega arith) loop-k-preserved
+    (λ c. stops_never c.loop-k.invariant c.loop-k-test.false))

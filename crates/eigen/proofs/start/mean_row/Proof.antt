@@ -6,20 +6,20 @@ use Rattle.eigen.specs.Eigen.{symmetrized_entry}
 use Rattle.eigen.proofs.start.mean_row.Statement.{statement}
 use Rattle.eigen.proofs.start.mean_row.Tie as tie
 
-abbrev invariant-loop : tie.invariant-loop
-invariant-loop a n i y₀ j₀ y j = EntryByEntry (symmetrized_entry a n i) n y₀ j y
+abbrev invariant-loop-j : tie.invariant-loop-j
+invariant-loop-j a n i y₀ j₀ y j = EntryByEntry (symmetrized_entry a n i) n y₀ j y
 
-abbrev decreases-loop : tie.decreases-loop
-decreases-loop a n i y₀ j₀ y j = n - j
+abbrev decreases-loop-j : tie.decreases-loop-j
+decreases-loop-j a n i y₀ j₀ y j = n - j
 
-loop-again : tie.Need-loop-preserved invariant-loop decreases-loop
-loop-again c = entry-written c.before.before.loop.invariant c.before.loop-test.true c.mean.ensures
+loop-j-preserved : tie.Need-loop-j-preserved invariant-loop-j decreases-loop-j
+loop-j-preserved c = entry-written c.loop-j.invariant c.loop-j-test.true c.mean.ensures
 
-returns : tie.Need-returns invariant-loop decreases-loop
-returns c = every_entry c.before.loop.invariant c.loop-test.false
+returns : tie.Need-returns invariant-loop-j decreases-loop-j
+returns c = every_entry c.loop-j.invariant c.loop-j-test.false
 
-pub mean-row-spec : {M : Type 1} → statement M
-mean-row-spec =
+pub mean_row_spec : {M : Type 1} → statement M
+mean_row_spec =
     tie.close
-    (tie.spec invariant-loop decreases-loop (λ c. no_entry c.before.before.requires.2) (λ c κs. omega arith) (λ c. omega arith) (λ c. omega arith) (λ c. omega arith) (λ c. omega arith) loop-again
-    (λ c. c.before.loop.invariant.entries.size) returns)
+    (tie.spec invariant-loop-j decreases-loop-j (λ c. no_entry c.requires.2) (λ c κs. omega arith) (λ c. omega arith) (λ c. omega arith) (λ c. omega arith) (λ c. omega arith) loop-j-preserved
+    (λ c. c.loop-j.invariant.entries.size) returns)

@@ -6,26 +6,26 @@ use Rattle.eigen.specs.Eigen.{symmetrized_entry}
 use Rattle.eigen.proofs.start.symmetrize.Statement.{statement}
 use Rattle.eigen.proofs.start.symmetrize.Tie as tie
 
-abbrev invariant-loop : tie.invariant-loop
-invariant-loop a n m₀ i₀ m i = RowByRow (symmetrized_entry a n) n n m₀ i m
+abbrev invariant-loop-i : tie.invariant-loop-i
+invariant-loop-i a n m₀ i₀ m i = RowByRow (symmetrized_entry a n) n n m₀ i m
 
-abbrev decreases-loop : tie.decreases-loop
-decreases-loop a n m₀ i₀ m i = n - i
+abbrev decreases-loop-i : tie.decreases-loop-i
+decreases-loop-i a n m₀ i₀ m i = n - i
 
-fits : (c : tie.In-loop invariant-loop decreases-loop) → RowFits c.before.loop.invariant
-fits c = row_fits c.before.loop.invariant c.loop-test.true
+fits : (c : tie.In-loop-i invariant-loop-i decreases-loop-i) → RowFits c.loop-i.invariant
+fits c = row_fits c.loop-i.invariant c.loop-i-test.true
 
-mean-row-requires : tie.Need-mean-row-requires invariant-loop decreases-loop
-mean-row-requires c κs = (omega arith, omega arith, row-lent c.before.before.loop.invariant c.before.loop-test.true)
+mean_row-requires : tie.Need-mean_row-requires invariant-loop-i decreases-loop-i
+mean_row-requires c κs = (omega arith, omega arith, row-lent c.loop-i.invariant c.loop-i-test.true)
 
-loop-again : tie.Need-loop-preserved invariant-loop decreases-loop
-loop-again c = let turn = c.before.before.before.before in row_written turn.before.loop.invariant turn.loop-test.true c.before.before.mean-row.ensures
+loop-i-preserved : tie.Need-loop-i-preserved invariant-loop-i decreases-loop-i
+loop-i-preserved c = let turn = c in row_written turn.loop-i.invariant turn.loop-i-test.true c.mean_row.ensures
 
-returns : tie.Need-returns invariant-loop decreases-loop
-returns c = every_row c.before.loop.invariant c.loop-test.false
+returns : tie.Need-returns invariant-loop-i decreases-loop-i
+returns c = every_row c.loop-i.invariant c.loop-i-test.false
 
-pub symmetrize-spec : {M : Type 1} → statement M
-symmetrize-spec =
+pub symmetrize_spec : {M : Type 1} → statement M
+symmetrize_spec =
     tie.close
-    (tie.spec invariant-loop decreases-loop (λ c. no_row (omega arith)) (λ c. omega (arith, fits c)) (λ c. omega (arith, fits c)) (λ c. omega (arith, fits c)) (λ c. omega arith)
-    (λ c. omega arith) (λ c. omega (arith, fits c)) mean-row-requires (λ c. omega arith) (λ c. omega arith) loop-again (λ c. c.before.loop.invariant.rows.size) returns)
+    (tie.spec invariant-loop-i decreases-loop-i (λ c. no_row (omega arith)) (λ c. omega (arith, fits c)) (λ c. omega (arith, fits c)) (λ c. omega (arith, fits c)) (λ c. omega arith)
+    (λ c. omega arith) (λ c. omega (arith, fits c)) mean_row-requires (λ c. omega arith) (λ c. omega arith) loop-i-preserved (λ c. c.loop-i.invariant.rows.size) returns)

@@ -8,26 +8,26 @@ use Rattle.eigen.proofs.Rotations.Sweeps.{above_more}
 use Rattle.eigen.proofs.sweep.above.Statement.{statement}
 use Rattle.eigen.proofs.sweep.above.Tie as tie
 
-abbrev invariant-loop : tie.invariant-loop
-invariant-loop m n s₀ i₀ s i = (i ≤ n) × (s ≡ above_rows m n i)
+abbrev invariant-loop-i : tie.invariant-loop-i
+invariant-loop-i m n s₀ i₀ s i = (i ≤ n) × (s ≡ above_rows m n i)
 
-abbrev decreases-loop : tie.decreases-loop
-decreases-loop m n s₀ i₀ s i = n - i
+abbrev decreases-loop-i : tie.decreases-loop-i
+decreases-loop-i m n s₀ i₀ s i = n - i
 
-loop-holds : tie.Need-loop-init invariant-loop decreases-loop
+loop-i-init : tie.Need-loop-i-init invariant-loop-i decreases-loop-i
 unfolding above_rows
-loop-holds c = (omega arith, refl)
+loop-i-init c = (omega arith, refl)
 
-loop-again : tie.Need-loop-preserved invariant-loop decreases-loop
-loop-again c =
-    let at-loop = c.before.before in
-    let start = at-loop.before.before in
-    let x = start.args in (omega arith, above_more x.m.now x.n at-loop.loop.i at-loop.loop.invariant.1 c.above-row.ensures)
+loop-i-preserved : tie.Need-loop-i-preserved invariant-loop-i decreases-loop-i
+loop-i-preserved c =
+    let at-loop = c in
+    let start = at-loop in
+    let x = start.args in (omega arith, above_more x.m.now x.n at-loop.loop-i.i at-loop.loop-i.invariant.1 c.above_row-s.ensures)
 
-returns : tie.Need-returns invariant-loop decreases-loop
+returns : tie.Need-returns invariant-loop-i decreases-loop-i
 returns c =
-    let start = c.before.before.before in
-    let x = start.args in c.before.loop.invariant.1 ∙ ap (above_rows x.m.now x.n) (le_antisymm c.before.loop.invariant.0 c.loop-test.false)
+    let start = c in
+    let x = start.args in c.loop-i.invariant.1 ∙ ap (above_rows x.m.now x.n) (le_antisymm c.loop-i.invariant.0 c.loop-i-test.false)
 
-pub above-spec : {M : Type 1} → statement M
-above-spec = tie.close (tie.spec invariant-loop decreases-loop loop-holds (λ c κs. omega arith) (λ c. omega arith) (λ c. omega arith) loop-again returns)
+pub above_spec : {M : Type 1} → statement M
+above_spec = tie.close (tie.spec invariant-loop-i decreases-loop-i loop-i-init (λ c κs. omega arith) (λ c. omega arith) (λ c. omega arith) loop-i-preserved returns)

@@ -10,44 +10,44 @@ use Rattle.eigen.proofs.Rotations.Sweeps.{RowsSwept, slices_row, rows_more}
 use Rattle.eigen.proofs.sweep.sweep.Statement.{statement}
 use Rattle.eigen.proofs.sweep.sweep.Tie as tie
 
-abbrev invariant-loop : tie.invariant-loop
-invariant-loop m₀ v₀ n p₀ m v p = RowsSwept n (state_of n m₀ v₀) p m v
+abbrev invariant-loop-p : tie.invariant-loop-p
+invariant-loop-p m₀ v₀ n p₀ m v p = RowsSwept n (state_of n m₀ v₀) p m v
 
-abbrev decreases-loop : tie.decreases-loop
-decreases-loop m₀ v₀ n p₀ m v p = n - p
+abbrev decreases-loop-p : tie.decreases-loop-p
+decreases-loop-p m₀ v₀ n p₀ m v p = n - p
 
 -- the place where the function begins, and the state there
-abbrev entered : tie.At-loop invariant-loop decreases-loop → tie.Start invariant-loop decreases-loop
+abbrev entered : tie.At-loop-p invariant-loop-p decreases-loop-p → tie.Start invariant-loop-p decreases-loop-p
 entered c = c.before.before.before
 
-abbrev first : tie.At-loop invariant-loop decreases-loop → State
+abbrev first : tie.At-loop-p invariant-loop-p decreases-loop-p → State
 first c = let x = (entered c).args in state_of x.n x.m.now x.v.now
 
-loop-holds : tie.Need-loop-init invariant-loop decreases-loop
+loop-p-init : tie.Need-loop-p-init invariant-loop-p decreases-loop-p
 unfolding swept_rows
-loop-holds c = record { turns = omega arith; slices = c.before.before.requires; swept = refl }
+loop-p-init c = record { turns = omega arith; slices = c.requires; swept = refl }
 
-loop-again : tie.Need-loop-preserved invariant-loop decreases-loop
-loop-again c =
-    let after-sweep-row = c.before.before.before.before in
-    let at-loop = after-sweep-row.before.before.before.before in
-    let n = (entered at-loop).args.n in
-    let turn = at-loop.loop in
-    let call = after-sweep-row.sweep-row in
+loop-p-preserved : tie.Need-loop-p-preserved invariant-loop-p decreases-loop-p
+loop-p-preserved c =
+    let after-sweep-row = c in
+    let at-loop = after-sweep-row in
+    let n = (entered c.before.before.before.before.before.before.before.before).args.n in
+    let turn = at-loop.loop-p in
+    let call = after-sweep-row.sweep_row in
     record {
       turns = omega arith;
-      slices = slices_row turn.invariant.slices call.auto.0 call.auto.1.0 turn.p (n - suc turn.p) call.ensures;
-      swept = rows_more n turn.p (first at-loop) turn.invariant.swept call.ensures;
+      slices = slices_row turn.invariant.slices call.auto.m call.auto.v turn.p (n - suc turn.p) call.ensures;
+      swept = rows_more n turn.p (first c.before.before.before.before.before.before.before.before) turn.invariant.swept call.ensures;
     }
 
-returns : tie.Need-returns invariant-loop decreases-loop
+returns : tie.Need-returns invariant-loop-p decreases-loop-p
 returns c =
-    let at-loop = c.before in
-    at-loop.loop.invariant.swept ∙ ap (swept_rows (entered at-loop).args.n (first at-loop)) (le_antisymm at-loop.loop.invariant.turns c.loop-test.false)
+    let at-loop = c in
+    at-loop.loop-p.invariant.swept ∙ ap (swept_rows (entered c.before).args.n (first c.before)) (le_antisymm at-loop.loop-p.invariant.turns c.loop-p-test.false)
 
-pub sweep-spec : {M : Type 1} → statement M
-sweep-spec =
+pub sweep_spec : {M : Type 1} → statement M
+sweep_spec =
     tie.close
-    (tie.spec invariant-loop decreases-loop loop-holds (λ c κs. (omega arith, c.before.before.before.loop.invariant.slices)) (λ c. omega arith) (λ c. omega arith) loop-again
-    (λ c. c.before.loop.invariant.slices.matrix-size ∙ sym (entered c.before).pre.matrix-size)
-    (λ c. c.before.loop.invariant.slices.vectors-size ∙ sym (entered c.before).pre.vectors-size) returns)
+    (tie.spec invariant-loop-p decreases-loop-p loop-p-init (λ c κs. (omega arith, c.loop-p.invariant.slices)) (λ c. omega arith) (λ c. omega arith) loop-p-preserved
+    (λ c. c.loop-p.invariant.slices.matrix-size ∙ sym (entered c.before).requires.matrix-size)
+    (λ c. c.loop-p.invariant.slices.vectors-size ∙ sym (entered c.before).requires.vectors-size) returns)

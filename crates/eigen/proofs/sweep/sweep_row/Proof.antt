@@ -10,49 +10,49 @@ use Rattle.eigen.proofs.Rotations.Sweeps.{RowSwept, slices_rotated, row-none, ro
 use Rattle.eigen.proofs.sweep.sweep_row.Statement.{statement}
 use Rattle.eigen.proofs.sweep.sweep_row.Tie as tie
 
-abbrev invariant-loop : tie.invariant-loop
-invariant-loop m₀ v₀ n p q₀ m v q = RowSwept n p (state_of n m₀ v₀) q m v
+abbrev invariant-loop-q : tie.invariant-loop-q
+invariant-loop-q m₀ v₀ n p q₀ m v q = RowSwept n p (state_of n m₀ v₀) q m v
 
-abbrev decreases-loop : tie.decreases-loop
-decreases-loop m₀ v₀ n p q₀ m v q = n - q
+abbrev decreases-loop-q : tie.decreases-loop-q
+decreases-loop-q m₀ v₀ n p q₀ m v q = n - q
 
 -- the place where the function begins, and the state there
-abbrev entered : tie.At-loop invariant-loop decreases-loop → tie.Start invariant-loop decreases-loop
+abbrev entered : tie.At-loop-q invariant-loop-q decreases-loop-q → tie.Start invariant-loop-q decreases-loop-q
 entered c = c.before.before.before
 
-abbrev first : tie.Start invariant-loop decreases-loop → State
+abbrev first : tie.Start invariant-loop-q decreases-loop-q → State
 first c = state_of c.args.n c.args.m.now c.args.v.now
 
-loop-holds : tie.Need-loop-init invariant-loop decreases-loop
-loop-holds c = let start = c.before.before in record { after = omega arith; turns = omega arith; slices = start.requires.1; swept = row-none start.args.n start.args.p (first start) }
+loop-q-init : tie.Need-loop-q-init invariant-loop-q decreases-loop-q
+loop-q-init c = let start = c in record { after = omega arith; turns = omega arith; slices = start.requires.1; swept = row-none start.args.n start.args.p (first c.before.before) }
 
-rotate-requires : tie.Need-rotate-requires invariant-loop decreases-loop
-rotate-requires c κs = let held = c.before.before.before.loop.invariant in (record { ordered = held.after; within = omega arith }, held.slices)
+rotate-requires : tie.Need-rotate-requires invariant-loop-q decreases-loop-q
+rotate-requires c κs = let held = c.loop-q.invariant in (record { ordered = held.after; within = omega arith }, held.slices)
 
-loop-again : tie.Need-loop-preserved invariant-loop decreases-loop
-loop-again c =
-    let after-rotate = c.before.before.before.before in
-    let at-loop = after-rotate.before.before.before.before in
-    let start = entered at-loop in
-    let turn = at-loop.loop in
+loop-q-preserved : tie.Need-loop-q-preserved invariant-loop-q decreases-loop-q
+loop-q-preserved c =
+    let after-rotate = c in
+    let at-loop = after-rotate in
+    let start = entered c.before.before.before.before.before.before.before.before in
+    let turn = at-loop.loop-q in
     let call = after-rotate.rotate in
     record {
       after = omega arith;
       turns = omega arith;
-      slices = slices_rotated turn.invariant.slices call.auto.0 call.auto.1.0 start.args.p turn.q call.ensures;
+      slices = slices_rotated turn.invariant.slices call.auto.m call.auto.v start.args.p turn.q call.ensures;
       swept = row_more start.args.n start.args.p turn.q (first start) turn.invariant.after turn.invariant.swept call.ensures;
     }
 
-returns : tie.Need-returns invariant-loop decreases-loop
+returns : tie.Need-returns invariant-loop-q decreases-loop-q
 returns c =
-    let at-loop = c.before in
-    let start = entered at-loop in
+    let at-loop = c in
+    let start = entered c.before in
     let x = start.args in
-    at-loop.loop.invariant.swept ∙ ap (λ q. swept_row x.n x.p (first start) (q - suc x.p)) (le_antisymm at-loop.loop.invariant.turns c.loop-test.false)
+    at-loop.loop-q.invariant.swept ∙ ap (λ q. swept_row x.n x.p (first start) (q - suc x.p)) (le_antisymm at-loop.loop-q.invariant.turns c.loop-q-test.false)
 
-pub sweep-row-spec : {M : Type 1} → statement M
-sweep-row-spec =
+pub sweep_row_spec : {M : Type 1} → statement M
+sweep_row_spec =
     tie.close
-    (tie.spec invariant-loop decreases-loop (λ c. omega arith) loop-holds rotate-requires (λ c. omega arith) (λ c. omega arith) loop-again
-    (λ c. c.before.loop.invariant.slices.matrix-size ∙ sym (entered c.before).pre.1.matrix-size)
-    (λ c. c.before.loop.invariant.slices.vectors-size ∙ sym (entered c.before).pre.1.vectors-size) returns)
+    (tie.spec invariant-loop-q decreases-loop-q (λ c. omega arith) loop-q-init rotate-requires (λ c. omega arith) (λ c. omega arith) loop-q-preserved
+    (λ c. c.loop-q.invariant.slices.matrix-size ∙ sym (entered c.before).requires.1.matrix-size)
+    (λ c. c.loop-q.invariant.slices.vectors-size ∙ sym (entered c.before).requires.1.vectors-size) returns)

@@ -6,7 +6,7 @@ use Rattle.eigen.proofs.sweep.tolerance.Tie as tie
 
 returns : tie.Need-returns
 unfolding tolerance
-returns c = rw (c.max.ensures, c.before.dot.ensures, c.before.before.before.requires.0)
+returns c = rw (c.max.ensures, c.dot.ensures, c.requires.0)
 
-pub tolerance-spec : {M : Type 1} → statement M
-tolerance-spec = tie.close (tie.spec (λ c κs. search rules) (λ c κs. search rules) returns)
+pub tolerance_spec : {M : Type 1} → statement M
+tolerance_spec = tie.close (tie.spec (λ c κs. search rules) (λ c κs. search rules) returns)

@@ -10,33 +10,33 @@ use Rattle.pairing.proofs.Choosing.Searches.{rows_taken, rows_passed}
 use Rattle.pairing.proofs.search.search.Statement.{statement}
 use Rattle.pairing.proofs.search.search.Tie as tie
 
-abbrev invariant-loop : tie.invariant-loop
-invariant-loop keys m n firsts seconds best₀ i₀ best i = AfterTurns (search keys n firsts seconds) m i best
+abbrev invariant-loop-i : tie.invariant-loop-i
+invariant-loop-i keys m n firsts seconds best₀ i₀ best i = AfterTurns (search keys n firsts seconds) m i best
 
-abbrev decreases-loop : tie.decreases-loop
-decreases-loop keys m n firsts seconds best₀ i₀ best i = m - i
+abbrev decreases-loop-i : tie.decreases-loop-i
+decreases-loop-i keys m n firsts seconds best₀ i₀ best i = m - i
 
-loop-holds : tie.Need-loop-init invariant-loop decreases-loop
+loop-i-init : tie.Need-loop-i-init invariant-loop-i decreases-loop-i
 unfolding search
-loop-holds c = turns_none refl
+loop-i-init c = turns_none refl
 
-search-row-requires : tie.Need-search-row-requires invariant-loop decreases-loop
-search-row-requires c κs =
-    let a = c.before.before.before.before.before.before.before.args in
-    omega (arith, row_within a.m a.n {i = c.before.before.before.loop.i} (omega arith))
+search_row-best-requires : tie.Need-search_row-best-requires invariant-loop-i decreases-loop-i
+search_row-best-requires c κs =
+    let a = c.args in
+    omega (arith, row_within a.m a.n {i = c.loop-i.i} (omega arith))
 
-loop-again : tie.Need-loop-preserved invariant-loop decreases-loop
-loop-again c =
-    let turn = c.before.before in
-    let best = turn.before.loop.best in
-    turns_more turn.before.loop.invariant turn.loop-test.true (λ e.
+loop-i-preserved : tie.Need-loop-i-preserved invariant-loop-i decreases-loop-i
+loop-i-preserved c =
+    let turn = c in
+    let best = turn.loop-i.best in
+    turns_more turn.loop-i.invariant turn.loop-i-test.true (λ e.
     ⊎_elim
-    (λ w. rows_taken _ _ _ _ _ best c.if1.best w.0.taken e (w.2 ∙ w.1.ensures))
+    (λ w. rows_taken _ _ _ _ _ best c.if-firsts-i.best w.0.taken e (w.2 ∙ w.1.ensures))
     (λ w. w.1 ∙ rows_passed _ _ _ _ _ best w.0.left e)
-    c.if1.branch)
+    c.if-firsts-i.branch)
 
-returns : tie.Need-returns invariant-loop decreases-loop
-returns c = turns_all c.before.loop.invariant c.loop-test.false
+returns : tie.Need-returns invariant-loop-i decreases-loop-i
+returns c = turns_all c.loop-i.invariant c.loop-i-test.false
 
-pub search-spec : {M : Type 1} → statement M
-search-spec = tie.close (tie.spec invariant-loop decreases-loop loop-holds (λ c. omega arith) search-row-requires (λ c. omega arith) (λ c. omega arith) loop-again returns)
+pub search_spec : {M : Type 1} → statement M
+search_spec = tie.close (tie.spec invariant-loop-i decreases-loop-i loop-i-init (λ c. omega arith) search_row-best-requires (λ c. omega arith) (λ c. omega arith) loop-i-preserved returns)

@@ -10,31 +10,31 @@ use Rattle.pairing.proofs.Choosing.Searches.{row-taken, row_passed}
 use Rattle.pairing.proofs.search.search_row.Statement.{statement}
 use Rattle.pairing.proofs.search.search_row.Tie as tie
 
-abbrev invariant-loop : tie.invariant-loop
-invariant-loop keys n seconds i best₀ j₀ best j = AfterTurns (λ l. search_row keys n seconds i l best₀) n j best
+abbrev invariant-loop-j : tie.invariant-loop-j
+invariant-loop-j keys n seconds i best₀ j₀ best j = AfterTurns (λ l. search_row keys n seconds i l best₀) n j best
 
-abbrev decreases-loop : tie.decreases-loop
-decreases-loop keys n seconds i best₀ j₀ best j = n - j
+abbrev decreases-loop-j : tie.decreases-loop-j
+decreases-loop-j keys n seconds i best₀ j₀ best j = n - j
 
-loop-holds : tie.Need-loop-init invariant-loop decreases-loop
+loop-j-init : tie.Need-loop-j-init invariant-loop-j decreases-loop-j
 unfolding search_row
-loop-holds c = turns_none refl
+loop-j-init c = turns_none refl
 
-loop-again : tie.Need-loop-preserved invariant-loop decreases-loop
-loop-again c =
-    let turn = c.before.before in
-    let best = turn.before.loop.best in
-    turns_more turn.before.loop.invariant turn.loop-test.true (λ e.
+loop-j-preserved : tie.Need-loop-j-preserved invariant-loop-j decreases-loop-j
+loop-j-preserved c =
+    let turn = c in
+    let best = turn.loop-j.best in
+    turns_more turn.loop-j.invariant turn.loop-j-test.true (λ e.
     ⊎_elim
-    (λ w. row-taken _ _ _ _ _ _ best c.if1.best w.0.taken e (w.3 ∙ w.2.ensures))
+    (λ w. row-taken _ _ _ _ _ _ best c.if-seconds-j.best w.0.taken e (w.3 ∙ w.2.ensures))
     (λ w. w.1 ∙ row_passed _ _ _ _ _ _ best w.0.left e)
-    c.if1.branch)
+    c.if-seconds-j.branch)
 
-returns : tie.Need-returns invariant-loop decreases-loop
-returns c = turns_all c.before.loop.invariant c.loop-test.false
+returns : tie.Need-returns invariant-loop-j decreases-loop-j
+returns c = turns_all c.loop-j.invariant c.loop-j-test.false
 
-pub search-row-spec : {M : Type 1} → statement M
-search-row-spec =
+pub search_row_spec : {M : Type 1} → statement M
+search_row_spec =
     tie.close
-    (tie.spec invariant-loop decreases-loop loop-holds (λ c. omega arith) (λ c. omega arith) (λ c. omega arith) (λ c. omega arith) (λ c. omega arith) (λ c κs. search rules) (λ c. omega arith)
-    (λ c. omega arith) loop-again returns)
+    (tie.spec invariant-loop-j decreases-loop-j loop-j-init (λ c. omega arith) (λ c. omega arith) (λ c. omega arith) (λ c. omega arith) (λ c. omega arith) (λ c κs. search rules) (λ c. omega arith)
+    (λ c. omega arith) loop-j-preserved returns)

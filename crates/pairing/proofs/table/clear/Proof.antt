@@ -13,11 +13,11 @@ use Rattle.pairing.specs.Private.{nobodies}
 use Rattle.pairing.proofs.table.clear.Statement.{statement}
 use Rattle.pairing.proofs.table.clear.Tie as tie
 
-abbrev invariant-loop : tie.invariant-loop
-invariant-loop table₀ n i₀ table i = (i ≤ n) × (length table ≡ n) × ((k : ℕ) → k < i → get_or table k 0 ≡ nobody)
+abbrev invariant-loop-i : tie.invariant-loop-i
+invariant-loop-i table₀ n i₀ table i = (i ≤ n) × (length table ≡ n) × ((k : ℕ) → k < i → get_or table k 0 ≡ nobody)
 
-abbrev decreases-loop : tie.decreases-loop
-decreases-loop table₀ n i₀ table i = n - i
+abbrev decreases-loop-i : tie.decreases-loop-i
+decreases-loop-i table₀ n i₀ table i = n - i
 
 more : (l : List ℕ) (i k : ℕ) → i < length l → ((k : ℕ) → k < i → get_or l k 0 ≡ nobody) → k < i + 1 → get_or (set l i nobody) k 0 ≡ nobody
 more l i k h f b =
@@ -26,19 +26,19 @@ more l i k h f b =
     (λ (j : k < i). get_or-set_other l i k nobody 0 (omega arith) ∙ f k j)
     (eq-or-lt_of_le (omega arith))
 
-loop-holds : tie.Need-loop-init invariant-loop decreases-loop
-loop-holds c = (omega arith, c.requires, λ k h. absurd (omega arith))
+loop-i-init : tie.Need-loop-i-init invariant-loop-i decreases-loop-i
+loop-i-init c = (omega arith, c.requires, λ k h. absurd (omega arith))
 
-loop-again : tie.Need-loop-preserved invariant-loop decreases-loop
-loop-again c =
-    let v = c.before.loop in
+loop-i-preserved : tie.Need-loop-i-preserved invariant-loop-i decreases-loop-i
+loop-i-preserved c =
+    let v = c.loop-i in
     (omega arith, length-set v.table v.i nobody ∙ v.invariant.1, λ k h. more v.table v.i k (omega arith) v.invariant.2 h)
 
-returns : tie.Need-returns invariant-loop decreases-loop
+returns : tie.Need-returns invariant-loop-i decreases-loop-i
 unfolding nobodies
 returns c =
-    let v = c.before.loop in
-    by_elements 0 c.before.before.args.n (λ i. nobody) v.table v.invariant.1 (λ k h. v.invariant.2 k (omega arith))
+    let v = c.loop-i in
+    by_elements 0 c.args.n (λ i. nobody) v.table v.invariant.1 (λ k h. v.invariant.2 k (omega arith))
 
 pub clear_spec : {M : Type 1} → statement M
-clear_spec = tie.close (tie.spec invariant-loop decreases-loop loop-holds (λ c. omega arith) (λ c. omega arith) (λ c. omega arith) loop-again (λ c. omega arith) returns)
+clear_spec = tie.close (tie.spec invariant-loop-i decreases-loop-i loop-i-init (λ c. omega arith) (λ c. omega arith) (λ c. omega arith) loop-i-preserved (λ c. omega arith) returns)

@@ -8,32 +8,32 @@ use native.Mathlib.Omega.{arith}
 use Rattle.pivoting.proofs.choice.choose.Statement.{statement}
 use Rattle.pivoting.proofs.choice.choose.Tie as tie
 
-abbrev invariant-loop : tie.invariant-loop
-invariant-loop m s n w k best₀ i₀ best i = (k ≤ i) × AfterTurns (λ l. best_of m s w k (l - k)) n i best
+abbrev invariant-loop-i : tie.invariant-loop-i
+invariant-loop-i m s n w k best₀ i₀ best i = (k ≤ i) × AfterTurns (λ l. best_of m s w k (l - k)) n i best
 
-abbrev decreases-loop : tie.decreases-loop
-decreases-loop m s n w k best₀ i₀ best i = n - i
+abbrev decreases-loop-i : tie.decreases-loop-i
+decreases-loop-i m s n w k best₀ i₀ best i = n - i
 
-loop-holds : tie.Need-loop-init invariant-loop decreases-loop
-loop-holds c = (omega arith, record { turns = omega arith; state = best_none _ _ _ _ })
+loop-i-init : tie.Need-loop-i-init invariant-loop-i decreases-loop-i
+loop-i-init c = (omega arith, record { turns = omega arith; state = best_none _ _ _ _ })
 
-entry-requires : tie.Need-entry-requires invariant-loop decreases-loop
-entry-requires c κs = let x = c.before.before.before.before.before.args in omega (arith, cell x.n x.w {j = x.k} c.before.loop-test.true (omega arith))
+entry-requires : tie.Need-entry-requires invariant-loop-i decreases-loop-i
+entry-requires c κs = let x = c.args in omega (arith, cell x.n x.w {j = x.k} c.loop-i-test.true (omega arith))
 
-consider-requires : tie.Need-consider-requires invariant-loop decreases-loop
-consider-requires c κs = best_abs _ _ _ _ _ c.before.before.before.loop.invariant.1.state
+consider-best-requires : tie.Need-consider-best-requires invariant-loop-i decreases-loop-i
+consider-best-requires c κs = best_abs _ _ _ _ _ c.loop-i.invariant.1.state
 
-loop-again : tie.Need-loop-preserved invariant-loop decreases-loop
-loop-again c =
-    let turn = c.before.before.before in
-    let inv = turn.before.loop.invariant in
-    (omega arith, turns_more inv.1 turn.loop-test.true (λ e. best_more _ _ _ _ _ inv.0 e c.before.entry.ensures c.consider.ensures))
+loop-i-preserved : tie.Need-loop-i-preserved invariant-loop-i decreases-loop-i
+loop-i-preserved c =
+    let turn = c in
+    let inv = turn.loop-i.invariant in
+    (omega arith, turns_more inv.1 turn.loop-i-test.true (λ e. best_more _ _ _ _ _ inv.0 e c.entry.ensures c.consider-best.ensures))
 
-returns : tie.Need-returns invariant-loop decreases-loop
-returns c = turns_all c.before.loop.invariant.1 c.loop-test.false
+returns : tie.Need-returns invariant-loop-i decreases-loop-i
+returns c = turns_all c.loop-i.invariant.1 c.loop-i-test.false
 
 pub choose_spec : {M : Type 1} → statement M
 choose_spec =
     tie.close
-    (tie.spec invariant-loop decreases-loop loop-holds (λ c. omega arith) (λ c. omega arith) entry-requires consider-requires (λ c. omega arith) (λ c. omega arith) loop-again
+    (tie.spec invariant-loop-i decreases-loop-i loop-i-init (λ c. omega arith) (λ c. omega arith) entry-requires consider-best-requires (λ c. omega arith) (λ c. omega arith) loop-i-preserved
     returns)

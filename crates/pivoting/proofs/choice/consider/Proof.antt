@@ -7,38 +7,38 @@ use Rattle.pivoting.proofs.Ratios.{abs-ratio}
 use Rattle.pivoting.proofs.choice.consider.Statement.{statement}
 use Rattle.pivoting.proofs.choice.consider.Tie as tie
 
+returns-then-s : tie.Need-returns-then-s
+unfolding consider
+returns-then-s c = rw c.if-s.true
+
+returns-then-ratio-best : tie.Need-returns-then-ratio-best
+unfolding consider
+returns-then-ratio-best c =
+    let else1 = c in
+    let b = else1.args.best in
+    let y = div else1.args.x else1.args.s in
+    rw (else1.if-s.false, ← (abs-ratio else1.args.x else1.args.s else1.if-s.false))
+    (first (λ (q : Float). record { ratio = q; row = else1.args.i }) b b.ratio y else1.requires c.if-ratio-best.true)
+
+returns-then-ratio-best-2 : tie.Need-returns-then-ratio-best-2
+unfolding consider
+returns-then-ratio-best-2 c =
+    let else2 = c in
+    let else1 = else2 in
+    let b = else1.args.best in
+    let y = div else1.args.x else1.args.s in
+    rw (else1.if-s.false, ← (abs-ratio else1.args.x else1.args.s else1.if-s.false))
+    (second (λ (q : Float). record { ratio = q; row = else1.args.i }) b b.ratio y else1.requires else2.if-ratio-best.false c.if-ratio-best-2.true)
+
 returns : tie.Need-returns
 unfolding consider
-returns c = rw c.if1.true
+returns c =
+    let else2 = c in
+    let else1 = else2 in
+    let b = else1.args.best in
+    let y = div else1.args.x else1.args.s in
+    rw (else1.if-s.false, ← (abs-ratio else1.args.x else1.args.s else1.if-s.false))
+    (third (λ (q : Float). record { ratio = q; row = else1.args.i }) b b.ratio y else1.requires else2.if-ratio-best.false c.if-ratio-best-2.false)
 
-returns-2 : tie.Need-returns-2
-unfolding consider
-returns-2 c =
-    let else1 = c.before.before in
-    let b = else1.before.args.best in
-    let y = div else1.before.args.x else1.before.args.s in
-    rw (else1.if1.false, ← (abs-ratio else1.before.args.x else1.before.args.s else1.if1.false))
-    (first (λ (q : Float). record { ratio = q; row = else1.before.args.i }) b b.ratio y else1.before.requires c.if2.true)
-
-returns-3 : tie.Need-returns-3
-unfolding consider
-returns-3 c =
-    let else2 = c.before.before in
-    let else1 = else2.before.before in
-    let b = else1.before.args.best in
-    let y = div else1.before.args.x else1.before.args.s in
-    rw (else1.if1.false, ← (abs-ratio else1.before.args.x else1.before.args.s else1.if1.false))
-    (second (λ (q : Float). record { ratio = q; row = else1.before.args.i }) b b.ratio y else1.before.requires else2.if2.false c.if3.true)
-
-returns-4 : tie.Need-returns-4
-unfolding consider
-returns-4 c =
-    let else2 = c.before.before in
-    let else1 = else2.before.before in
-    let b = else1.before.args.best in
-    let y = div else1.before.args.x else1.before.args.s in
-    rw (else1.if1.false, ← (abs-ratio else1.before.args.x else1.before.args.s else1.if1.false))
-    (third (λ (q : Float). record { ratio = q; row = else1.before.args.i }) b b.ratio y else1.before.requires else2.if2.false c.if3.false)
-
-pub consider-spec : {M : Type 1} → statement M
-consider-spec = tie.close (tie.spec returns returns-2 returns-3 returns-4)
+pub consider_spec : {M : Type 1} → statement M
+consider_spec = tie.close (tie.spec returns-then-s returns-then-ratio-best returns-then-ratio-best-2 returns)

@@ -8,5 +8,5 @@ returns : tie.Need-returns
 unfolding taken
 returns c = refl
 
-pub is-taken-spec : {M : Type 1} → statement M
-is-taken-spec = tie.close (tie.spec returns)
+pub is_taken_spec : {M : Type 1} → statement M
+is_taken_spec = tie.close (tie.spec returns)

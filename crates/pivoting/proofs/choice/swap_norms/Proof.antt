@@ -32,10 +32,10 @@ stores s n k p h l e = by_entries n _ _ (simp length-set e) (λ i q. go i q (ℕ
     go i q (no u) (no v) = get_or-set_other once p i (nth s k) nan v ∙ get_or-set_other s k i (nth s p) nan u ∙ rw (ne_eqb i k u, ne_eqb i p v)
 
 returns : tie.Need-returns
-returns c = stores c.before.before.args.s.now _ _ _ c.before.before.requires.0 c.before.before.requires.1 c.before.before.requires.2
+returns c = stores c.args.s.now _ _ _ c.requires.0 c.requires.1 c.requires.2
 
-pub swap-norms-spec : {M : Type 1} → statement M
-swap-norms-spec =
+pub swap_norms_spec : {M : Type 1} → statement M
+swap_norms_spec =
     tie.close
     (tie.spec (λ c. search rules) (λ c. search rules) (λ c. search rules) (λ c. search rules) (λ c. search rules) (λ c. search rules) (λ c. search rules)
     (λ c. search rules) (λ c. search rules) returns)

@@ -29,36 +29,36 @@ record Losing (x old : List Float) (n k : ℕ) (f : Float) (j : ℕ) (y : List F
   pub factor : f ≡ div (nth old k) (nth x k)
   pub entries : EntryByEntry (lost x old k) n old j y
 
-abbrev invariant-loop : tie.invariant-loop
-invariant-loop x n k y₀ factor j₀ y j = Losing x y₀ n k factor j y
+abbrev invariant-loop-j : tie.invariant-loop-j
+invariant-loop-j x n k y₀ factor j₀ y j = Losing x y₀ n k factor j y
 
-abbrev decreases-loop : tie.decreases-loop
-decreases-loop x n k y₀ factor j₀ y j = n - j
+abbrev decreases-loop-j : tie.decreases-loop-j
+decreases-loop-j x n k y₀ factor j₀ y j = n - j
 
-loop-holds : tie.Need-loop-init invariant-loop decreases-loop
-loop-holds c =
-    let start = c.before.before in
+loop-j-init : tie.Need-loop-j-init invariant-loop-j decreases-loop-j
+loop-j-init c =
+    let start = c in
     let x = start.args in
     record { right = omega arith; factor = refl; entries = entries_there start.requires.right (omega arith) (λ q h. kept x.x.now x.y.now x.k q h) }
 
-loop-again : tie.Need-loop-preserved invariant-loop decreases-loop
-loop-again c =
-    let turn = c.before.before in
-    let l = turn.before.loop in
-    let x = turn.before.before.before.before.args in
+loop-j-preserved : tie.Need-loop-j-preserved invariant-loop-j decreases-loop-j
+loop-j-preserved c =
+    let turn = c in
+    let l = turn.loop-j in
+    let x = turn.args in
     let inv = l.invariant in
     record {
       right = omega arith;
       factor = inv.factor;
-      entries = entry-written inv.entries turn.loop-test.true (part x.x.now x.y.now l.y x.k l.j inv.right inv.factor (entry_old inv.entries));
+      entries = entry-written inv.entries turn.loop-j-test.true (part x.x.now x.y.now l.y x.k l.j inv.right inv.factor (entry_old inv.entries));
     }
 
-returns : tie.Need-returns invariant-loop decreases-loop
-returns c = every_entry c.before.loop.invariant.entries c.loop-test.false
+returns : tie.Need-returns invariant-loop-j decreases-loop-j
+returns c = every_entry c.loop-j.invariant.entries c.loop-j-test.false
 
-pub below-pivot-spec : {M : Type 1} → statement M
-below-pivot-spec =
+pub below_pivot_spec : {M : Type 1} → statement M
+below_pivot_spec =
     tie.close
-    (tie.spec invariant-loop decreases-loop (λ c. omega arith) (λ c. omega arith) (λ c. omega arith) (λ c. omega arith) (λ c. omega arith) loop-holds (λ c. omega arith)
-    (λ c. omega arith) (λ c. omega arith) (λ c. omega arith) (λ c. omega arith) (λ c. omega arith) (λ c. omega arith) (λ c. omega arith) loop-again
-    (λ c. c.before.loop.invariant.entries.entries.size) returns)
+    (tie.spec invariant-loop-j decreases-loop-j (λ c. omega arith) (λ c. omega arith) (λ c. omega arith) (λ c. omega arith) (λ c. omega arith) loop-j-init (λ c. omega arith)
+    (λ c. omega arith) (λ c. omega arith) (λ c. omega arith) (λ c. omega arith) (λ c. omega arith) (λ c. omega arith) (λ c. omega arith) loop-j-preserved
+    (λ c. c.loop-j.invariant.entries.entries.size) returns)

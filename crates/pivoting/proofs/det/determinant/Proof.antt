@@ -11,14 +11,14 @@ use Rattle.pivoting.proofs.det.determinant.Tie as tie
 size : (c : tie.Start) → c.args.n * c.args.n ≤ 256
 size c = square-room 16 c.args.n c.requires.0
 
-determinant-in-requires : tie.Need-determinant-in-requires
-determinant-in-requires c κs =
-    let start = c.before.before.before.before in
-    (refl, start.requires.1, length-take-le _ _ (size start), length-take-le _ _ start.requires.0, length-take-le _ _ start.requires.0)
+determinant_in-requires : tie.Need-determinant_in-requires
+determinant_in-requires c κs =
+    let start = c in
+    (refl, start.requires.1, length-take-le _ _ (size c.before.before.before.before), length-take-le _ _ start.requires.0, length-take-le _ _ start.requires.0)
 
-pub determinant-spec : {M : Type 1} → statement M
-determinant-spec =
+pub determinant_spec : {M : Type 1} → statement M
+determinant_spec =
     tie.close
     (tie.spec (λ c. omega (arith, size c.before)) (λ c. size c.before) (λ c. sym (length-take-le _ _ (size c.before.before))) (λ c. omega arith)
-    (λ c. sym (length-take-le _ _ c.before.before.before.requires.0)) (λ c. omega arith) (λ c. sym (length-take-le _ _ c.before.before.before.before.requires.0))
-    determinant-in-requires (λ c. c.before.before.before.determinant-in.ensures))
+    (λ c. sym (length-take-le _ _ c.requires.0)) (λ c. omega arith) (λ c. sym (length-take-le _ _ c.requires.0))
+    determinant_in-requires (λ c. c.determinant_in.ensures))

@@ -14,27 +14,27 @@ use Rattle.pivoting.proofs.det.determinant_in.Tie as tie
 started : (a m s : List Float) (n : ℕ) → m ≡ a → s ≡ row_norms a n → signed_product n (triangulated n (stage m s)) ≡ signed_product n (triangulated n (stage a (row_norms a n)))
 started a m s n f g = rw (f, g)
 
+returns-then-not-some_scale : tie.Need-returns-then-not-some_scale
+unfolding determinant
+returns-then-not-some_scale c =
+    let after-row-norms = c in
+    let start = after-row-norms in
+    let x = start.args in
+    rw (unmet (c.some_scale.ensures ∙ ap (some_scale x.n) after-row-norms.row_norms.ensures) c.if-not-some_scale.true)
+
 returns : tie.Need-returns
 unfolding determinant
 returns c =
-    let after-row-norms = c.before.before.before.before.before in
-    let start = after-row-norms.before.before.before.before.before.before in
-    let x = start.args in
-    rw (unmet (c.before.some-scale.ensures ∙ ap (some_scale x.n) after-row-norms.row-norms.ensures) c.if1.true)
+    let after-product = c in
+    let copied = after-product in
+    let scaled = copied in
+    let normed = scaled in
+    let x = normed.args in
+    rw (met (scaled.some_scale.ensures ∙ ap (some_scale x.n) normed.row_norms.ensures) scaled.if-not-some_scale.false)
+    (after-product.signed_product.ensures ∙ started x.a.now _ _ x.n copied.copy.ensures normed.row_norms.ensures)
 
-returns-2 : tie.Need-returns-2
-unfolding determinant
-returns-2 c =
-    let after-product = c.before.before.before.before.before.before in
-    let copied = after-product.before.before.before.before.before.before in
-    let scaled = copied.before.before in
-    let normed = scaled.before.before.before.before.before in
-    let x = normed.before.before.before.before.before.before.args in
-    rw (met (scaled.before.some-scale.ensures ∙ ap (some_scale x.n) normed.row-norms.ensures) scaled.if1.false)
-    (after-product.signed_product.ensures ∙ started x.a.now _ _ x.n copied.copy.ensures normed.row-norms.ensures)
-
-pub determinant-in-spec : {M : Type 1} → statement M
-determinant-in-spec =
+pub determinant_in_spec : {M : Type 1} → statement M
+determinant_in_spec =
     tie.close
-    (tie.spec (λ c κs. search rules) (λ c κs. search rules) (λ c. search rules) returns (λ c κs. search rules) (λ c κs. search rules) (λ c. search rules)
-    (λ c. search rules) (λ c. search rules) returns-2)
+    (tie.spec (λ c κs. search rules) (λ c κs. search rules) (λ c. search rules) returns-then-not-some_scale (λ c κs. search rules) (λ c κs. search rules) (λ c. search rules)
+    (λ c. search rules) (λ c. search rules) returns)

@@ -4,13 +4,13 @@ use Rattle.pivoting.specs.Det.{flipped}
 use Rattle.pivoting.proofs.det.flipped.Statement.{statement}
 use Rattle.pivoting.proofs.det.flipped.Tie as tie
 
+returns-then-p-k : tie.Need-returns-then-p-k
+unfolding flipped
+returns-then-p-k c = simp (eq-eqb _ _ c.if-p-k.true)
+
 returns : tie.Need-returns
 unfolding flipped
-returns c = simp (eq-eqb _ _ c.if1.true)
+returns c = simp (ne_eqb _ _ c.if-p-k.false)
 
-returns-2 : tie.Need-returns-2
-unfolding flipped
-returns-2 c = simp (ne_eqb _ _ c.if1.false)
-
-pub flipped-spec : {M : Type 1} → statement M
-flipped-spec = tie.close (tie.spec returns returns-2)
+pub flipped_spec : {M : Type 1} → statement M
+flipped_spec = tie.close (tie.spec returns-then-p-k returns)

@@ -16,43 +16,43 @@ record Lowering (x old : List Float) (n k i : ℕ) (m : List Float) : Type 0 whe
   pub below : k ≤ i
   pub rows : RowByRow (reduced_below x old n k) n n old i m
 
-abbrev invariant-loop : tie.invariant-loop
-invariant-loop x m₀ n k i₀ m i = Lowering x m₀ n k i m
+abbrev invariant-loop-i : tie.invariant-loop-i
+invariant-loop-i x m₀ n k i₀ m i = Lowering x m₀ n k i m
 
-abbrev decreases-loop : tie.decreases-loop
-decreases-loop x m₀ n k i₀ m i = n - i
+abbrev decreases-loop-i : tie.decreases-loop-i
+decreases-loop-i x m₀ n k i₀ m i = n - i
 
-loop-holds : tie.Need-loop-init invariant-loop decreases-loop
-loop-holds c =
-    let start = c.before.before in
+loop-i-init : tie.Need-loop-i-init invariant-loop-i decreases-loop-i
+loop-i-init c =
+    let start = c in
     let x = start.args in
     let pre = start.requires in
     record { below = omega arith; rows = rows_there pre.matrix (omega arith) (omega (arith, row_within x.n x.n pre.column)) (λ a j h l. rw (lt-ltb a x.k h)) }
 
-fits : (c : tie.In-loop invariant-loop decreases-loop) → RowFits c.before.loop.invariant.rows
-fits c = row_fits c.before.loop.invariant.rows c.loop-test.true
+fits : (c : tie.In-loop-i invariant-loop-i decreases-loop-i) → RowFits c.loop-i.invariant.rows
+fits c = row_fits c.loop-i.invariant.rows c.loop-i-test.true
 
-pivot-or-below-requires : tie.Need-pivot-or-below-requires invariant-loop decreases-loop
-pivot-or-below-requires c κs = record { column = omega arith; left = omega arith; right = row-lent c.before.before.loop.invariant.rows c.before.loop-test.true }
+pivot_or_below-requires : tie.Need-pivot_or_below-requires invariant-loop-i decreases-loop-i
+pivot_or_below-requires c κs = record { column = omega arith; left = omega arith; right = row-lent c.loop-i.invariant.rows c.loop-i-test.true }
 
-loop-again : tie.Need-loop-preserved invariant-loop decreases-loop
-loop-again c =
-    let turn = c.before.before.before.before in
-    let start = turn.before.before.before.before in
+loop-i-preserved : tie.Need-loop-i-preserved invariant-loop-i decreases-loop-i
+loop-i-preserved c =
+    let turn = c in
+    let start = turn in
     let x = start.args in
-    let inv = turn.before.loop.invariant in
-    let made = c.before.before.pivot-or-below.ensures in
+    let inv = turn.loop-i.invariant in
+    let made = c.pivot_or_below.ensures in
     let rows = inv.rows in
     record {
       below = omega arith;
-      rows = row_written rows turn.loop-test.true (made ∙ tabulate_ext _ _ _ (λ j h. rw (le-ltb _ x.k inv.below, row_old rows j h, row_old rows x.k start.requires.column)));
+      rows = row_written rows turn.loop-i-test.true (made ∙ tabulate_ext _ _ _ (λ j h. rw (le-ltb _ x.k inv.below, row_old rows j h, row_old rows x.k start.requires.column)));
     }
 
-returns : tie.Need-returns invariant-loop decreases-loop
-returns c = every_row c.before.loop.invariant.rows c.loop-test.false
+returns : tie.Need-returns invariant-loop-i decreases-loop-i
+returns c = every_row c.loop-i.invariant.rows c.loop-i-test.false
 
-pub reduce-below-spec : {M : Type 1} → statement M
-reduce-below-spec =
+pub reduce_below_spec : {M : Type 1} → statement M
+reduce_below_spec =
     tie.close
-    (tie.spec invariant-loop decreases-loop loop-holds (λ c. omega (arith, fits c)) (λ c. omega (arith, fits c)) (λ c. omega (arith, fits c)) (λ c. omega arith)
-    (λ c. omega arith) (λ c. omega (arith, fits c)) pivot-or-below-requires (λ c. omega arith) (λ c. omega arith) loop-again (λ c. c.before.loop.invariant.rows.rows.size) returns)
+    (tie.spec invariant-loop-i decreases-loop-i loop-i-init (λ c. omega (arith, fits c)) (λ c. omega (arith, fits c)) (λ c. omega (arith, fits c)) (λ c. omega arith)
+    (λ c. omega arith) (λ c. omega (arith, fits c)) pivot_or_below-requires (λ c. omega arith) (λ c. omega arith) loop-i-preserved (λ c. c.loop-i.invariant.rows.rows.size) returns)

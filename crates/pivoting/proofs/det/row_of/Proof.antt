@@ -7,25 +7,25 @@ use native.Mathlib.Omega.{arith}
 use Rattle.pivoting.proofs.det.row_of.Statement.{statement}
 use Rattle.pivoting.proofs.det.row_of.Tie as tie
 
-abbrev invariant-loop : tie.invariant-loop
-invariant-loop m n p y₀ j₀ y j = EntryByEntry (at m n p) n y₀ j y
+abbrev invariant-loop-j : tie.invariant-loop-j
+invariant-loop-j m n p y₀ j₀ y j = EntryByEntry (at m n p) n y₀ j y
 
-abbrev decreases-loop : tie.decreases-loop
-decreases-loop m n p y₀ j₀ y j = n - j
+abbrev decreases-loop-j : tie.decreases-loop-j
+decreases-loop-j m n p y₀ j₀ y j = n - j
 
-entry-requires : tie.Need-entry-requires invariant-loop decreases-loop
+entry-requires : tie.Need-entry-requires invariant-loop-j decreases-loop-j
 entry-requires c κs =
-    let start = c.before.before.before.before in
-    omega (arith, cell start.args.n start.args.n {i = start.args.p} {j = c.before.loop.j} (omega arith) (omega arith))
+    let start = c in
+    omega (arith, cell start.args.n start.args.n {i = start.args.p} {j = c.loop-j.j} (omega arith) (omega arith))
 
-loop-again : tie.Need-loop-preserved invariant-loop decreases-loop
-loop-again c = entry-written c.before.before.loop.invariant c.before.loop-test.true c.entry.ensures
+loop-j-preserved : tie.Need-loop-j-preserved invariant-loop-j decreases-loop-j
+loop-j-preserved c = entry-written c.loop-j.invariant c.loop-j-test.true c.entry.ensures
 
-returns : tie.Need-returns invariant-loop decreases-loop
-returns c = every_entry c.before.loop.invariant c.loop-test.false
+returns : tie.Need-returns invariant-loop-j decreases-loop-j
+returns c = every_entry c.loop-j.invariant c.loop-j-test.false
 
-pub row-of-spec : {M : Type 1} → statement M
-row-of-spec =
+pub row_of_spec : {M : Type 1} → statement M
+row_of_spec =
     tie.close
-    (tie.spec invariant-loop decreases-loop (λ c. no_entry c.before.before.requires.2) entry-requires (λ c. omega arith) (λ c. omega arith) (λ c. omega arith)
-    (λ c. omega arith) loop-again (λ c. c.before.loop.invariant.entries.size) returns)
+    (tie.spec invariant-loop-j decreases-loop-j (λ c. no_entry c.requires.2) entry-requires (λ c. omega arith) (λ c. omega arith) (λ c. omega arith)
+    (λ c. omega arith) loop-j-preserved (λ c. c.loop-j.invariant.entries.size) returns)

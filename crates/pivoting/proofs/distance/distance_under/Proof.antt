@@ -8,16 +8,16 @@ use Rattle.pivoting.specs.Private.{following}
 use Rattle.pivoting.proofs.distance.distance_under.Statement.{statement}
 use Rattle.pivoting.proofs.distance.distance_under.Tie as tie
 
-returns : tie.Need-returns
-returns c =
-    let x = c.before.before.before.before.before.before.args in
-    sym (ap (λ (a : Written). following a (quadratic_form (difference x.x.now x.mu.now x.n) x.inv.now x.n)) c.before.answer.given.1)
+returns-in-Refused : tie.Need-returns-in-Refused
+returns-in-Refused c =
+    let x = c.args in
+    sym (ap (λ (a : Written). following a (quadratic_form (difference x.x.now x.mu.now x.n) x.inv.now x.n)) c.in-Refused.is)
 
-returns-2 : tie.Need-returns-2
-returns-2 c =
-    let x = c.before.before.before.before.before.before.args in
-    value c.distance-with-inv.ensures
-    ∙ sym (ap (λ (a : Written). following a (quadratic_form (difference x.x.now x.mu.now x.n) x.inv.now x.n)) c.before.enum_told.given.1)
+returns-in-Done : tie.Need-returns-in-Done
+returns-in-Done c =
+    let x = c.args in
+    value c.distance_with_inv.ensures
+    ∙ sym (ap (λ (a : Written). following a (quadratic_form (difference x.x.now x.mu.now x.n) x.inv.now x.n)) c.in-Done.is)
 
-pub distance-under-spec : {M : Type 1} → statement M
-distance-under-spec = tie.close (tie.spec (λ c. search rules) (λ c. search rules) (λ c κs. search rules) returns returns-2)
+pub distance_under_spec : {M : Type 1} → statement M
+distance_under_spec = tie.close (tie.spec (λ c. search rules) (λ c. search rules) (λ c κs. search rules) returns-in-Refused returns-in-Done)

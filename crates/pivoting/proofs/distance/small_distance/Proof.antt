@@ -8,42 +8,42 @@ use Rattle.pivoting.proofs.distance.small_distance.Statement.{statement}
 use Rattle.pivoting.proofs.distance.small_distance.Tie as tie
 
 -- the places on the way
-abbrev entered : tie.After-shared-slice-known3 → tie.Start
+abbrev entered : tie.After-shared_slice_known-3-1 → tie.Start
 entered c = c.before.before.before
 
-abbrev lent : tie.After-inverse-in → tie.After-shared-slice-known3
+abbrev lent : tie.After-inverse_in-answer → tie.After-shared_slice_known-3-1
 lent c = c.before.before.before.before.before
 
-room : (c : tie.After-shared-slice-known3) → AugmentedRoom 4 (entered c).args.n (entered c).args.n
+room : (c : tie.After-shared_slice_known-3-1) → AugmentedRoom 4 (entered c).args.n (entered c).args.n
 room c = augmented-room 4 (entered c).requires.1 (entered c).requires.1
 
-inverse-in-requires : tie.Need-inverse-in-requires
-inverse-in-requires c κs =
-    let known = c.before.before.before.before in
-    (refl, (entered known).requires.0.square, elimination_room _ _ _ _ _ (room known).size (room known).order (room known).width, length-take-le _ _ (room known).square)
+inverse_in-answer-requires : tie.Need-inverse_in-answer-requires
+inverse_in-answer-requires c κs =
+    let known = c in
+    (refl, (entered c.before.before.before.before).requires.0.square, elimination_room _ _ _ _ _ (room c.before.before.before.before).size (room c.before.before.before.before).order (room c.before.before.before.before).width, length-take-le _ _ (room c.before.before.before.before).square)
 
-array-share-prefix-inv : tie.Need-array-share-prefix-inv
-array-share-prefix-inv c =
-    let call = c.before.before.before.before in
-    front_fits _ _ call.inverse-in.new.1.1.1.1.1.1.0 (room (lent call)).square call.inverse-in.auto.1.1.1.1.1.1.0
+slice_bounds-inv-end-2 : tie.Need-slice_bounds-inv-end-2
+slice_bounds-inv-end-2 c =
+    let call = c in
+    front_fits _ _ call.inverse_in-answer.new.out (room (lent c.before.before.before.before)).square call.inverse_in-answer.auto.out
 
-distance-under-requires : tie.Need-distance-under-requires
-distance-under-requires c κs =
+distance_under-requires : tie.Need-distance_under-requires
+distance_under-requires c κs =
     let known = lent c.before.before.before.before.before in
-    (record { first = (entered known).pre.0.first; second = (entered known).pre.0.second; square = length-take-le _ _ (array-share-prefix-inv c.before) }, omega (arith, (entered known).pre.1))
+    (record { first = (entered known).requires.0.first; second = (entered known).requires.0.second; square = length-take-le _ _ (slice_bounds-inv-end-2 c.before) }, omega (arith, (entered known).requires.1))
 
 returns : tie.Need-returns
 returns c =
-    let call = c.before.before.before.before.before.before in
-    let x = (entered (lent call)).args in
-    distance-over x.x.now x.mu.now x.cov.now x.n _ _ call.inverse-in.new.1.1.1.1.1.1.0 (room (lent call)).square
-    call.inverse-in.auto.1.1.1.1.1.1.0 call.inverse-in.ensures c.distance-under.ensures
+    let call = c in
+    let x = (entered (lent c.before.before.before.before.before.before)).args in
+    distance-over x.x.now x.mu.now x.cov.now x.n _ _ call.inverse_in-answer.new.out (room (lent c.before.before.before.before.before.before)).square
+    call.inverse_in-answer.auto.out call.inverse_in-answer.ensures c.distance_under.ensures
 
-pub small-distance-spec : {M : Type 1} → statement M
-small-distance-spec =
+pub small_distance_spec : {M : Type 1} → statement M
+small_distance_spec =
     tie.close
     (tie.spec (λ c. omega (arith, (room c).width)) (λ c. omega (arith, (room c).size)) (λ c. omega (arith, (room c).square)) (λ c. (room c).size) (λ c. sym (length-take-le _ _ (room c.before).size))
     (λ c. (room c.before).order) (λ c. sym (length-take-le _ _ (room c.before.before).order)) (λ c. (room c.before.before).width)
     (λ c. sym (length-take-le _ _ (room c.before.before.before).width)) (λ c. (room c.before.before.before).square)
-    (λ c. sym (length-take-le _ _ (room c.before.before.before.before).square)) inverse-in-requires array-share-prefix-inv
-    (λ c. sym (length-take-le _ _ (array-share-prefix-inv c.before))) distance-under-requires returns)
+    (λ c. sym (length-take-le _ _ (room c.before.before.before.before).square)) inverse_in-answer-requires slice_bounds-inv-end-2
+    (λ c. sym (length-take-le _ _ (slice_bounds-inv-end-2 c.before))) distance_under-requires returns)

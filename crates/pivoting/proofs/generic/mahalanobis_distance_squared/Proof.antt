@@ -6,35 +6,35 @@ use Rattle.pivoting.specs.Solve.{mahalanobis}
 use Rattle.pivoting.proofs.generic.mahalanobis_distance_squared.Statement.{statement}
 use Rattle.pivoting.proofs.generic.mahalanobis_distance_squared.Tie as tie
 
-returns : tie.Need-returns
+returns-then-not-is_side : tie.Need-returns-then-not-is_side
 unfolding mahalanobis
-returns c = rw (unmet c.before.is-side.ensures c.if1.true)
+returns-then-not-is_side c = rw (unmet c.is_side.ensures c.if-not-is_side.true)
 
-is-distance-requires : tie.Need-is-distance-requires
-is-distance-requires c κs =
-    let n = c.before.before.before.before.before.args.n in
-    let s = met c.before.is-side.ensures c.if1.false in
+is_distance-requires : tie.Need-is_distance-requires
+is_distance-requires c κs =
+    let n = c.args.n in
+    let s = met c.is_side.ensures c.if-not-is_side.false in
     area n n s s
 
-returns-2 : tie.Need-returns-2
+returns-then-not-is_distance : tie.Need-returns-then-not-is_distance
 unfolding mahalanobis
-returns-2 c =
-    let else1 = c.before.before in
-    let sided = else1 in rw (met sided.before.is-side.ensures sided.if1.false, unmet c.before.is-distance.ensures c.if2.true)
+returns-then-not-is_distance c =
+    let else1 = c in
+    let sided = else1 in rw (met sided.is_side.ensures sided.if-not-is_side.false, unmet c.is_distance.ensures c.if-not-is_distance.true)
 
 distance-requires : tie.Need-distance-requires
 distance-requires c κs =
-    let sided = c.before.before in
-    let x = sided.before.before.before.before.before.args in
-    let s = met sided.before.is-side.ensures sided.if1.false in
-    let l = three-long x.x.now x.mu.now x.cov.now x.n x.n (x.n * x.n) (met c.before.is-distance.ensures c.if2.false) in
+    let sided = c in
+    let x = sided.args in
+    let s = met sided.is_side.ensures sided.if-not-is_side.false in
+    let l = three-long x.x.now x.mu.now x.cov.now x.n x.n (x.n * x.n) (met c.is_distance.ensures c.if-not-is_distance.false) in
     (record { first = l.0; second = l.1; square = l.2 }, side_high x.n s)
 
-returns-3 : tie.Need-returns-3
+returns : tie.Need-returns
 unfolding mahalanobis
-returns-3 c =
-    let sided = c.before.before.before in
-    rw (met sided.before.is-side.ensures sided.if1.false, met c.before.before.is-distance.ensures c.before.if2.false) c.distance.ensures
+returns c =
+    let sided = c in
+    rw (met sided.is_side.ensures sided.if-not-is_side.false, met c.is_distance.ensures c.if-not-is_distance.false) c.distance.ensures
 
-pub mahalanobis-distance-squared-spec : {M : Type 1} → statement M
-mahalanobis-distance-squared-spec = tie.close (tie.spec (λ c κs. search rules) returns is-distance-requires returns-2 distance-requires returns-3)
+pub mahalanobis_distance_squared_spec : {M : Type 1} → statement M
+mahalanobis_distance_squared_spec = tie.close (tie.spec (λ c κs. search rules) returns-then-not-is_side is_distance-requires returns-then-not-is_distance distance-requires returns)

@@ -7,30 +7,30 @@ use borrow.Author.Rules.{rules}
 use Rattle.pivoting.proofs.generic.mat_det.Statement.{statement}
 use Rattle.pivoting.proofs.generic.mat_det.Tie as tie
 
-returns : tie.Need-returns
+returns-then-not-is_side : tie.Need-returns-then-not-is_side
 unfolding mat_det
-returns c = rw (unmet c.before.is-side.ensures c.if1.true)
+returns-then-not-is_side c = rw (unmet c.is_side.ensures c.if-not-is_side.true)
 
-is-matrix-requires : tie.Need-is-matrix-requires
-is-matrix-requires c κs = square_area c.before.before.before.args.n (met c.before.is-side.ensures c.if1.false)
+is_matrix-requires : tie.Need-is_matrix-requires
+is_matrix-requires c κs = square_area c.args.n (met c.is_side.ensures c.if-not-is_side.false)
 
-returns-2 : tie.Need-returns-2
+returns-then-not-is_matrix : tie.Need-returns-then-not-is_matrix
 unfolding mat_det
-returns-2 c = rw (met c.before.before.before.is-side.ensures c.before.before.if1.false, unmet c.before.is-matrix.ensures c.if2.true)
+returns-then-not-is_matrix c = rw (met c.is_side.ensures c.if-not-is_side.false, unmet c.is_matrix.ensures c.if-not-is_matrix.true)
 
 determinant-requires : tie.Need-determinant-requires
 determinant-requires c κs =
-    let else1 = c.before.before in
-    let start = else1.before.before.before in
+    let else1 = c in
+    let start = else1 in
     let x = start.args in
-    (side_high x.n (met else1.before.is-side.ensures else1.if1.false), long-length x.a.now (x.n * x.n) (met c.before.is-matrix.ensures c.if2.false))
+    (side_high x.n (met else1.is_side.ensures else1.if-not-is_side.false), long-length x.a.now (x.n * x.n) (met c.is_matrix.ensures c.if-not-is_matrix.false))
 
-returns-3 : tie.Need-returns-3
+returns : tie.Need-returns
 unfolding mat_det
-returns-3 c =
-    let after-is-matrix = c.before.before in
-    let after-is-side = after-is-matrix.before.before in
-    rw (met after-is-side.is-side.ensures after-is-matrix.before.if1.false, met after-is-matrix.is-matrix.ensures c.before.if2.false) (value c.determinant.ensures)
+returns c =
+    let after-is-matrix = c in
+    let after-is-side = after-is-matrix in
+    rw (met after-is-side.is_side.ensures after-is-matrix.if-not-is_side.false, met after-is-matrix.is_matrix.ensures c.if-not-is_matrix.false) (value c.determinant.ensures)
 
-pub mat-det-spec : {M : Type 1} → statement M
-mat-det-spec = tie.close (tie.spec (λ c κs. search rules) returns is-matrix-requires returns-2 determinant-requires returns-3)
+pub mat_det_spec : {M : Type 1} → statement M
+mat_det_spec = tie.close (tie.spec (λ c κs. search rules) returns-then-not-is_side is_matrix-requires returns-then-not-is_matrix determinant-requires returns)

@@ -6,36 +6,36 @@ use Rattle.pivoting.specs.Solve.{mat_inv}
 use Rattle.pivoting.proofs.generic.mat_inv.Statement.{statement}
 use Rattle.pivoting.proofs.generic.mat_inv.Tie as tie
 
-returns : tie.Need-returns
+returns-then-not-is_side : tie.Need-returns-then-not-is_side
 unfolding mat_inv
-returns c = rw (unmet c.before.is-side.ensures c.if1.true)
+returns-then-not-is_side c = rw (unmet c.is_side.ensures c.if-not-is_side.true)
 
-are-matrices-requires : tie.Need-are-matrices-requires
-are-matrices-requires c κs = two_squares c.before.before.before.before.before.args.n (met c.before.before.is-side.ensures c.before.if1.false)
+are_matrices-requires : tie.Need-are_matrices-requires
+are_matrices-requires c κs = two_squares c.args.n (met c.is_side.ensures c.if-not-is_side.false)
 
-returns-2 : tie.Need-returns-2
+returns-then-not-are_matrices : tie.Need-returns-then-not-are_matrices
 unfolding mat_inv
-returns-2 c =
-    let else1 = c.before.before.before in
-    let sided = else1 in rw (met sided.before.is-side.ensures sided.if1.false, unmet c.before.are-matrices.ensures c.if2.true)
+returns-then-not-are_matrices c =
+    let else1 = c in
+    let sided = else1 in rw (met sided.is_side.ensures sided.if-not-is_side.false, unmet c.are_matrices.ensures c.if-not-are_matrices.true)
 
 inverse-requires : tie.Need-inverse-requires
 inverse-requires c κs =
-    let sided = c.before.before.before.before in
-    let x = sided.before.before.before.before.args in
-    let l = two-long x.a.now x.out.now (x.n * x.n) (x.n * x.n) (met c.before.before.are-matrices.ensures c.before.if2.false) in
-    (side_high x.n (met sided.before.is-side.ensures sided.if1.false), l.0, l.1)
+    let sided = c in
+    let x = sided.args in
+    let l = two-long x.a.now x.out.now (x.n * x.n) (x.n * x.n) (met c.are_matrices.ensures c.if-not-are_matrices.false) in
+    (side_high x.n (met sided.is_side.ensures sided.if-not-is_side.false), l.0, l.1)
 
-returns-3 : tie.Need-returns-3
+returns : tie.Need-returns
 unfolding mat_inv
-returns-3 c =
-    let after-inverse = c.before.before in
-    let else2 = after-inverse.before.before in
-    let sided = else2.before.before.before in
-    rw (met sided.before.is-side.ensures sided.if1.false, met else2.before.are-matrices.ensures else2.if2.false) after-inverse.inverse.ensures
+returns c =
+    let after-inverse = c in
+    let else2 = after-inverse in
+    let sided = else2 in
+    rw (met sided.is_side.ensures sided.if-not-is_side.false, met else2.are_matrices.ensures else2.if-not-are_matrices.false) after-inverse.inverse.ensures
 
-pub mat-inv-spec : {M : Type 1} → statement M
-mat-inv-spec =
+pub mat_inv_spec : {M : Type 1} → statement M
+mat_inv_spec =
     tie.close
-    (tie.spec (λ c κs. search rules) returns are-matrices-requires (λ c. search rules) returns-2 inverse-requires
-    (λ c. c.before.before.inverse.auto.1.1.0) returns-3)
+    (tie.spec (λ c κs. search rules) returns-then-not-is_side are_matrices-requires (λ c. search rules) returns-then-not-are_matrices inverse-requires
+    (λ c. c.inverse.auto.out) returns)

@@ -7,42 +7,42 @@ use Rattle.pivoting.specs.Solve.{mat_solve}
 use Rattle.pivoting.proofs.generic.mat_solve.Statement.{statement}
 use Rattle.pivoting.proofs.generic.mat_solve.Tie as tie
 
-returns : tie.Need-returns
+returns-then-not-is_side : tie.Need-returns-then-not-is_side
 unfolding mat_solve
-returns c = rw (unmet c.before.is-side.ensures c.if1.true)
+returns-then-not-is_side c = rw (unmet c.is_side.ensures c.if-not-is_side.true)
 
-is-system-requires : tie.Need-is-system-requires
-is-system-requires c κs =
-    let after-is-side = c.before.before in
-    let start = after-is-side.before.before.before.before in
+is_system-requires : tie.Need-is_system-requires
+is_system-requires c κs =
+    let after-is-side = c in
+    let start = after-is-side in
     let n = start.args.n in
-    let s = met after-is-side.is-side.ensures c.before.if1.false in
+    let s = met after-is-side.is_side.ensures c.if-not-is_side.false in
     area n n s s
 
-returns-2 : tie.Need-returns-2
+returns-then-not-is_system : tie.Need-returns-then-not-is_system
 unfolding mat_solve
-returns-2 c =
-    let else1 = c.before.before.before in
-    let sided = else1 in rw (met sided.before.is-side.ensures sided.if1.false, unmet c.before.is-system.ensures c.if2.true)
+returns-then-not-is_system c =
+    let else1 = c in
+    let sided = else1 in rw (met sided.is_side.ensures sided.if-not-is_side.false, unmet c.is_system.ensures c.if-not-is_system.true)
 
 solve-requires : tie.Need-solve-requires
 solve-requires c κs =
-    let sided = c.before.before.before.before in
-    let x = sided.before.before.before.before.before.args in
-    let l = three-long x.a.now x.b.now x.out.now (x.n * x.n) x.n x.n (met c.before.before.is-system.ensures c.before.if2.false) in
-    let s = met sided.before.is-side.ensures sided.if1.false in
+    let sided = c in
+    let x = sided.args in
+    let l = three-long x.a.now x.b.now x.out.now (x.n * x.n) x.n x.n (met c.is_system.ensures c.if-not-is_system.false) in
+    let s = met sided.is_side.ensures sided.if-not-is_side.false in
     (side_high x.n s, side_low x.n s, record { matrix = l.0; sides = omega arith; solution = omega arith })
 
-returns-3 : tie.Need-returns-3
+returns : tie.Need-returns
 unfolding mat_solve
-returns-3 c =
-    let after-solve = c.before.before in
-    let else2 = after-solve.before.before in
-    let sided = else2.before.before.before in
-    rw (met sided.before.is-side.ensures sided.if1.false, met else2.before.is-system.ensures else2.if2.false) after-solve.solve.ensures
+returns c =
+    let after-solve = c in
+    let else2 = after-solve in
+    let sided = else2 in
+    rw (met sided.is_side.ensures sided.if-not-is_side.false, met else2.is_system.ensures else2.if-not-is_system.false) after-solve.solve.ensures
 
-pub mat-solve-spec : {M : Type 1} → statement M
-mat-solve-spec =
+pub mat_solve_spec : {M : Type 1} → statement M
+mat_solve_spec =
     tie.close
-    (tie.spec (λ c κs. search rules) returns is-system-requires (λ c. search rules) returns-2 solve-requires
-    (λ c. c.before.before.solve.auto.1.1.1.1.0) returns-3)
+    (tie.spec (λ c κs. search rules) returns-then-not-is_side is_system-requires (λ c. search rules) returns-then-not-is_system solve-requires
+    (λ c. c.solve.auto.out) returns)

@@ -7,50 +7,50 @@ use borrow.Author.Rules.{rules}
 use Rattle.pivoting.proofs.generic.row_inf_norms.Statement.{statement}
 use Rattle.pivoting.proofs.generic.row_inf_norms.Tie as tie
 
-returns : tie.Need-returns
+returns-then-not-is_side : tie.Need-returns-then-not-is_side
 unfolding row_inf_norms
-returns c = rw (unmet c.before.is-side.ensures c.if1.true)
+returns-then-not-is_side c = rw (unmet c.is_side.ensures c.if-not-is_side.true)
 
-is-matrix-requires : tie.Need-is-matrix-requires
-is-matrix-requires c κs =
-    let x = c.before.before.before.before.args in
-    let s = met c.before.is-side.ensures c.if1.false in
+is_matrix-requires : tie.Need-is_matrix-requires
+is_matrix-requires c κs =
+    let x = c.args in
+    let s = met c.is_side.ensures c.if-not-is_side.false in
     area x.n x.n s s
 
-returns-2 : tie.Need-returns-2
+returns-then-not-is_matrix : tie.Need-returns-then-not-is_matrix
 unfolding row_inf_norms
-returns-2 c = rw (met c.before.before.before.is-side.ensures c.before.before.if1.false, unmet c.before.is-matrix.ensures c.if2.true)
+returns-then-not-is_matrix c = rw (met c.is_side.ensures c.if-not-is_side.false, unmet c.is_matrix.ensures c.if-not-is_matrix.true)
 
-returns-3 : tie.Need-returns-3
+returns-then-not-is_vector : tie.Need-returns-then-not-is_vector
 unfolding row_inf_norms
-returns-3 c =
-    let else2 = c.before.before.before in
-    let else1 = else2.before.before in
-    rw (met else1.before.is-side.ensures else1.if1.false, met else2.before.is-matrix.ensures else2.if2.false, unmet c.before.is-vector.ensures c.if3.true)
+returns-then-not-is_vector c =
+    let else2 = c in
+    let else1 = else2 in
+    rw (met else1.is_side.ensures else1.if-not-is_side.false, met else2.is_matrix.ensures else2.if-not-is_matrix.false, unmet c.is_vector.ensures c.if-not-is_vector.true)
 
-row-norms-requires : tie.Need-row-norms-requires
-row-norms-requires c κs =
-    let after-is-vector = c.before.before in
-    let else2 = after-is-vector.before.before in
-    let start = else2.before.before.before.before.before.before in
+row_norms-requires : tie.Need-row_norms-requires
+row_norms-requires c κs =
+    let after-is-vector = c in
+    let else2 = after-is-vector in
+    let start = else2 in
     let x = start.args in (
-      long-length x.a.now (x.n * x.n) (met else2.before.is-matrix.ensures else2.if2.false),
-      long-length x.out.now x.n (met after-is-vector.is-vector.ensures c.before.if3.false),
+      long-length x.a.now (x.n * x.n) (met else2.is_matrix.ensures else2.if-not-is_matrix.false),
+      long-length x.out.now x.n (met after-is-vector.is_vector.ensures c.if-not-is_vector.false),
     )
 
-returns-4 : tie.Need-returns-4
+returns : tie.Need-returns
 unfolding row_inf_norms
-returns-4 c =
-    let after-row-norms = c.before.before in
-    let else3 = after-row-norms.before.before in
-    let else2 = else3.before.before.before in
-    let else1 = else2.before.before in
+returns c =
+    let after-row-norms = c in
+    let else3 = after-row-norms in
+    let else2 = else3 in
+    let else1 = else2 in
     rw
-    (met else1.before.is-side.ensures else1.if1.false, met else2.before.is-matrix.ensures else2.if2.false, met else3.before.is-vector.ensures else3.if3.false)
-    (done after-row-norms.row-norms.ensures)
+    (met else1.is_side.ensures else1.if-not-is_side.false, met else2.is_matrix.ensures else2.if-not-is_matrix.false, met else3.is_vector.ensures else3.if-not-is_vector.false)
+    (done after-row-norms.row_norms.ensures)
 
-pub row-inf-norms-spec : {M : Type 1} → statement M
-row-inf-norms-spec =
+pub row_inf_norms_spec : {M : Type 1} → statement M
+row_inf_norms_spec =
     tie.close
-    (tie.spec (λ c κs. search rules) returns is-matrix-requires returns-2 (λ c κs. search rules) (λ c. search rules) returns-3 row-norms-requires
-    (λ c. search rules) returns-4)
+    (tie.spec (λ c κs. search rules) returns-then-not-is_side is_matrix-requires returns-then-not-is_matrix (λ c κs. search rules) (λ c. search rules) returns-then-not-is_vector row_norms-requires
+    (λ c. search rules) returns)

@@ -12,34 +12,34 @@ use Rattle.pivoting.proofs.inside.single_distance.Statement.{statement}
 use Rattle.pivoting.proofs.inside.single_distance.Tie as tie
 
 -- question 5 is met
-scaled : (c : tie.Else1) → let x = c.before.before.args in lt (norm x.x x.mu x.cov) min_scale ≡ false
-scaled c = rw (sym c.before.single-norm.ensures) c.if1.false
+scaled : (c : tie.Else-norm) → let x = c.args in lt (norm x.x x.mu x.cov) min_scale ≡ false
+scaled c = rw (sym c.single_norm-norm.ensures) c.if-norm.false
 
-returns : tie.Need-returns
-returns c = let x = c.before.before.args in rw (single_distance x.x x.mu x.cov, sym c.before.single-norm.ensures, c.if1.true)
+returns-then-norm : tie.Need-returns-then-norm
+returns-then-norm c = let x = c.args in rw (single_distance x.x x.mu x.cov, sym c.single_norm-norm.ensures, c.if-norm.true)
 
 consider-requires : tie.Need-consider-requires
 unfolding abs of_bits
 consider-requires c κs = refl
 
 -- question 6 is put of the only row
-asked : (c : tie.After-is-taken) → let x = c.before.before.before.before.args in c.is-taken.result ≡ taken (consider unchosen (norm x.x x.mu x.cov) x.cov 0)
+asked : (c : tie.After-is_taken) → let x = c.args in c.is_taken.result ≡ taken (consider unchosen (norm x.x x.mu x.cov) x.cov 0)
 unfolding of_bits
 asked c =
-    let chosen = c.before in
-    let normed = chosen.before.before in
-    c.is-taken.ensures ∙ ap taken chosen.consider.ensures ∙ ap (λ (s : Float). taken (consider unchosen s normed.before.args.cov 0)) normed.single-norm.ensures
+    let chosen = c in
+    let normed = chosen in
+    c.is_taken.ensures ∙ ap taken chosen.consider.ensures ∙ ap (λ (s : Float). taken (consider unchosen s normed.args.cov 0)) normed.single_norm-norm.ensures
 
-returns-2 : tie.Need-returns-2
-returns-2 c =
-    let x = c.before.before.before.before.before.args in
-    rw (single_distance x.x x.mu x.cov, scaled c.before.before.before, unmet (asked c.before) c.if2.true)
+returns-then-not-is_taken : tie.Need-returns-then-not-is_taken
+returns-then-not-is_taken c =
+    let x = c.args in
+    rw (single_distance x.x x.mu x.cov, scaled c.before.before.before, unmet (asked c.before) c.if-not-is_taken.true)
 
-returns-3 : tie.Need-returns-3
+returns : tie.Need-returns
 unfolding of_bits
-returns-3 c =
-    let x = c.before.before.before.before.before.args in
-    rw (single_distance x.x x.mu x.cov, scaled c.before.before.before, met (asked c.before) c.if2.false)
+returns c =
+    let x = c.args in
+    rw (single_distance x.x x.mu x.cov, scaled c.before.before.before, met (asked c.before) c.if-not-is_taken.false)
 
-pub single-distance-spec : {M : Type 1} → statement M
-single-distance-spec = tie.close (tie.spec (λ c κs. search rules) returns consider-requires (λ c κs. search rules) returns-2 returns-3)
+pub single_distance_spec : {M : Type 1} → statement M
+single_distance_spec = tie.close (tie.spec (λ c κs. search rules) returns-then-norm consider-requires (λ c κs. search rules) returns-then-not-is_taken returns)

@@ -6,13 +6,13 @@ use Rattle.dense.specs.Matrix.{max_abs}
 use Rattle.pivoting.proofs.inside.single_norm.Statement.{statement}
 use Rattle.pivoting.proofs.inside.single_norm.Tie as tie
 
+returns-then-size : tie.Need-returns-then-size
+unfolding max_abs of_bits
+returns-then-size c = rw (sym c.abs-size.ensures, c.if-size.true)
+
 returns : tie.Need-returns
 unfolding max_abs of_bits
-returns c = rw (sym c.before.abs.ensures, c.if1.true)
+returns c = rw (sym c.abs-size.ensures, c.if-size.false)
 
-returns-2 : tie.Need-returns-2
-unfolding max_abs of_bits
-returns-2 c = rw (sym c.before.abs.ensures, c.if1.false)
-
-pub single-norm-spec : {M : Type 1} → statement M
-single-norm-spec = tie.close (tie.spec (λ c κs. search rules) returns returns-2)
+pub single_norm_spec : {M : Type 1} → statement M
+single_norm_spec = tie.close (tie.spec (λ c κs. search rules) returns-then-size returns)

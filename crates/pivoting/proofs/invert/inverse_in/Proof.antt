@@ -7,31 +7,31 @@ use Rattle.pivoting.proofs.invert.inverse_in.Statement.{statement}
 use Rattle.pivoting.proofs.invert.inverse_in.Tie as tie
 
 -- the places on the way
-abbrev entered : tie.After-row-norms → tie.Start
+abbrev entered : tie.After-row_norms → tie.Start
 entered c = c.before.before.before.before.before.before.before
 
-abbrev normed : tie.After-join-identity → tie.After-row-norms
+abbrev normed : tie.After-join_identity → tie.After-row_norms
 normed c = c.before.before.before.before
 
-abbrev joined : tie.After-eliminate → tie.After-join-identity
+abbrev joined : tie.After-eliminate → tie.After-join_identity
 joined c = c.before.before.before.before.before.before.before
 
-abbrev last : tie.After-slice-known10 → tie.After-eliminate
+abbrev last : tie.After-slice_known-10-1 → tie.After-eliminate
 last c = c.before.before.before.before.before.before.before.before
 
-row-norms-requires : tie.Need-row-norms-requires
-row-norms-requires c κs = let pre = c.before.before.before.before.before.before.requires in (pre.1, pre.2.norms)
+row_norms-requires : tie.Need-row_norms-requires
+row_norms-requires c κs = let pre = c.requires in (pre.1, pre.2.norms)
 
-join-identity-requires : tie.Need-join-identity-requires
-join-identity-requires c κs = let pre = (entered c.before.before.before).requires in (pre.0, pre.1, pre.2.matrix)
+join_identity-requires : tie.Need-join_identity-requires
+join_identity-requires c κs = let pre = (entered c.before.before.before).requires in (pre.0, pre.1, pre.2.matrix)
 
 eliminate-requires : tie.Need-eliminate-requires
 eliminate-requires c κs =
-    let j = c.before.before.before.before.before.before in
-    let n = normed j in
-    let pre = (entered n).pre in (
+    let j = c in
+    let n = normed c.before.before.before.before.before.before in
+    let pre = (entered n).requires in (
       pre.0,
-      record { matrix = j.join-identity.auto.1.1.1.0 ∙ pre.2.matrix; norms = n.row-norms.kept.1.1.0 ∙ pre.2.norms; row = pre.2.row },
+      record { matrix = j.join_identity.auto.m ∙ pre.2.matrix; norms = n.row_norms.auto.s ∙ pre.2.norms; row = pre.2.row },
       pre.3,
     )
 
@@ -41,11 +41,11 @@ returns c =
     let e = last c in
     let j = joined e in
     let x = (entered (normed j)).args in
-    solved_from_lem x.a.now (identity x.n) x.n x.n _ _ _ j.join-identity.ensures (normed j).row-norms.ensures e.eliminate.ensures
+    solved_from_lem x.a.now (identity x.n) x.n x.n _ _ _ j.join_identity.ensures (normed j).row_norms.ensures e.eliminate.ensures
 
-pub inverse-in-spec : {M : Type 1} → statement M
-inverse-in-spec =
+pub inverse_in_spec : {M : Type 1} → statement M
+inverse_in_spec =
     tie.close
-    (tie.spec row-norms-requires join-identity-requires eliminate-requires (λ c. (last c).eliminate.auto.0 ∙ (joined (last c)).join-identity.auto.1.1.1.0)
-    (λ c. (last c).eliminate.auto.1.0 ∙ (normed (joined (last c))).row-norms.auto.1.1.0) (λ c. (last c).eliminate.auto.1.1.0)
-    (λ c. (last c).eliminate.auto.1.1.1.1.1.1.0) returns)
+    (tie.spec row_norms-requires join_identity-requires eliminate-requires (λ c. (last c).eliminate.auto.m ∙ (joined (last c)).join_identity.auto.m)
+    (λ c. (last c).eliminate.auto.s ∙ (normed (joined (last c))).row_norms.auto.s) (λ c. (last c).eliminate.auto.x)
+    (λ c. (last c).eliminate.auto.out) returns)

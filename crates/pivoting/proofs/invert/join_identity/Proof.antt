@@ -7,27 +7,27 @@ use Rattle.dense.proofs.Rows.{RowByRow, RowFits, no_row, row_fits, row-lent, row
 use Rattle.pivoting.proofs.invert.join_identity.Statement.{statement}
 use Rattle.pivoting.proofs.invert.join_identity.Tie as tie
 
-abbrev invariant-loop : tie.invariant-loop
-invariant-loop a n w m₀ i₀ m i = RowByRow (augmented_entry a (identity n) n n) n w m₀ i m
+abbrev invariant-loop-i : tie.invariant-loop-i
+invariant-loop-i a n w m₀ i₀ m i = RowByRow (augmented_entry a (identity n) n n) n w m₀ i m
 
-abbrev decreases-loop : tie.decreases-loop
-decreases-loop a n w m₀ i₀ m i = n - i
+abbrev decreases-loop-i : tie.decreases-loop-i
+decreases-loop-i a n w m₀ i₀ m i = n - i
 
-fits : (c : tie.In-loop invariant-loop decreases-loop) → RowFits c.before.loop.invariant
-fits c = row_fits c.before.loop.invariant c.loop-test.true
+fits : (c : tie.In-loop-i invariant-loop-i decreases-loop-i) → RowFits c.loop-i.invariant
+fits c = row_fits c.loop-i.invariant c.loop-i-test.true
 
-joined-row-requires : tie.Need-joined-row-requires invariant-loop decreases-loop
-joined-row-requires c κs = (omega arith, omega arith, omega arith, row-lent c.before.before.loop.invariant c.before.loop-test.true)
+joined_row-requires : tie.Need-joined_row-requires invariant-loop-i decreases-loop-i
+joined_row-requires c κs = (omega arith, omega arith, omega arith, row-lent c.loop-i.invariant c.loop-i-test.true)
 
-loop-again : tie.Need-loop-preserved invariant-loop decreases-loop
-loop-again c = let turn = c.before.before.before.before in row_written turn.before.loop.invariant turn.loop-test.true c.before.before.joined-row.ensures
+loop-i-preserved : tie.Need-loop-i-preserved invariant-loop-i decreases-loop-i
+loop-i-preserved c = let turn = c in row_written turn.loop-i.invariant turn.loop-i-test.true c.joined_row.ensures
 
-returns : tie.Need-returns invariant-loop decreases-loop
+returns : tie.Need-returns invariant-loop-i decreases-loop-i
 unfolding augmented
-returns c = rw (← c.before.before.before.before.requires.0) (every_row c.before.loop.invariant c.loop-test.false)
+returns c = rw (← c.requires.0) (every_row c.loop-i.invariant c.loop-i-test.false)
 
-pub join-identity-spec : {M : Type 1} → statement M
-join-identity-spec =
+pub join_identity_spec : {M : Type 1} → statement M
+join_identity_spec =
     tie.close
-    (tie.spec invariant-loop decreases-loop (λ c. no_row c.before.before.requires.2) (λ c. omega (arith, fits c)) (λ c. omega (arith, fits c)) (λ c. omega (arith, fits c)) (λ c. omega arith)
-    (λ c. omega arith) (λ c. omega (arith, fits c)) joined-row-requires (λ c. omega arith) (λ c. omega arith) loop-again (λ c. c.before.loop.invariant.rows.size) returns)
+    (tie.spec invariant-loop-i decreases-loop-i (λ c. no_row c.requires.2) (λ c. omega (arith, fits c)) (λ c. omega (arith, fits c)) (λ c. omega (arith, fits c)) (λ c. omega arith)
+    (λ c. omega arith) (λ c. omega (arith, fits c)) joined_row-requires (λ c. omega arith) (λ c. omega arith) loop-i-preserved (λ c. c.loop-i.invariant.rows.size) returns)

@@ -13,21 +13,21 @@ beyond n i j h k l = at-matrix n n unit_entry i (j - n) h (omega arith)
 
 entry-requires : tie.Need-entry-requires
 entry-requires c κs =
-    let start = c.before.before in
+    let start = c in
     omega (arith, cell start.args.n start.args.n {i = start.args.i} {j = start.args.j} (omega arith) (omega arith))
 
+returns-then-j-n : tie.Need-returns-then-j-n
+returns-then-j-n c = c.entry.ensures ∙ simp (lt-ltb _ _ c.if-j-n.true)
+
+returns-then-i-j : tie.Need-returns-then-i-j
+returns-then-i-j c =
+    let x = c.args in
+    rw (le-ltb _ _ c.if-j-n.false, beyond x.n x.i x.j (omega arith) (omega arith) (omega arith), eq-eqb _ _ c.if-i-j.true)
+
 returns : tie.Need-returns
-returns c = c.entry.ensures ∙ simp (lt-ltb _ _ c.before.if1.true)
+returns c =
+    let x = c.args in
+    rw (le-ltb _ _ c.if-j-n.false, beyond x.n x.i x.j (omega arith) (omega arith) (omega arith), ne_eqb _ _ c.if-i-j.false)
 
-returns-2 : tie.Need-returns-2
-returns-2 c =
-    let x = c.before.before.before.args in
-    rw (le-ltb _ _ c.before.if1.false, beyond x.n x.i x.j (omega arith) (omega arith) (omega arith), eq-eqb _ _ c.if2.true)
-
-returns-3 : tie.Need-returns-3
-returns-3 c =
-    let x = c.before.before.before.args in
-    rw (le-ltb _ _ c.before.if1.false, beyond x.n x.i x.j (omega arith) (omega arith) (omega arith), ne_eqb _ _ c.if2.false)
-
-pub joined-entry-spec : {M : Type 1} → statement M
-joined-entry-spec = tie.close (tie.spec entry-requires returns returns-2 returns-3)
+pub joined_entry_spec : {M : Type 1} → statement M
+joined_entry_spec = tie.close (tie.spec entry-requires returns-then-j-n returns-then-i-j returns)

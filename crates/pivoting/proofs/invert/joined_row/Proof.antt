@@ -8,20 +8,20 @@ use native.Mathlib.Omega.{arith}
 use Rattle.pivoting.proofs.invert.joined_row.Statement.{statement}
 use Rattle.pivoting.proofs.invert.joined_row.Tie as tie
 
-abbrev invariant-loop : tie.invariant-loop
-invariant-loop a n i w y₀ j₀ y j = EntryByEntry (augmented_entry a (identity n) n n i) w y₀ j y
+abbrev invariant-loop-j : tie.invariant-loop-j
+invariant-loop-j a n i w y₀ j₀ y j = EntryByEntry (augmented_entry a (identity n) n n i) w y₀ j y
 
-abbrev decreases-loop : tie.decreases-loop
-decreases-loop a n i w y₀ j₀ y j = w - j
+abbrev decreases-loop-j : tie.decreases-loop-j
+decreases-loop-j a n i w y₀ j₀ y j = w - j
 
-loop-again : tie.Need-loop-preserved invariant-loop decreases-loop
-loop-again c = entry-written c.before.before.loop.invariant c.before.loop-test.true c.joined-entry.ensures
+loop-j-preserved : tie.Need-loop-j-preserved invariant-loop-j decreases-loop-j
+loop-j-preserved c = entry-written c.loop-j.invariant c.loop-j-test.true c.joined_entry.ensures
 
-returns : tie.Need-returns invariant-loop decreases-loop
-returns c = every_entry c.before.loop.invariant c.loop-test.false
+returns : tie.Need-returns invariant-loop-j decreases-loop-j
+returns c = every_entry c.loop-j.invariant c.loop-j-test.false
 
-pub joined-row-spec : {M : Type 1} → statement M
-joined-row-spec =
+pub joined_row_spec : {M : Type 1} → statement M
+joined_row_spec =
     tie.close
-    (tie.spec invariant-loop decreases-loop (λ c. no_entry c.before.before.requires.3) (λ c κs. search rules) (λ c. omega arith) (λ c. omega arith)
-    (λ c. omega arith) (λ c. omega arith) loop-again (λ c. c.before.loop.invariant.entries.size) returns)
+    (tie.spec invariant-loop-j decreases-loop-j (λ c. no_entry c.requires.3) (λ c κs. search rules) (λ c. omega arith) (λ c. omega arith)
+    (λ c. omega arith) (λ c. omega arith) loop-j-preserved (λ c. c.loop-j.invariant.entries.size) returns)

@@ -9,16 +9,16 @@ use Rattle.pivoting.proofs.invert.small_inverse.Tie as tie
 room : (c : tie.Start) → AugmentedRoom 4 c.args.n c.args.n
 room c = augmented-room 4 c.requires.0 c.requires.0
 
-inverse-in-requires : tie.Need-inverse-in-requires
-inverse-in-requires c κs =
-    let x = c.before.before.before.before.before.before in
-    (refl, x.requires.1, elimination_room _ _ _ _ _ (room x).size (room x).order (room x).width, x.requires.2)
+inverse_in-requires : tie.Need-inverse_in-requires
+inverse_in-requires c κs =
+    let x = c in
+    (refl, x.requires.1, elimination_room _ _ _ _ _ (room c.before.before.before.before.before.before).size (room c.before.before.before.before.before.before).order (room c.before.before.before.before.before.before).width, x.requires.2)
 
-pub small-inverse-spec : {M : Type 1} → statement M
-small-inverse-spec =
+pub small_inverse_spec : {M : Type 1} → statement M
+small_inverse_spec =
     tie.close
     (tie.spec (λ c. omega arith) (λ c. omega (arith, (room c.before.before).size)) (λ c. (room c.before.before).size)
     (λ c. sym (length-take-le _ _ (room c.before.before.before).size)) (λ c. (room c.before.before.before).order)
     (λ c. sym (length-take-le _ _ (room c.before.before.before.before).order)) (λ c. (room c.before.before.before.before).width)
-    (λ c. sym (length-take-le _ _ (room c.before.before.before.before.before).width)) inverse-in-requires
-    (λ c. c.before.before.before.before.before.inverse-in.auto.1.1.1.1.1.1.0) (λ c. c.before.before.before.before.before.inverse-in.ensures))
+    (λ c. sym (length-take-le _ _ (room c.before.before.before.before.before).width)) inverse_in-requires
+    (λ c. c.inverse_in.auto.out) (λ c. c.inverse_in.ensures))

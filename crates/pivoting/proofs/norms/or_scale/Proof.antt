@@ -3,8 +3,8 @@ use borrow.Author.Rules.{rules}
 use Rattle.pivoting.proofs.norms.or_scale.Statement.{statement}
 use Rattle.pivoting.proofs.norms.or_scale.Tie as tie
 
-returns-2 : tie.Need-returns-2
-returns-2 c = rw c.if1.false
+returns : tie.Need-returns
+returns c = rw c.if-some.false
 
-pub or-scale-spec : {M : Type 1} → statement M
-or-scale-spec = tie.close (tie.spec (λ c. search rules) returns-2)
+pub or_scale_spec : {M : Type 1} → statement M
+or_scale_spec = tie.close (tie.spec (λ c. search rules) returns)

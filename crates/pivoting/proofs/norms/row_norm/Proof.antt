@@ -9,10 +9,10 @@ use Rattle.pivoting.proofs.norms.row_norm.Statement.{statement}
 use Rattle.pivoting.proofs.norms.row_norm.Tie as tie
 
 row-requires : tie.Need-row-requires
-row-requires c κs = let x = c.before.args in omega (arith, row_within x.n x.n {i = x.i} c.before.requires.0)
+row-requires c κs = let x = c.args in omega (arith, row_within x.n x.n {i = x.i} c.requires.0)
 
 returns : tie.Need-returns
-returns c = let n = c.before.before.before.args.n in c.max-abs.ensures ∙ ap (λ (l : List Float). max_abs l n) c.before.row.ensures.1
+returns c = let n = c.args.n in c.max_abs.ensures ∙ ap (λ (l : List Float). max_abs l n) c.row.ensures.1
 
-pub row-norm-spec : {M : Type 1} → statement M
-row-norm-spec = tie.close (tie.spec row-requires (λ c κs. c.row.ensures.0) returns)
+pub row_norm_spec : {M : Type 1} → statement M
+row_norm_spec = tie.close (tie.spec row-requires (λ c κs. c.row.ensures.0) returns)

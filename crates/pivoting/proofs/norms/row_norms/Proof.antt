@@ -6,20 +6,20 @@ use native.Mathlib.Omega.{arith}
 use Rattle.pivoting.proofs.norms.row_norms.Statement.{statement}
 use Rattle.pivoting.proofs.norms.row_norms.Tie as tie
 
-abbrev invariant-loop : tie.invariant-loop
-invariant-loop a n s₀ i₀ s i = EntryByEntry (row_norm a n) n s₀ i s
+abbrev invariant-loop-i : tie.invariant-loop-i
+invariant-loop-i a n s₀ i₀ s i = EntryByEntry (row_norm a n) n s₀ i s
 
-abbrev decreases-loop : tie.decreases-loop
-decreases-loop a n s₀ i₀ s i = n - i
+abbrev decreases-loop-i : tie.decreases-loop-i
+decreases-loop-i a n s₀ i₀ s i = n - i
 
-loop-again : tie.Need-loop-preserved invariant-loop decreases-loop
-loop-again c = entry-written c.before.before.loop.invariant c.before.loop-test.true c.row-norm.ensures
+loop-i-preserved : tie.Need-loop-i-preserved invariant-loop-i decreases-loop-i
+loop-i-preserved c = entry-written c.loop-i.invariant c.loop-i-test.true c.row_norm.ensures
 
-returns : tie.Need-returns invariant-loop decreases-loop
-returns c = every_entry c.before.loop.invariant c.loop-test.false
+returns : tie.Need-returns invariant-loop-i decreases-loop-i
+returns c = every_entry c.loop-i.invariant c.loop-i-test.false
 
-pub row-norms-spec : {M : Type 1} → statement M
-row-norms-spec =
+pub row_norms_spec : {M : Type 1} → statement M
+row_norms_spec =
     tie.close
-    (tie.spec invariant-loop decreases-loop (λ c. no_entry c.before.before.requires.1) (λ c κs. omega arith) (λ c. omega arith) (λ c. omega arith) (λ c. omega arith) (λ c. omega arith) loop-again
-    (λ c. c.before.loop.invariant.entries.size) returns)
+    (tie.spec invariant-loop-i decreases-loop-i (λ c. no_entry c.requires.1) (λ c κs. omega arith) (λ c. omega arith) (λ c. omega arith) (λ c. omega arith) (λ c. omega arith) loop-i-preserved
+    (λ c. c.loop-i.invariant.entries.size) returns)

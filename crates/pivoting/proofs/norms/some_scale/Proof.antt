@@ -8,24 +8,24 @@ use native.Mathlib.Omega.{arith}
 use Rattle.pivoting.proofs.norms.some_scale.Statement.{statement}
 use Rattle.pivoting.proofs.norms.some_scale.Tie as tie
 
-abbrev invariant-loop : tie.invariant-loop
-invariant-loop s n some₀ i₀ some i = AfterTurns (λ l. some_scale l s) n i some
+abbrev invariant-loop-i : tie.invariant-loop-i
+invariant-loop-i s n some₀ i₀ some i = AfterTurns (λ l. some_scale l s) n i some
 
-abbrev decreases-loop : tie.decreases-loop
-decreases-loop s n some₀ i₀ some i = n - i
+abbrev decreases-loop-i : tie.decreases-loop-i
+decreases-loop-i s n some₀ i₀ some i = n - i
 
-loop-holds : tie.Need-loop-init invariant-loop decreases-loop
+loop-i-init : tie.Need-loop-i-init invariant-loop-i decreases-loop-i
 unfolding some_scale
-loop-holds c = turns_none refl
+loop-i-init c = turns_none refl
 
-loop-again : tie.Need-loop-preserved invariant-loop decreases-loop
+loop-i-preserved : tie.Need-loop-i-preserved invariant-loop-i decreases-loop-i
 unfolding some_scale
-loop-again c = turns_more c.before.before.before.loop.invariant c.before.before.loop-test.true (λ e. c.or-scale.ensures ∙ rw e)
+loop-i-preserved c = turns_more c.loop-i.invariant c.loop-i-test.true (λ e. c.or_scale-some.ensures ∙ rw e)
 
-returns : tie.Need-returns invariant-loop decreases-loop
-returns c = turns_all c.before.loop.invariant c.loop-test.false
+returns : tie.Need-returns invariant-loop-i decreases-loop-i
+returns c = turns_all c.loop-i.invariant c.loop-i-test.false
 
-pub some-scale-spec : {M : Type 1} → statement M
-some-scale-spec =
+pub some_scale_spec : {M : Type 1} → statement M
+some_scale_spec =
     tie.close
-    (tie.spec invariant-loop decreases-loop loop-holds (λ c. omega arith) (λ c. omega arith) (λ c κs. search rules) (λ c. omega arith) (λ c. omega arith) loop-again returns)
+    (tie.spec invariant-loop-i decreases-loop-i loop-i-init (λ c. omega arith) (λ c. omega arith) (λ c κs. search rules) (λ c. omega arith) (λ c. omega arith) loop-i-preserved returns)

@@ -17,31 +17,31 @@ use Rattle.pivoting.proofs.reduce.reduce_rows.Tie as tie
 abbrev reduced_entry : List Float → List Float → ℕ → ℕ → ℕ → ℕ → Float
 reduced_entry x m w k i j = cond (eqb i k) (nth x j) (sub (at m w i j) (mul (at m w i k) (nth x j)))
 
-abbrev invariant-loop : tie.invariant-loop
-invariant-loop x m₀ n w k i₀ m i = RowByRow (reduced_entry x m₀ w k) n w m₀ i m
+abbrev invariant-loop-i : tie.invariant-loop-i
+invariant-loop-i x m₀ n w k i₀ m i = RowByRow (reduced_entry x m₀ w k) n w m₀ i m
 
-abbrev decreases-loop : tie.decreases-loop
-decreases-loop x m₀ n w k i₀ m i = n - i
+abbrev decreases-loop-i : tie.decreases-loop-i
+decreases-loop-i x m₀ n w k i₀ m i = n - i
 
-fits : (c : tie.In-loop invariant-loop decreases-loop) → RowFits c.before.loop.invariant
-fits c = row_fits c.before.loop.invariant c.loop-test.true
+fits : (c : tie.In-loop-i invariant-loop-i decreases-loop-i) → RowFits c.loop-i.invariant
+fits c = row_fits c.loop-i.invariant c.loop-i-test.true
 
-reduce-row-requires : tie.Need-reduce-row-requires invariant-loop decreases-loop
-reduce-row-requires c κs = record { column = omega arith; left = omega arith; right = row-lent c.before.before.loop.invariant c.before.loop-test.true }
+reduce_row-requires : tie.Need-reduce_row-requires invariant-loop-i decreases-loop-i
+reduce_row-requires c κs = record { column = omega arith; left = omega arith; right = row-lent c.loop-i.invariant c.loop-i-test.true }
 
-loop-again : tie.Need-loop-preserved invariant-loop decreases-loop
-loop-again c =
-    let turn = c.before.before.before.before in
-    let start = turn.before.before.before.before in
-    let inv = turn.before.loop.invariant in
-    row_written inv turn.loop-test.true
-    (c.before.before.reduce-row.ensures ∙ tabulate_ext _ _ _ (λ j h. rw (row_old inv j h, row_old inv start.args.k start.requires.column)))
+loop-i-preserved : tie.Need-loop-i-preserved invariant-loop-i decreases-loop-i
+loop-i-preserved c =
+    let turn = c in
+    let start = turn in
+    let inv = turn.loop-i.invariant in
+    row_written inv turn.loop-i-test.true
+    (c.reduce_row.ensures ∙ tabulate_ext _ _ _ (λ j h. rw (row_old inv j h, row_old inv start.args.k start.requires.column)))
 
-returns : tie.Need-returns invariant-loop decreases-loop
-returns c = every_row c.before.loop.invariant c.loop-test.false
+returns : tie.Need-returns invariant-loop-i decreases-loop-i
+returns c = every_row c.loop-i.invariant c.loop-i-test.false
 
-pub reduce-rows-spec : {M : Type 1} → statement M
-reduce-rows-spec =
+pub reduce_rows_spec : {M : Type 1} → statement M
+reduce_rows_spec =
     tie.close
-    (tie.spec invariant-loop decreases-loop (λ c. no_row c.before.before.requires.matrix) (λ c. omega (arith, fits c)) (λ c. omega (arith, fits c)) (λ c. omega (arith, fits c)) (λ c. omega arith)
-    (λ c. omega arith) (λ c. omega (arith, fits c)) reduce-row-requires (λ c. omega arith) (λ c. omega arith) loop-again (λ c. c.before.loop.invariant.rows.size) returns)
+    (tie.spec invariant-loop-i decreases-loop-i (λ c. no_row c.requires.matrix) (λ c. omega (arith, fits c)) (λ c. omega (arith, fits c)) (λ c. omega (arith, fits c)) (λ c. omega arith)
+    (λ c. omega arith) (λ c. omega (arith, fits c)) reduce_row-requires (λ c. omega arith) (λ c. omega arith) loop-i-preserved (λ c. c.loop-i.invariant.rows.size) returns)

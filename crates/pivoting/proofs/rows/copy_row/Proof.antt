@@ -42,39 +42,39 @@ copied_all n w k p {old} {l} {t} h e c = matrix-by-entries n w _ l (c.size ∙ e
     go i j b (yes s) = rw (eq-eqb i p s, s) (c.done j (omega arith))
     go i j b (no s) = rw (ne_eqb i p s) (c.left i j b (λ q. absurd (s q)))
 
-abbrev invariant-loop : tie.invariant-loop
-invariant-loop m₀ n w k p j₀ m j = (j ≤ w) × Copied w k p m₀ j m
+abbrev invariant-loop-j : tie.invariant-loop-j
+invariant-loop-j m₀ n w k p j₀ m j = (j ≤ w) × Copied w k p m₀ j m
 
-abbrev decreases-loop : tie.decreases-loop
-decreases-loop m₀ n w k p j₀ m j = w - j
+abbrev decreases-loop-j : tie.decreases-loop-j
+decreases-loop-j m₀ n w k p j₀ m j = w - j
 
-loop-holds : tie.Need-loop-init invariant-loop decreases-loop
-loop-holds c = (omega arith, copied_none _ _ _ _)
+loop-j-init : tie.Need-loop-j-init invariant-loop-j decreases-loop-j
+loop-j-init c = (omega arith, copied_none _ _ _ _)
 
 -- entry j of row p lies within the matrix
-within : (c : tie.After-entry invariant-loop decreases-loop) → let at-loop = c.before.before.before in let x = at-loop.before.before.args in x.p * x.w + at-loop.loop.j < length at-loop.loop.m
+within : (c : tie.After-entry invariant-loop-j decreases-loop-j) → let at-loop = c in let x = at-loop.args in x.p * x.w + at-loop.loop-j.j < length at-loop.loop-j.m
 within c =
-    let turn = c.before.before in
-    let x = turn.before.before.before.args in
-    omega (arith, turn.before.loop.invariant.1.size, cell x.n x.w {i = x.p} (omega arith) turn.loop-test.true)
+    let turn = c in
+    let x = turn.args in
+    omega (arith, turn.loop-j.invariant.1.size, cell x.n x.w {i = x.p} (omega arith) turn.loop-j-test.true)
 
-entry-requires : tie.Need-entry-requires invariant-loop decreases-loop
+entry-requires : tie.Need-entry-requires invariant-loop-j decreases-loop-j
 entry-requires c κs =
-    let turn = c.before in
-    let x = turn.before.before.before.args in
-    omega (arith, turn.before.loop.invariant.1.size, cell x.n x.w {i = x.k} (omega arith) turn.loop-test.true)
+    let turn = c in
+    let x = turn.args in
+    omega (arith, turn.loop-j.invariant.1.size, cell x.n x.w {i = x.k} (omega arith) turn.loop-j-test.true)
 
-loop-again : tie.Need-loop-preserved invariant-loop decreases-loop
-loop-again c = let turn = c.before.before in (omega arith, copied_more _ _ _ turn.before.loop.j turn.loop-test.true (within c) c.entry.ensures turn.before.loop.invariant.1)
+loop-j-preserved : tie.Need-loop-j-preserved invariant-loop-j decreases-loop-j
+loop-j-preserved c = let turn = c in (omega arith, copied_more _ _ _ turn.loop-j.j turn.loop-j-test.true (within c) c.entry.ensures turn.loop-j.invariant.1)
 
-same_length : tie.Need-same-length invariant-loop decreases-loop
-same_length c = c.before.loop.invariant.1.size
+shape_of-m : tie.Need-shape_of-m invariant-loop-j decreases-loop-j
+shape_of-m c = c.loop-j.invariant.1.size
 
-returns : tie.Need-returns invariant-loop decreases-loop
-returns c = copied_all _ _ _ _ c.loop-test.false c.before.before.before.requires.2 c.before.loop.invariant.1
+returns : tie.Need-returns invariant-loop-j decreases-loop-j
+returns c = copied_all _ _ _ _ c.loop-j-test.false c.requires.2 c.loop-j.invariant.1
 
-pub copy-row-spec : {M : Type 1} → statement M
-copy-row-spec =
+pub copy_row_spec : {M : Type 1} → statement M
+copy_row_spec =
     tie.close
-    (tie.spec invariant-loop decreases-loop loop-holds entry-requires (λ c. omega (arith, within c)) (λ c. omega (arith, within c)) (λ c. omega (arith, within c))
-    (λ c. omega (arith, within c)) (λ c. omega arith) (λ c. omega arith) loop-again same_length returns)
+    (tie.spec invariant-loop-j decreases-loop-j loop-j-init entry-requires (λ c. omega (arith, within c)) (λ c. omega (arith, within c)) (λ c. omega (arith, within c))
+    (λ c. omega (arith, within c)) (λ c. omega arith) (λ c. omega arith) loop-j-preserved shape_of-m returns)

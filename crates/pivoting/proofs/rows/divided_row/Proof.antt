@@ -16,34 +16,34 @@ record Divided (m : List Float) (w p k : ℕ) (old : List Float) (d : Float) (j 
   pub divisor : d ≡ at m w p k
   pub entries : EntryByEntry (λ q. div (at m w p q) (at m w p k)) w old j y
 
-abbrev invariant-loop : tie.invariant-loop
-invariant-loop m n w p k y₀ d j₀ y j = Divided m w p k y₀ d j y
+abbrev invariant-loop-j : tie.invariant-loop-j
+invariant-loop-j m n w p k y₀ d j₀ y j = Divided m w p k y₀ d j y
 
-abbrev decreases-loop : tie.decreases-loop
-decreases-loop m n w p k y₀ d j₀ y j = w - j
+abbrev decreases-loop-j : tie.decreases-loop-j
+decreases-loop-j m n w p k y₀ d j₀ y j = w - j
 
-entry-requires : tie.Need-entry-requires invariant-loop decreases-loop
-entry-requires c κs = let start = c.before.before in omega (arith, cell start.args.n start.args.w {i = start.args.p} {j = start.args.k} (omega arith) (omega arith))
+entry-d-requires : tie.Need-entry-d-requires invariant-loop-j decreases-loop-j
+entry-d-requires c κs = let start = c in omega (arith, cell start.args.n start.args.w {i = start.args.p} {j = start.args.k} (omega arith) (omega arith))
 
-loop-holds : tie.Need-loop-init invariant-loop decreases-loop
-loop-holds c = record { divisor = c.entry.ensures; entries = no_entry c.before.before.before.requires.room }
+loop-j-init : tie.Need-loop-j-init invariant-loop-j decreases-loop-j
+loop-j-init c = record { divisor = c.entry-d.ensures; entries = no_entry c.requires.room }
 
-entry-requires-2 : tie.Need-entry-requires-2 invariant-loop decreases-loop
-entry-requires-2 c κs =
-    let start = c.before.before.before.before.before in
-    omega (arith, cell start.args.n start.args.w {i = start.args.p} {j = c.before.loop.j} (omega arith) (omega arith))
+entry-requires : tie.Need-entry-requires invariant-loop-j decreases-loop-j
+entry-requires c κs =
+    let start = c in
+    omega (arith, cell start.args.n start.args.w {i = start.args.p} {j = c.loop-j.j} (omega arith) (omega arith))
 
-loop-again : tie.Need-loop-preserved invariant-loop decreases-loop
-loop-again c =
-    let turn = c.before in
-    let inv = turn.before.loop.invariant in
-    record { divisor = inv.divisor; entries = entry-written inv.entries turn.loop-test.true (rw (inv.divisor, c.entry2.ensures)) }
+loop-j-preserved : tie.Need-loop-j-preserved invariant-loop-j decreases-loop-j
+loop-j-preserved c =
+    let turn = c in
+    let inv = turn.loop-j.invariant in
+    record { divisor = inv.divisor; entries = entry-written inv.entries turn.loop-j-test.true (rw (inv.divisor, c.entry-d.ensures)) }
 
-returns : tie.Need-returns invariant-loop decreases-loop
-returns c = every_entry c.before.loop.invariant.entries c.loop-test.false
+returns : tie.Need-returns invariant-loop-j decreases-loop-j
+returns c = every_entry c.loop-j.invariant.entries c.loop-j-test.false
 
-pub divided-row-spec : {M : Type 1} → statement M
-divided-row-spec =
+pub divided_row_spec : {M : Type 1} → statement M
+divided_row_spec =
     tie.close
-    (tie.spec invariant-loop decreases-loop entry-requires loop-holds entry-requires-2 (λ c. omega arith) (λ c. omega arith) (λ c. omega arith) (λ c. omega arith) loop-again
-    (λ c. c.before.loop.invariant.entries.entries.size) returns)
+    (tie.spec invariant-loop-j decreases-loop-j entry-d-requires loop-j-init entry-requires (λ c. omega arith) (λ c. omega arith) (λ c. omega arith) (λ c. omega arith) loop-j-preserved
+    (λ c. c.loop-j.invariant.entries.entries.size) returns)

@@ -7,16 +7,16 @@ use Rattle.dense.proofs.Laws.{own_entries}
 use Rattle.pivoting.proofs.rows.reduce_row.Statement.{statement}
 use Rattle.pivoting.proofs.rows.reduce_row.Tie as tie
 
+returns-then-i-k : tie.Need-returns-then-i-k
+returns-then-i-k c =
+    let after-copy = c in
+    let then1 = after-copy in
+    let taken = then1 in after-copy.copy.ensures ∙ own_entries _ _ taken.requires.left ∙ tabulate_ext _ _ _ (λ j k. rw (eq-eqb _ _ taken.if-i-k.true))
+
 returns : tie.Need-returns
-returns c =
-    let after-copy = c.before.before in
-    let then1 = after-copy.before.before in
-    let taken = then1 in after-copy.copy.ensures ∙ own_entries _ _ taken.before.before.before.requires.left ∙ tabulate_ext _ _ _ (λ j k. rw (eq-eqb _ _ taken.if1.true))
+returns c = c.subtract_scaled.ensures ∙ tabulate_ext _ _ _ (λ j k. rw (ne_eqb _ _ c.if-i-k.false))
 
-returns-2 : tie.Need-returns-2
-returns-2 c = c.before.before.subtract-scaled.ensures ∙ tabulate_ext _ _ _ (λ j k. rw (ne_eqb _ _ c.before.before.before.before.before.if1.false))
-
-pub reduce-row-spec : {M : Type 1} → statement M
-reduce-row-spec =
+pub reduce_row_spec : {M : Type 1} → statement M
+reduce_row_spec =
     tie.close
-    (tie.spec (λ c κs. search rules) (λ c. search rules) returns (λ c. search rules) (λ c. search rules) (λ c κs. search rules) (λ c. search rules) returns-2)
+    (tie.spec (λ c κs. search rules) (λ c. search rules) returns-then-i-k (λ c. search rules) (λ c. search rules) (λ c κs. search rules) (λ c. search rules) returns)

@@ -9,19 +9,19 @@ use Rattle.pivoting.proofs.solve.augmented_entry.Tie as tie
 
 entry-requires : tie.Need-entry-requires
 entry-requires c κs =
-    let start = c.before.before.before in
+    let start = c in
     omega (arith, cell start.args.n start.args.n {i = start.args.i} {j = start.args.j} (omega arith) (omega arith))
 
-returns : tie.Need-returns
-returns c = c.entry.ensures ∙ simp (lt-ltb _ _ c.before.if1.true)
+returns-then-j-n : tie.Need-returns-then-j-n
+returns-then-j-n c = c.entry.ensures ∙ simp (lt-ltb _ _ c.if-j-n.true)
 
 entry-requires-2 : tie.Need-entry-requires-2
 entry-requires-2 c κs =
-    let start = c.before.before.before in
+    let start = c in
     omega (arith, cell start.args.n start.args.r {i = start.args.i} {j = start.args.j - start.args.n} (omega arith) (omega arith))
 
-returns-2 : tie.Need-returns-2
-returns-2 c = c.entry2.ensures ∙ simp (le-ltb _ _ c.before.if1.false)
+returns : tie.Need-returns
+returns c = c.entry-2.ensures ∙ simp (le-ltb _ _ c.if-j-n.false)
 
-pub augmented-entry-spec : {M : Type 1} → statement M
-augmented-entry-spec = tie.close (tie.spec entry-requires returns entry-requires-2 returns-2)
+pub augmented_entry_spec : {M : Type 1} → statement M
+augmented_entry_spec = tie.close (tie.spec entry-requires returns-then-j-n entry-requires-2 returns)

@@ -25,28 +25,28 @@ right m s t n r w e f = rw e (ap (right_of n r) f)
 
 -- ---- the places on the way
 
-abbrev entered : tie.After-some-scale → tie.Start
-entered c = c.before.before.before.before.before.before
+abbrev entered : tie.After-some_scale → tie.Start
+entered c = c.before.before.before.before.before
 
-abbrev scaled : tie.After-reduce → tie.Else1
+abbrev scaled : tie.After-reduce → tie.Else-not-some_scale
 scaled c = c.before.before.before.before
 
 abbrev start_of : tie.After-reduce → tie.Start
 start_of c = entered (scaled c).before
 
-abbrev refused-6 : tie.Then2 → tie.After-reduce
+abbrev refused-6 : tie.Then-not-reduce → tie.After-reduce
 refused-6 c = c.before.before.before.before.before.before.before
 
-abbrev met-6 : tie.After-slice-known8 → tie.Else2
-met-6 c = c.before.before.before.before.before
+abbrev met-6 : tie.After-slice_known-8-1 → tie.Else-not-reduce
+met-6 c = c.before.before.before.before
 
-abbrev answered-at : tie.After-slice-known8 → tie.After-reduce
+abbrev answered-at : tie.After-slice_known-8-1 → tie.After-reduce
 answered-at c = (met-6 c).before.before.before.before.before.before.before
 
 -- ---- what is known there
 
 met_5 : (c : tie.After-reduce) → let x = (start_of c).args in some_scale x.n x.s.now ≡ true
-met_5 c = met (scaled c).before.some-scale.ensures (scaled c).if1.false
+met_5 c = met (scaled c).some_scale.ensures (scaled c).if-not-some_scale.false
 
 begun : (c : tie.After-reduce)
     → let x = (start_of c).args in
@@ -57,32 +57,32 @@ begun c = let x = (start_of c).args in widened (stage x.m.now x.s.now) x.n x.r x
 
 -- ---- the needs
 
-returns : tie.Need-returns
-returns c = rw (unmet c.before.some-scale.ensures c.if1.true)
+returns-then-not-some_scale : tie.Need-returns-then-not-some_scale
+returns-then-not-some_scale c = rw (unmet c.some_scale.ensures c.if-not-some_scale.true)
 
 reduce-requires : tie.Need-reduce-requires
 reduce-requires c κs = let pre = (entered c.before.before.before.before).requires in (omega (arith, pre.0), pre.1)
 
-returns-2 : tie.Need-returns-2
-returns-2 c = let t = refused-6 c in rw (met_5 t, unmet (t.reduce.ensures.answers ∙ (begun t).0) c.if2.true)
+returns-then-not-reduce : tie.Need-returns-then-not-reduce
+returns-then-not-reduce c = let t = refused-6 c in rw (met_5 t, unmet (t.reduce.ensures.answers ∙ (begun t).0) c.if-not-reduce.true)
 
-right-part-requires : tie.Need-right-part-requires
-right-part-requires c κs =
-    let t = c.before.before.before.before.before.before.before.before.before in
-    let pre = (start_of t).requires in
-    (pre.0, t.reduce.auto.0 ∙ pre.1.matrix, pre.2)
+right_part-requires : tie.Need-right_part-requires
+right_part-requires c κs =
+    let t = c in
+    let pre = (start_of c.before.before.before.before.before.before.before.before).requires in
+    (pre.0, t.reduce.auto.m ∙ pre.1.matrix, pre.2)
 
-returns-3 : tie.Need-returns-3
-returns-3 c =
+returns : tie.Need-returns
+returns c =
     let t = answered-at c in
     let x = (start_of t).args in
-    let all = t.reduce.ensures.reached (not-false _ (met-6 c).if2.false) ∙ (begun t).1 in
-    rw (met_5 t, met (t.reduce.ensures.answers ∙ (begun t).0) (met-6 c).if2.false)
-    (done (c.before.before.right-part.ensures ∙ right _ _ _ x.n x.r x.w (start_of t).pre.0 all))
+    let all = t.reduce.ensures.reached ((met-6 c).if-not-reduce.false) ∙ (begun t).1 in
+    rw (met_5 t, met (t.reduce.ensures.answers ∙ (begun t).0) (met-6 c).if-not-reduce.false)
+    (done (c.right_part.ensures ∙ right _ _ _ x.n x.r x.w (start_of t).requires.0 all))
 
-pub eliminate-spec : {M : Type 1} → statement M
-eliminate-spec =
+pub eliminate_spec : {M : Type 1} → statement M
+eliminate_spec =
     tie.close
-    (tie.spec (λ c κs. c.before.before.before.before.before.requires.1.norms) (λ c. search rules) returns reduce-requires (λ c. (refused-6 c).reduce.auto.0) (λ c. (refused-6 c).reduce.auto.1.0)
-    (λ c. (refused-6 c).reduce.auto.1.1.0) returns-2 right-part-requires (λ c. (answered-at c).reduce.auto.0) (λ c. (answered-at c).reduce.auto.1.0)
-    (λ c. (answered-at c).reduce.auto.1.1.0) (λ c. c.before.before.right-part.auto.1.1.1.1.0) returns-3)
+    (tie.spec (λ c κs. c.requires.1.norms) (λ c. search rules) returns-then-not-some_scale reduce-requires (λ c. (refused-6 c).reduce.auto.m) (λ c. (refused-6 c).reduce.auto.s)
+    (λ c. (refused-6 c).reduce.auto.x) returns-then-not-reduce right_part-requires (λ c. (answered-at c).reduce.auto.m) (λ c. (answered-at c).reduce.auto.s)
+    (λ c. (answered-at c).reduce.auto.x) (λ c. c.right_part.auto.out) returns)

@@ -6,26 +6,26 @@ use Rattle.dense.proofs.Rows.{RowByRow, RowFits, no_row, row_fits, row-lent, row
 use Rattle.pivoting.proofs.solve.right_part.Statement.{statement}
 use Rattle.pivoting.proofs.solve.right_part.Tie as tie
 
-abbrev invariant-loop : tie.invariant-loop
-invariant-loop m n r w out₀ i₀ out i = RowByRow (λ a j. at m w a (n + j)) n r out₀ i out
+abbrev invariant-loop-i : tie.invariant-loop-i
+invariant-loop-i m n r w out₀ i₀ out i = RowByRow (λ a j. at m w a (n + j)) n r out₀ i out
 
-abbrev decreases-loop : tie.decreases-loop
-decreases-loop m n r w out₀ i₀ out i = n - i
+abbrev decreases-loop-i : tie.decreases-loop-i
+decreases-loop-i m n r w out₀ i₀ out i = n - i
 
-fits : (c : tie.In-loop invariant-loop decreases-loop) → RowFits c.before.loop.invariant
-fits c = row_fits c.before.loop.invariant c.loop-test.true
+fits : (c : tie.In-loop-i invariant-loop-i decreases-loop-i) → RowFits c.loop-i.invariant
+fits c = row_fits c.loop-i.invariant c.loop-i-test.true
 
-right-row-requires : tie.Need-right-row-requires invariant-loop decreases-loop
-right-row-requires c κs = (omega arith, omega arith, omega arith, row-lent c.before.before.loop.invariant c.before.loop-test.true)
+right_row-requires : tie.Need-right_row-requires invariant-loop-i decreases-loop-i
+right_row-requires c κs = (omega arith, omega arith, omega arith, row-lent c.loop-i.invariant c.loop-i-test.true)
 
-loop-again : tie.Need-loop-preserved invariant-loop decreases-loop
-loop-again c = let turn = c.before.before.before.before in row_written turn.before.loop.invariant turn.loop-test.true c.before.before.right-row.ensures
+loop-i-preserved : tie.Need-loop-i-preserved invariant-loop-i decreases-loop-i
+loop-i-preserved c = let turn = c in row_written turn.loop-i.invariant turn.loop-i-test.true c.right_row.ensures
 
-returns : tie.Need-returns invariant-loop decreases-loop
-returns c = every_row c.before.loop.invariant c.loop-test.false
+returns : tie.Need-returns invariant-loop-i decreases-loop-i
+returns c = every_row c.loop-i.invariant c.loop-i-test.false
 
-pub right-part-spec : {M : Type 1} → statement M
-right-part-spec =
+pub right_part_spec : {M : Type 1} → statement M
+right_part_spec =
     tie.close
-    (tie.spec invariant-loop decreases-loop (λ c. no_row c.before.before.requires.2) (λ c. omega (arith, fits c)) (λ c. omega (arith, fits c)) (λ c. omega (arith, fits c)) (λ c. omega arith)
-    (λ c. omega arith) (λ c. omega (arith, fits c)) right-row-requires (λ c. omega arith) (λ c. omega arith) loop-again (λ c. c.before.loop.invariant.rows.size) returns)
+    (tie.spec invariant-loop-i decreases-loop-i (λ c. no_row c.requires.2) (λ c. omega (arith, fits c)) (λ c. omega (arith, fits c)) (λ c. omega (arith, fits c)) (λ c. omega arith)
+    (λ c. omega arith) (λ c. omega (arith, fits c)) right_row-requires (λ c. omega arith) (λ c. omega arith) loop-i-preserved (λ c. c.loop-i.invariant.rows.size) returns)

@@ -8,5 +8,5 @@ use Rattle.tracks.proofs.layout.map_bits.Tie as tie
 returns : tie.Need-returns
 returns c = let f = c.fields.ensures in (f.0 ∙ sym (one_bit_each _), f.1)
 
-pub map-bits-spec : {M : Type 1} → statement M
-map-bits-spec = tie.close (tie.spec (λ c κs. search rules) returns)
+pub map_bits_spec : {M : Type 1} → statement M
+map_bits_spec = tie.close (tie.spec (λ c κs. search rules) returns)

@@ -20,35 +20,35 @@ record Checking (list : List ℕ) (f map start k at : ℕ) : Type 0 where
   pub within : at ≤ length list
   pub end : ends (items (field list map) start k) ≡ End at
 
-abbrev invariant-loop : tie.invariant-loop
-invariant-loop list f map start at₀ k₀ at k = Checking list f map start k at
+abbrev invariant-loop-k : tie.invariant-loop-k
+invariant-loop-k list f map start at₀ k₀ at k = Checking list f map start k at
 
-abbrev decreases-loop : tie.decreases-loop
-decreases-loop list f map start at₀ k₀ at k = f - k
+abbrev decreases-loop-k : tie.decreases-loop-k
+decreases-loop-k list f map start at₀ k₀ at k = f - k
 
-loop-holds : tie.Need-loop-init invariant-loop decreases-loop
+loop-k-init : tie.Need-loop-k-init invariant-loop-k decreases-loop-k
 unfolding items
-loop-holds c = record { turns = omega arith; within = omega arith; end = refl }
+loop-k-init c = record { turns = omega arith; within = omega arith; end = refl }
 
-returns : tie.Need-returns invariant-loop decreases-loop
-returns c =
-    let i = c.before.before.before.before.before.loop in
-    sym (ends-stop _ _ i.k _ c.before.before.before.before.loop-test.true i.invariant.end (sym c.before.before.before.check-field.ensures ∙ c.before.c2.given.1))
+returns-in-Refused : tie.Need-returns-in-Refused invariant-loop-k decreases-loop-k
+returns-in-Refused c =
+    let i = c.loop-k in
+    sym (ends-stop _ _ i.k _ c.loop-k-test.true i.invariant.end (sym c.check_field-c.ensures ∙ c.in-Refused.is))
 
-loop-again : tie.Need-loop-preserved invariant-loop decreases-loop
-loop-again c =
-    let i = c.before.before.before.before.before.loop in
-    let e = sym c.before.before.before.check-field.ensures ∙ c.before.c.given.1 in
+loop-k-preserved : tie.Need-loop-k-preserved invariant-loop-k decreases-loop-k
+loop-k-preserved c =
+    let i = c.loop-k in
+    let e = sym c.check_field-c.ensures ∙ c.in-End.is in
     record { turns = omega arith; within = field-within _ _ _ _ i.invariant.within _ e; end = ends_more _ _ i.k i.invariant.end e }
 
-returns-2 : tie.Need-returns-2 invariant-loop decreases-loop
-returns-2 c =
-    let x = c.before.before.before.args in
-    let i = c.before.loop in
-    at_end_lem (λ (n : ℕ). ends (items (field x.list.now x.map) x.start n)) i.invariant.turns c.loop-test.false (sym i.invariant.end)
+returns : tie.Need-returns invariant-loop-k decreases-loop-k
+returns c =
+    let x = c.args in
+    let i = c.loop-k in
+    at_end_lem (λ (n : ℕ). ends (items (field x.list.now x.map) x.start n)) i.invariant.turns c.loop-k-test.false (sym i.invariant.end)
 
-pub check-fields-spec : {M : Type 1} → statement M
-check-fields-spec =
+pub check_fields_spec : {M : Type 1} → statement M
+check_fields_spec =
     tie.close
-    (tie.spec invariant-loop decreases-loop loop-holds (λ c κs. omega arith) (λ c. search rules) (λ c. search rules) returns
-    (λ c. omega arith) (λ c. omega arith) loop-again returns-2)
+    (tie.spec invariant-loop-k decreases-loop-k loop-k-init (λ c κs. omega arith) (λ c. search rules) (λ c. search rules) returns-in-Refused
+    (λ c. omega arith) (λ c. omega arith) loop-k-preserved returns)

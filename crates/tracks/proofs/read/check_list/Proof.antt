@@ -4,7 +4,7 @@ use Rattle.tracks.proofs.read.check_list.Statement.{statement}
 use Rattle.tracks.proofs.read.check_list.Tie as tie
 
 returns : tie.Need-returns
-returns c = c.before.check-offsets.ensures.0
+returns c = c.check_offsets.ensures.0
 
-pub check-list-spec : {M : Type 1} → statement M
-check-list-spec = tie.close (tie.spec (λ c. search rules) (λ c κs. search rules) returns)
+pub check_list_spec : {M : Type 1} → statement M
+check_list_spec = tie.close (tie.spec (λ c. search rules) (λ c κs. search rules) returns)

@@ -27,70 +27,70 @@ refusal : (l old new : List ℕ) {q : ℕ} → ReadList.Refused q ≡ read_answe
 refusal l old new e = (e, λ c a. never_both (sym a ∙ read_refused (contents l) (sym e)))
 
 -- the list that is checked, and the slice
-abbrev list_of : tie.After-slice-known → List ℕ
-list_of c = c.before.before.args.list.now
+abbrev list_of : tie.After-slice_known-1 → List ℕ
+list_of c = c.args.list.now
 
-abbrev old : tie.After-slice-known → List ℕ
-old c = c.before.before.args.offsets.now
+abbrev old : tie.After-slice_known-1 → List ℕ
+old c = c.args.offsets.now
 
-returns : tie.Need-returns
+returns-then-list-lt2 : tie.Need-returns-then-list-lt2
 unfolding contents
-returns c = let s = c.before in refusal (list_of s) (old s) (old s) (simp (lt-leb 2 (length (list_of s)) c.if1.true))
+returns-then-list-lt2 c = let s = c in refusal (list_of c.before) (old c.before) (old c.before) (simp (lt-leb 2 (length (list_of c.before)) c.if-list-lt2.true))
 
-cast-n : tie.Need-overflow-cast-n
-cast-n c = omega (arith, c.shared-slice-known2.given 0)
+overflow_cast-n : tie.Need-overflow_cast-n
+overflow_cast-n c = omega (arith, c.shared_slice_known-2-1.given 0)
 
-cast-d : tie.Need-overflow-cast-d
-cast-d c = omega (arith, c.shared-slice-known3.given 1)
+overflow_cast-d : tie.Need-overflow_cast-d
+overflow_cast-d c = omega (arith, c.shared_slice_known-3-1.given 1)
 
-returns-2 : tie.Need-returns-2
+returns-then-not-count_met : tie.Need-returns-then-not-count_met
 unfolding contents
-returns-2 c =
-    let s = c.before.before.before.before.before in
-    refusal (list_of s) (old s) (old s) (simp (le-leb 2 (length (list_of s)) (omega arith), sym c.before.count_met_lem.ensures ∙ not-true _ c.if2.true))
+returns-then-not-count_met c =
+    let s = c in
+    refusal (list_of c.before.before.before.before.before) (old c.before.before.before.before.before) (old c.before.before.before.before.before) (simp (le-leb 2 (length (list_of c.before.before.before.before.before)) (omega arith), sym c.count_met.ensures ∙ c.if-not-count_met.true))
 
 -- questions 9 and 10 are met
-abbrev begun : tie.Else2 → tie.After-slice-known
+abbrev begun : tie.Else-not-count_met → tie.After-slice_known-1
 begun c = c.before.before.before.before.before
 
-counted : (c : tie.Else2) → count_met (count (list_of (begun c))) ≡ true
-counted c = sym c.before.count_met_lem.ensures ∙ not-false _ c.if2.false
+counted : (c : tie.Else-not-count_met) → count_met (count (list_of (begun c))) ≡ true
+counted c = sym c.count_met.ensures ∙ c.if-not-count_met.false
 
-returns-3 : tie.Need-returns-3
+returns-then-not-dimension_met : tie.Need-returns-then-not-dimension_met
 unfolding contents
-returns-3 c =
-    let t = c.before.before in
-    let l = list_of (begun t) in
-    refusal l (old (begun t)) (old (begun t)) (simp (le-leb 2 (length l) (omega arith), counted t, sym c.before.dimension-met.ensures ∙ not-true _ c.if3.true))
+returns-then-not-dimension_met c =
+    let t = c in
+    let l = list_of (begun c.before.before) in
+    refusal l (old (begun c.before.before)) (old (begun c.before.before)) (simp (le-leb 2 (length l) (omega arith), counted c.before.before, sym c.dimension_met.ensures ∙ c.if-not-dimension_met.true))
 
-check-tracks-requires : tie.Need-check-tracks-requires
-check-tracks-requires c κs =
-    let s = c.before in
-    let t = s.before.before in
+check_tracks-c-requires : tie.Need-check_tracks-c-requires
+check_tracks-c-requires c κs =
+    let s = c in
+    let t = s in
     record {
-      small = dimension-small _ (sym s.before.dimension-met.ensures ∙ not-false _ s.if3.false);
+      small = dimension-small _ (sym s.dimension_met.ensures ∙ s.if-not-dimension_met.false);
       head = omega arith;
-      room = omega (arith, leb-true (count (list_of (begun t))) 32 (counted t));
+      room = omega (arith, leb-true (count (list_of (begun c.before.before.before))) 32 (counted c.before.before.before));
     }
 
-abbrev start_of : tie.Else3 → tie.After-slice-known
+abbrev start_of : tie.Else-not-dimension_met → tie.After-slice_known-1
 start_of c = begun c.before.before
 
-abbrev listed : tie.Else3 → List ℕ
+abbrev listed : tie.Else-not-dimension_met → List ℕ
 listed c = list_of (start_of c)
 
 -- with 9 to 11 met, the tracks and 16 decide
-head : (c : tie.Else3) → contents (listed c) ≡ and_then (tracked (listed c)) (nothing_after (listed c))
-head c = contents-head (listed c) (omega arith) (counted c.before.before) (sym c.before.dimension-met.ensures ∙ not-false _ c.if3.false)
+head : (c : tie.Else-not-dimension_met) → contents (listed c) ≡ and_then (tracked (listed c)) (nothing_after (listed c))
+head c = contents-head (listed c) (omega arith) (counted c.before.before) (sym c.dimension_met.ensures ∙ c.if-not-dimension_met.false)
 
-abbrev met : tie.After-check-tracks → tie.Else3
+abbrev met : tie.After-check_tracks-c → tie.Else-not-dimension_met
 met c = c.before.before
 
-checked : (c : tie.After-check-tracks) → c.check-tracks.result ≡ ends (tracked (listed (met c)))
-checked c = c.check-tracks.ensures.0
+checked : (c : tie.After-check_tracks-c) → c.check_tracks-c.result ≡ ends (tracked (listed (met c)))
+checked c = c.check_tracks-c.ensures.0
 
 -- what the tracks and 16 decide is the answer
-decided : (c : tie.After-check-tracks) {r : ReadList} → read_answer (and_then (tracked (listed (met c))) (nothing_after (listed (met c)))) ≡ r → r ≡ read_answer (contents (listed (met c)))
+decided : (c : tie.After-check_tracks-c) {r : ReadList} → read_answer (and_then (tracked (listed (met c))) (nothing_after (listed (met c)))) ≡ r → r ≡ read_answer (contents (listed (met c)))
 decided c e = sym (ap read_answer (head (met c)) ∙ e)
 
 -- the offsets that are stored are the list's
@@ -98,25 +98,25 @@ stored : (l before : List ℕ) → Offsets l before (over before 0 (tabulate (co
 unfolding offset
 stored l before c a = ap (λ (n : ℕ). over before 0 (tabulate (n + 1) (offset l))) (sym (contents_met l a).count)
 
-returns-4 : tie.Need-returns-4
-returns-4 c =
-    let t = c.before.before.before.before.before.before in
-    let l = listed (met t) in
-    (decided t (tracks_ended l (sym (checked t) ∙ c.before.before.c.given.1) c.if4.true), λ held a. t.check-tracks.ensures.1 ∙ stored l _ held a)
+returns-then-end-list : tie.Need-returns-then-end-list
+returns-then-end-list c =
+    let t = c in
+    let l = listed (met c.before.before.before.before) in
+    (decided c.before.before.before.before (tracks_ended l (sym (checked c.before.before.before.before) ∙ c.in-End.is) c.if-end-list.true), λ held a. t.check_tracks-c.ensures.1 ∙ stored l _ held a)
 
-returns-5 : tie.Need-returns-5
-returns-5 c =
-    let t = c.before.before.before.before.before.before in
-    refusal _ _ _ (decided t (tracks_followed (listed (met t)) (sym (checked t) ∙ c.before.before.c.given.1) c.if4.false))
+returns-else-end-list : tie.Need-returns-else-end-list
+returns-else-end-list c =
+    let t = c in
+    refusal _ _ _ (decided c.before.before.before.before (tracks_followed (listed (met c.before.before.before.before)) (sym (checked c.before.before.before.before) ∙ c.in-End.is) c.if-end-list.false))
 
-returns-6 : tie.Need-returns-6
-returns-6 c =
-    let t = c.before.before.before.before.before in
-    refusal _ _ _ (decided t (tracks_stopped (listed (met t)) (sym (checked t) ∙ c.before.c2.given.1)))
+returns-in-Refused : tie.Need-returns-in-Refused
+returns-in-Refused c =
+    let t = c in
+    refusal _ _ _ (decided c.before.before.before (tracks_stopped (listed (met c.before.before.before)) (sym (checked c.before.before.before) ∙ c.in-Refused.is)))
 
-pub check-offsets-spec : {M : Type 1} → statement M
-check-offsets-spec =
+pub check_offsets_spec : {M : Type 1} → statement M
+check_offsets_spec =
     tie.close
-    (tie.spec returns (λ c. search rules) cast-n (λ c. search rules) cast-d (λ c κs. search rules) returns-2 (λ c κs. search rules) returns-3
-    check-tracks-requires (λ c. search rules) (λ c. search rules) (λ c. search rules) returns-4 (λ c. search rules) returns-5
-    (λ c. search rules) returns-6)
+    (tie.spec returns-then-list-lt2 (λ c. search rules) overflow_cast-n (λ c. search rules) overflow_cast-d (λ c κs. search rules) returns-then-not-count_met (λ c κs. search rules) returns-then-not-dimension_met
+    check_tracks-c-requires (λ c. search rules) (λ c. search rules) (λ c. search rules) returns-then-end-list (λ c. search rules) returns-else-end-list
+    (λ c. search rules) returns-in-Refused)

@@ -14,65 +14,65 @@ use Rattle.tracks.proofs.read.check_track.Statement.{statement}
 use Rattle.tracks.proofs.read.check_track.Tie as tie
 
 -- the places, each from a later one
-abbrev start_of : tie.After-map-bytes → tie.Start
+abbrev start_of : tie.After-map_bytes-size → tie.Start
 start_of c = c.before.before.before
 
-abbrev measured : tie.Else1 → tie.After-map-bytes
+abbrev measured : tie.Else-list-at → tie.After-map_bytes-size
 measured c = c.before
 
 -- question 12 for the map, and question 13
-there : (c : tie.Else1) → let x = (start_of (measured c)).args in after_map x.d x.at ≤ length x.list.now
-there c = omega (arith, (measured c).map-bytes.ensures.0)
+there : (c : tie.Else-list-at) → let x = (start_of (measured c)).args in after_map x.d x.at ≤ length x.list.now
+there c = omega (arith, (measured c).map_bytes-size.ensures.0)
 
-spared : (c : tie.After-spare-clear) → let x = (start_of (measured c.before)).args in spare x.list.now (map_bits x.d) x.at ≡ c.spare-clear.result
+spared : (c : tie.After-spare_clear) → let x = (start_of (measured c.before)).args in spare x.list.now (map_bits x.d) x.at ≡ c.spare_clear.result
 spared c =
     let m = measured c.before in
     let x = (start_of m).args in
-    ap (λ (k : ℕ). spare x.list.now k x.at) (sym m.before.map_bits_lem.ensures.0) ∙ sym c.spare-clear.ensures
+    ap (λ (k : ℕ). spare x.list.now k x.at) (sym m.map_bits-bits.ensures.0) ∙ sym c.spare_clear.ensures
+
+returns-then-list-at : tie.Need-returns-then-list-at
+unfolding track
+returns-then-list-at c =
+    let m = c in
+    let x = (start_of c.before).args in
+    simp (lt-leb (after_map x.d x.at) (length x.list.now) (omega (arith, m.map_bytes-size.ensures.0)))
+
+spare_clear-requires : tie.Need-spare_clear-requires
+spare_clear-requires c κs = let m = measured c in (omega (arith, m.map_bits-bits.ensures.1), omega (arith, there c, m.map_bits-bits.ensures.0))
+
+returns-then-not-spare_clear : tie.Need-returns-then-not-spare_clear
+unfolding track
+returns-then-not-spare_clear c =
+    let t = c in
+    let x = (start_of (measured c.before.before)).args in
+    simp (le-leb (after_map x.d x.at) (length x.list.now) (there c.before.before), spared c.before ∙ c.if-not-spare_clear.true)
+
+check_fields-requires : tie.Need-check_fields-requires
+check_fields-requires c κs =
+    let t = c in
+    let x = (start_of (measured c.before.before.before)).args in
+    record {
+      small = omega (arith, c.fields.ensures.1);
+      told = omega (arith, there c.before.before.before, c.fields.ensures.0, one_bit_each x.d);
+      within = omega (arith, there c.before.before.before, (measured c.before.before.before).map_bytes-size.ensures.0);
+    }
 
 returns : tie.Need-returns
 unfolding track
 returns c =
-    let m = c.before in
-    let x = (start_of m).args in
-    simp (lt-leb (after_map x.d x.at) (length x.list.now) (omega (arith, m.map-bytes.ensures.0)))
-
-spare-clear-requires : tie.Need-spare-clear-requires
-spare-clear-requires c κs = let m = measured c in (omega (arith, m.before.map_bits_lem.ensures.1), omega (arith, there c, m.before.map_bits_lem.ensures.0))
-
-returns-2 : tie.Need-returns-2
-unfolding track
-returns-2 c =
-    let t = c.before.before in
-    let x = (start_of (measured t)).args in
-    simp (le-leb (after_map x.d x.at) (length x.list.now) (there t), spared c.before ∙ not-true _ c.if2.true)
-
-check-fields-requires : tie.Need-check-fields-requires
-check-fields-requires c κs =
-    let t = c.before.before.before in
-    let x = (start_of (measured t)).args in
-    record {
-      small = omega (arith, c.fields.ensures.1);
-      told = omega (arith, there t, c.fields.ensures.0, one_bit_each x.d);
-      within = omega (arith, there t, (measured t).map-bytes.ensures.0);
-    }
-
-returns-3 : tie.Need-returns-3
-unfolding track
-returns-3 c =
-    let f = c.before in
-    let t = f.before.before.before in
-    let m = measured t in
+    let f = c in
+    let t = f in
+    let m = measured c.before.before.before.before in
     let x = (start_of m).args in
     let l = x.list.now in
-    simp (le-leb (after_map x.d x.at) (length l) (there t), spared f.before.before ∙ not-false _ f.before.if2.false)
-    (c.check-fields.ensures
-    ∙ ap (λ (k : ℕ). ends (items (field l x.at) k f.fields.result)) (ap (λ (k : ℕ). x.at + k) m.map-bytes.ensures.0)
+    simp (le-leb (after_map x.d x.at) (length l) (there c.before.before.before.before), spared c.before.before.before ∙ f.if-not-spare_clear.false)
+    (c.check_fields.ensures
+    ∙ ap (λ (k : ℕ). ends (items (field l x.at) k f.fields.result)) (ap (λ (k : ℕ). x.at + k) m.map_bytes-size.ensures.0)
     ∙ ap (λ (k : ℕ). ends (items (field l x.at) (after_map x.d x.at) k)) f.fields.ensures.0
     ∙ sym (ends_made track_of (items (field l x.at) (after_map x.d x.at) (fields x.d))))
 
-pub check-track-spec : {M : Type 1} → statement M
-check-track-spec =
+pub check_track_spec : {M : Type 1} → statement M
+check_track_spec =
     tie.close
-    (tie.spec (λ c κs. search rules) (λ c κs. search rules) (λ c. search rules) returns spare-clear-requires returns-2 (λ c κs. search rules)
-    (λ c. omega (arith, there c.before.before.before, (measured c.before.before.before).map-bytes.ensures.0)) check-fields-requires returns-3)
+    (tie.spec (λ c κs. search rules) (λ c κs. search rules) (λ c. search rules) returns-then-list-at spare_clear-requires returns-then-not-spare_clear (λ c κs. search rules)
+    (λ c. omega (arith, there c.before.before.before, (measured c.before.before.before).map_bytes-size.ensures.0)) check_fields-requires returns)

@@ -27,15 +27,15 @@ record Checking (list : List ℕ) (d n j : ℕ) (c : Checked) (old offsets : Lis
   pub told : c ≡ ends (tracks list d j)
   pub laid : Laid old 0 (tabulate j (at list d)) j offsets
 
-abbrev invariant-loop : tie.invariant-loop
-invariant-loop list d n offsets₀ c₀ j₀ offsets c j = Checking list d n j c offsets₀ offsets
+abbrev invariant-loop-j : tie.invariant-loop-j
+invariant-loop-j list d n offsets₀ c₀ j₀ offsets c j = Checking list d n j c offsets₀ offsets
 
-abbrev decreases-loop : tie.decreases-loop
-decreases-loop list d n offsets₀ c₀ j₀ offsets c j = n - j
+abbrev decreases-loop-j : tie.decreases-loop-j
+decreases-loop-j list d n offsets₀ c₀ j₀ offsets c j = n - j
 
-loop-holds : tie.Need-loop-init invariant-loop decreases-loop
+loop-j-init : tie.Need-loop-j-init invariant-loop-j decreases-loop-j
 unfolding tracks items tabulate
-loop-holds c = record { turns = omega arith; told = refl; laid = laid_none }
+loop-j-init c = record { turns = omega arith; told = refl; laid = laid_none }
 
 -- one more offset after the first j
 one_more : {list : List ℕ} {d n j : ℕ} {c : Checked} {old offsets : List ℕ} {v : ℕ} → Checking list d n j c old offsets → j < length old → v ≡ checked_end c
@@ -44,37 +44,37 @@ one_more {list} {d} {n} {j} {v = v} w h e =
     let stored : v ≡ at list d j = e ∙ ap checked_end w.told ∙ checked_end_lem (tracks list d j) in
     laid_set w.laid v (rw stored (tabulate_more j (at list d))) (omega (arith, length-tabulate (j + 1) (at list d))) refl
 
-next-track-requires : tie.Need-next-track-requires invariant-loop decreases-loop
-next-track-requires c κs =
-    let x = c.before.before.before.before.before.args in
-    let i = c.before.before.loop in
+next_track-c-requires : tie.Need-next_track-c-requires invariant-loop-j decreases-loop-j
+next_track-c-requires c κs =
+    let x = c.args in
+    let i = c.loop-j in
     (omega arith, λ at e. tracks-within x.list.now x.d i.j (omega arith) at (sym i.invariant.told ∙ e))
 
-loop-again : tie.Need-loop-preserved invariant-loop decreases-loop
+loop-j-preserved : tie.Need-loop-j-preserved invariant-loop-j decreases-loop-j
 unfolding tracks
-loop-again c =
-    let x = c.before.before.before.before.before.before.args in
-    let i = c.before.before.before.loop in
+loop-j-preserved c =
+    let x = c.args in
+    let i = c.loop-j in
     let read = track x.list.now x.d in
     record {
       turns = omega arith;
-      told = c.next-track.ensures ∙ ap (λ (b : Checked). continued b (λ at. ends (read at))) i.invariant.told ∙ sym (ends_next (λ _. read) 2 i.j);
-      laid = one_more i.invariant (omega arith) c.before.end_of_lem.ensures;
+      told = c.next_track-c.ensures ∙ ap (λ (b : Checked). continued b (λ at. ends (read at))) i.invariant.told ∙ sym (ends_next (λ _. read) 2 i.j);
+      laid = one_more i.invariant (omega arith) c.end_of.ensures;
     }
 
-same_length : tie.Need-same-length invariant-loop decreases-loop
-same_length c = let i = c.before.before.loop in length-set i.offsets _ _ ∙ i.invariant.laid.size
+shape_of-offsets : tie.Need-shape_of-offsets invariant-loop-j decreases-loop-j
+shape_of-offsets c = let i = c.loop-j in length-set i.offsets _ _ ∙ i.invariant.laid.size
 
-returns : tie.Need-returns invariant-loop decreases-loop
+returns : tie.Need-returns invariant-loop-j decreases-loop-j
 returns c =
-    let x = c.before.before.before.before.before.args in
-    let i = c.before.before.loop in
-    let n : i.j ≡ x.n = le_antisymm i.invariant.turns c.before.loop-test.false in
-    let all = laid_all (one_more i.invariant (omega arith) c.end-of2.ensures) (ap (λ (k : ℕ). tabulate (k + 1) (at x.list.now x.d)) n) in
-    (i.invariant.told ∙ ap (λ (k : ℕ). ends (tracks x.list.now x.d k)) n, ap (λ (k : ℕ). set i.offsets k c.end-of2.result) (sym n) ∙ all.1)
+    let x = c.args in
+    let i = c.loop-j in
+    let n : i.j ≡ x.n = le_antisymm i.invariant.turns c.loop-j-test.false in
+    let all = laid_all (one_more i.invariant (omega arith) c.end_of-2.ensures) (ap (λ (k : ℕ). tabulate (k + 1) (at x.list.now x.d)) n) in
+    (i.invariant.told ∙ ap (λ (k : ℕ). ends (tracks x.list.now x.d k)) n, ap (λ (k : ℕ). set i.offsets k c.end_of-2.result) (sym n) ∙ all.1)
 
-pub check-tracks-spec : {M : Type 1} → statement M
-check-tracks-spec =
+pub check_tracks_spec : {M : Type 1} → statement M
+check_tracks_spec =
     tie.close
-    (tie.spec invariant-loop decreases-loop loop-holds (λ c κs. tt) (λ c. omega arith) (λ c. omega arith) next-track-requires (λ c. omega arith) (λ c. omega arith)
-    loop-again (λ c κs. tt) (λ c. omega arith) (λ c. omega arith) same_length returns)
+    (tie.spec invariant-loop-j decreases-loop-j loop-j-init (λ c κs. tt) (λ c. omega arith) (λ c. omega arith) next_track-c-requires (λ c. omega arith) (λ c. omega arith)
+    loop-j-preserved (λ c κs. tt) (λ c. omega arith) (λ c. omega arith) shape_of-offsets returns)

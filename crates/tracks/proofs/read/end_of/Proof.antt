@@ -5,11 +5,11 @@ use Rattle.tracks.specs.Private.{checked_end}
 use Rattle.tracks.proofs.read.end_of.Statement.{statement}
 use Rattle.tracks.proofs.read.end_of.Tie as tie
 
-returns : tie.Need-returns
-returns c = sym (ap checked_end c.before.c.given.1)
+returns-in-End : tie.Need-returns-in-End
+returns-in-End c = sym (ap checked_end c.in-End.is)
 
-returns-2 : tie.Need-returns-2
-returns-2 c = sym (ap checked_end c.enum_told.given.1)
+returns-in-Refused : tie.Need-returns-in-Refused
+returns-in-Refused c = sym (ap checked_end c.in-Refused.is)
 
-pub end-of-spec : {M : Type 1} → statement M
-end-of-spec = tie.close (tie.spec (λ c. search rules) (λ c. search rules) returns returns-2)
+pub end_of_spec : {M : Type 1} → statement M
+end_of_spec = tie.close (tie.spec (λ c. search rules) (λ c. search rules) returns-in-End returns-in-Refused)

@@ -7,18 +7,18 @@ use Rattle.tracks.specs.declared.read.Checked.{Checked}
 use Rattle.tracks.proofs.read.next_track.Statement.{statement}
 use Rattle.tracks.proofs.read.next_track.Tie as tie
 
-check-track-requires : tie.Need-check-track-requires
-check-track-requires c κs = (c.before.before.before.before.requires.0, c.before.before.before.before.requires.1 _ c.before.c.given.1)
+check_track-requires : tie.Need-check_track-requires
+check_track-requires c κs = (c.requires.0, c.requires.1 _ c.in-End.is)
 
-returns : tie.Need-returns
-returns c =
-    let x = c.before.before.before.before.before.args in
-    c.check-track.ensures ∙ sym (ap (λ (b : Checked). continued b (λ at. ends (track x.list.now x.d at))) c.before.before.c.given.1)
+returns-in-End : tie.Need-returns-in-End
+returns-in-End c =
+    let x = c.args in
+    c.check_track.ensures ∙ sym (ap (λ (b : Checked). continued b (λ at. ends (track x.list.now x.d at))) c.in-End.is)
 
-returns-2 : tie.Need-returns-2
-returns-2 c =
-    let x = c.before.before.before.before.args in
-    sym (ap (λ (b : Checked). continued b (λ at. ends (track x.list.now x.d at))) c.before.c2.given.1)
+returns-in-Refused : tie.Need-returns-in-Refused
+returns-in-Refused c =
+    let x = c.args in
+    sym (ap (λ (b : Checked). continued b (λ at. ends (track x.list.now x.d at))) c.in-Refused.is)
 
-pub next-track-spec : {M : Type 1} → statement M
-next-track-spec = tie.close (tie.spec (λ c. search rules) check-track-requires (λ c. search rules) returns returns-2)
+pub next_track_spec : {M : Type 1} → statement M
+next_track_spec = tie.close (tie.spec (λ c. search rules) check_track-requires (λ c. search rules) returns-in-End returns-in-Refused)

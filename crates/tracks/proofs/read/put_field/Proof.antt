@@ -14,10 +14,10 @@ use Rattle.tracks.proofs.read.put_field.Statement.{statement}
 use Rattle.tracks.proofs.read.put_field.Tie as tie
 
 -- the places, each from a later one
-abbrev start_of : tie.Then1 → tie.Start
+abbrev start_of : tie.Then-stands → tie.Start
 start_of c = c.before.before.before.before
 
-abbrev standing : tie.After-word → tie.Then1
+abbrev standing : tie.After-word → tie.Then-stands
 standing c = c.before
 
 -- the field that is read
@@ -25,32 +25,32 @@ abbrev given : tie.Start → Outcome (Item ℕ)
 given c = let x = c.args in field x.list.now x.map x.k x.at
 
 -- the field that is stored
-held : (c : tie.Then1) {y : Item ℕ} → given (start_of c) ≡ answered y → Stored (start_of c).args.list.now (start_of c).args.at y
-held c e = let x = (start_of c).args in field_stored x.list.now x.map x.k x.at (sym c.before.stands.ensures ∙ c.if1.true) e
+held : (c : tie.Then-stands) {y : Item ℕ} → given (start_of c) ≡ answered y → Stored (start_of c).args.list.now (start_of c).args.at y
+held c e = let x = (start_of c).args in field_stored x.list.now x.map x.k x.at (sym c.stands.ensures ∙ c.if-stands.true) e
 
-accepted : (c : tie.Then1) → Stored (start_of c).args.list.now (start_of c).args.at (start_of c).requires.accepted.0
+accepted : (c : tie.Then-stands) → Stored (start_of c).args.list.now (start_of c).args.at (start_of c).requires.accepted.0
 accepted c = held c (start_of c).requires.accepted.1
 
-float-from-bits-values : tie.Need-float-from-bits-values
-float-from-bits-values c = finite_no_nan _ (rw c.word.ensures (accepted (standing c)).finite)
+float_from_bits-values : tie.Need-float_from_bits-values
+float_from_bits-values c = finite_no_nan _ (rw c.word.ensures (accepted (standing c)).finite)
 
-add-result : tie.Need-overflow-add-result
-add-result c = omega (arith, (accepted (standing c)).there)
+overflow_add-result : tie.Need-overflow_add-result
+overflow_add-result c = omega (arith, (accepted (standing c)).there)
 
-returns : tie.Need-returns
-returns c y e =
+returns-then-stands : tie.Need-returns-then-stands
+returns-then-stands c y e =
     let x = (start_of (standing c)).args in
     let s = held (standing c) e in
     (sym s.next, over-set _ _ _ (omega arith) ∙ ap (λ (b : ℕ). over x.values.now x.i (of_bits binary64 b ∷ [])) (c.word.ensures ∙ sym s.value))
 
-returns-2 : tie.Need-returns-2
-returns-2 c y e =
-    let x = c.before.before.before.before.args in
-    let s = field_absent x.list.now x.map x.k x.at (sym c.before.stands.ensures ∙ c.if1.false) e in
+returns : tie.Need-returns
+returns c y e =
+    let x = c.args in
+    let s = field_absent x.list.now x.map x.k x.at (sym c.stands.ensures ∙ c.if-stands.false) e in
     (sym (ap (λ (z : Item ℕ). z.next) s), over-set _ _ _ (omega arith) ∙ ap (λ (z : Item ℕ). over x.values.now x.i (of_bits binary64 z.value ∷ [])) (sym s))
 
-pub put-field-spec : {M : Type 1} → statement M
-put-field-spec =
+pub put_field_spec : {M : Type 1} → statement M
+put_field_spec =
     tie.close
-    (tie.spec (λ c κs. search rules) (λ c κs. tt) float-from-bits-values (λ c. search rules) (λ c. search rules) add-result (λ c. search rules) returns
-    (λ c. search rules) (λ c. search rules) (λ c. search rules) returns-2)
+    (tie.spec (λ c κs. search rules) (λ c κs. tt) float_from_bits-values (λ c. search rules) (λ c. search rules) overflow_add-result (λ c. search rules) returns-then-stands
+    (λ c. search rules) (λ c. search rules) (λ c. search rules) returns)

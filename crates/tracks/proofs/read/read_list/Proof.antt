@@ -15,27 +15,27 @@ use Rattle.tracks.proofs.read.read_list.Statement.{statement}
 use Rattle.tracks.proofs.read.read_list.Tie as tie
 
 -- the places, each from a later one
-abbrev start_of : tie.After-known-told → tie.Start
-start_of c = c.before.before.before.before.before.before
+abbrev start_of : tie.In-Read → tie.Start
+start_of c = c.before.before.before.before
 
-abbrev known : tie.After-fields → tie.After-known-told
+abbrev known : tie.After-fields-f → tie.In-Read
 known c = c.before
 
-abbrev begun : tie.After-fields → tie.Start
+abbrev begun : tie.After-fields-f → tie.Start
 begun c = start_of (known c)
 
-abbrev list_of : tie.After-known-told → List ℕ
+abbrev list_of : tie.In-Read → List ℕ
 list_of c = (start_of c).args.list.now
 
 -- what the answer of `check_list` says of the list
-list_known : (c : tie.After-known-told) → Known (list_of c) c.before.c.given.0.0 c.before.c.given.0.1.0
-list_known c = known_list (list_of c) c.before.before.before.check-list.ensures c.before.c.given.1
+list_known : (c : tie.In-Read) → Known (list_of c) c.in-Read.count c.in-Read.dimension
+list_known c = known_list (list_of c) c.check_list-c.ensures c.in-Read.is
 
-needed : (c : tie.After-fields) → let t = (list_known (known c)).held in (known c).before.c.given.0.0 * c.fields.result ≡ length t.tracks * fields t.dimension
-needed c = known_fields (list_known (known c)) c.fields.ensures.0
+needed : (c : tie.After-fields-f) → let t = (list_known (known c)).held in (known c).in-Read.count * c.fields-f.result ≡ length t.tracks * fields t.dimension
+needed c = known_fields (list_known (known c)) c.fields-f.ensures.0
 
-read : (c : tie.After-fields) → let l = list_of (known c) in
-    tracks l (known c).before.c.given.0.1.0 (known c).before.c.given.0.0 ≡ answered (record { value = (list_known (known c)).held.tracks; next = length l })
+read : (c : tie.After-fields-f) → let l = list_of (known c) in
+    tracks l (known c).in-Read.dimension (known c).in-Read.count ≡ answered (record { value = (list_known (known c)).held.tracks; next = length l })
 read c = known_tracks (list_known (known c))
 
 -- what is answered, and what is left in the values
@@ -44,42 +44,42 @@ both : (c : tie.Start) {o : Outcome TrackList} → reading c.args.list.now (leng
     × (read_values o c.args.values.now ≡ read_values (reading c.args.list.now (length c.args.values.now)) c.args.values.now)
 both c e = (sym (ap read_answer e), sym (ap (λ (o : Outcome TrackList). read_values o c.args.values.now) e))
 
-fields-requires : tie.Need-fields-requires
-fields-requires c κs = (list_known c).small
+fields-f-requires : tie.Need-fields-f-requires
+fields-f-requires c κs = (list_known c).small
 
-mul-if1 : tie.Need-overflow-mul-if1
-mul-if1 c = omega (arith, (list_known (known c)).few, c.fields.ensures.1, mul-le-mul_right c.fields.result (list_known (known c)).few)
+overflow_mul-count : tie.Need-overflow_mul-count
+overflow_mul-count c = omega (arith, (list_known (known c)).few, c.fields-f.ensures.1, mul-le-mul_right c.fields-f.result (list_known (known c)).few)
 
-returns : tie.Need-returns
-returns c =
-    let t = c.before in
-    both (begun t) (reading_short _ _ (list_known (known t)).accepted (omega (arith, needed t, c.if1.true)))
+returns-then-values-count : tie.Need-returns-then-values-count
+returns-then-values-count c =
+    let t = c in
+    both (begun c.before) (reading_short _ _ (list_known (known c.before)).accepted (omega (arith, needed c.before, c.if-values-count.true)))
 
-put-tracks-requires : tie.Need-put-tracks-requires
-put-tracks-requires c κs =
-    let f = c.before.before in
+put_tracks-requires : tie.Need-put_tracks-requires
+put_tracks-requires c κs =
+    let f = c in
     record {
-      small = (list_known (known f)).small;
-      few = (list_known (known f)).few;
-      room = omega (arith, c.before.if1.false, ap (λ (k : ℕ). (known f).before.c.given.0.0 * k) f.fields.ensures.0);
-      accepted = (_, read f);
+      small = (list_known (known c.before.before)).small;
+      few = (list_known (known c.before.before)).few;
+      room = omega (arith, c.if-values-count.false, ap (λ (k : ℕ). (known c.before.before).in-Read.count * k) f.fields-f.ensures.0);
+      accepted = (_, read c.before.before);
     }
 
-returns-2 : tie.Need-returns-2
-returns-2 c =
-    let t = c.before.before.before.before.before in
-    let a = list_known (known t) in
-    let b = both (begun t) (reading-fits _ _ a.accepted (omega (arith, needed t, c.before.before.before.before.if1.false))) in
-    let answer = sym (known t).before.c.given.1 ∙ (known t).before.before.before.check-list.ensures in
-    (answer ∙ ap read_answer a.accepted ∙ b.0, (c.before.before.put-tracks.ensures _ (read t)).1 ∙ b.1)
+returns-else-values-count : tie.Need-returns-else-values-count
+returns-else-values-count c =
+    let t = c in
+    let a = list_known (known c.before.before.before.before.before) in
+    let b = both (begun c.before.before.before.before.before) (reading-fits _ _ a.accepted (omega (arith, needed c.before.before.before.before.before, c.if-values-count.false))) in
+    let answer = sym (known c.before.before.before.before.before).in-Read.is ∙ (known c.before.before.before.before.before).check_list-c.ensures in
+    (answer ∙ ap read_answer a.accepted ∙ b.0, (c.put_tracks.ensures _ (read c.before.before.before.before.before)).1 ∙ b.1)
 
-returns-3 : tie.Need-returns-3
-returns-3 c =
-    let s = c.before.before.before.before.before.before in
-    both s (reading-refused _ _ (read_refused (contents s.args.list.now) (sym c.before.before.before.check-list.ensures ∙ c.before.c2.given.1)))
+returns-in-Refused : tie.Need-returns-in-Refused
+returns-in-Refused c =
+    let s = c in
+    both c.before.before.before.before (reading-refused _ _ (read_refused (contents s.args.list.now) (sym c.check_list-c.ensures ∙ c.in-Refused.is)))
 
-pub read-list-spec : {M : Type 1} → statement M
-read-list-spec =
+pub read_list_spec : {M : Type 1} → statement M
+read_list_spec =
     tie.close
-    (tie.spec (λ c κs. search rules) (λ c. search rules) fields-requires mul-if1 returns put-tracks-requires (λ c. search rules) (λ c. search rules)
-    returns-2 returns-3)
+    (tie.spec (λ c κs. search rules) (λ c. search rules) fields-f-requires overflow_mul-count returns-then-values-count put_tracks-requires (λ c. search rules) (λ c. search rules)
+    returns-else-values-count returns-in-Refused)

@@ -19,30 +19,30 @@ use Rattle.tracks.proofs.read.read_with_offsets.Statement.{statement}
 use Rattle.tracks.proofs.read.read_with_offsets.Tie as tie
 
 -- the places, each from a later one
-abbrev checked : tie.After-known-told → tie.After-check-offsets
-checked c = c.before.before.before.before
+abbrev checked : tie.In-Read → tie.After-check_offsets-c
+checked c = c.before.before
 
-abbrev start_of : tie.After-check-offsets → tie.Start
+abbrev start_of : tie.After-check_offsets-c → tie.Start
 start_of c = c.before.before.before.before.before
 
-abbrev list_of : tie.After-known-told → List ℕ
+abbrev list_of : tie.In-Read → List ℕ
 list_of c = (start_of (checked c)).args.list.now
 
-abbrev stored : tie.After-slice-known4 → tie.After-found3
+abbrev stored : tie.After-slice_known-in-Read-2-1 → tie.After-found-in-Read-1
 stored c = c.before.before.before.before
 
-abbrev asked : tie.After-found3 → tie.Else2
+abbrev asked : tie.After-found-in-Read-1 → tie.Else-offsets-count
 asked c = c.before.before.before.before.before
 
-abbrev sized : tie.After-found3 → tie.After-fields
+abbrev sized : tie.After-found-in-Read-1 → tie.After-fields-f
 sized c = (asked c).before.before
 
 -- what the answer of `check_offsets` says of the list
-list_known : (c : tie.After-known-told) → Known (list_of c) c.before.c.given.0.0 c.before.c.given.0.1.0
-list_known c = known_list (list_of c) (checked c).check-offsets.ensures.0 c.before.c.given.1
+list_known : (c : tie.In-Read) → Known (list_of c) c.in-Read.count c.in-Read.dimension
+list_known c = known_list (list_of c) (checked c).check_offsets-c.ensures.0 c.in-Read.is
 
-needed : (c : tie.After-fields) → let t = (list_known c.before).held in c.before.before.c.given.0.0 * c.fields.result ≡ length t.tracks * fields t.dimension
-needed c = known_fields (list_known c.before) c.fields.ensures.0
+needed : (c : tie.After-fields-f) → let t = (list_known c.before).held in c.in-Read.count * c.fields-f.result ≡ length t.tracks * fields t.dimension
+needed c = known_fields (list_known c.before) c.fields-f.ensures.0
 
 abbrev outcome : tie.Start → Outcome TrackList
 outcome c = reading_placed c.args.list.now (length c.args.values.now) (length c.args.offsets.now)
@@ -58,64 +58,64 @@ all_three c o {r} {v} {w} e p q s =
     ∙ ap (λ (x : List ℕ). (read_answer o, (read_values o c.args.values.now, x))) s
     ∙ ap (λ (x : Outcome TrackList). placed_left c.args.list.now x c.args.values.now c.args.offsets.now) (sym e)
 
-fields-requires : tie.Need-fields-requires
-fields-requires c κs = (list_known c).small
+fields-f-requires : tie.Need-fields-f-requires
+fields-f-requires c κs = (list_known c).small
 
-mul-if1 : tie.Need-overflow-mul-if1
-mul-if1 c = omega (arith, (list_known c.before).few, c.fields.ensures.1, mul-le-mul_right c.fields.result (list_known c.before).few)
+overflow_mul-count : tie.Need-overflow_mul-count
+overflow_mul-count c = omega (arith, (list_known c.before).few, c.fields-f.ensures.1, mul-le-mul_right c.fields-f.result (list_known c.before).few)
 
-returns : tie.Need-returns
-returns c =
-    let t = c.before.before in
-    all_three (start_of (checked t)) (refused 2) (placed_short _ _ _ (list_known t).accepted (omega (arith, needed c.before, c.if1.true))) refl refl refl
+returns-then-values-count : tie.Need-returns-then-values-count
+returns-then-values-count c =
+    let t = c in
+    all_three (start_of (checked c.before.before)) (refused 2) (placed_short _ _ _ (list_known c.before.before).accepted (omega (arith, needed c.before, c.if-values-count.true))) refl refl refl
 
-returns-2 : tie.Need-returns-2
-returns-2 c =
-    let f = c.before.before in
-    let a = list_known f.before in
-    all_three (start_of (checked f.before)) (refused 2)
-    (placed_few _ _ _ a.accepted (omega (arith, needed f, c.before.if1.false)) (omega (arith, a.count, c.if2.true))) refl refl refl
+returns-then-offsets-count : tie.Need-returns-then-offsets-count
+returns-then-offsets-count c =
+    let f = c in
+    let a = list_known c.before.before.before in
+    all_three (start_of (checked c.before.before.before)) (refused 2)
+    (placed_few _ _ _ a.accepted (omega (arith, needed c.before.before, c.if-values-count.false)) (omega (arith, a.count, c.if-offsets-count.true))) refl refl refl
 
-put-tracks-requires : tie.Need-put-tracks-requires
-put-tracks-requires c κs =
-    let f = c.before.before.before in
-    let t = list_known f.before in
+put_tracks-requires : tie.Need-put_tracks-requires
+put_tracks-requires c κs =
+    let f = c in
+    let t = list_known c.before.before.before.before in
     record {
       small = t.small;
       few = t.few;
-      room = omega (arith, c.before.before.if1.false, ap (λ (k : ℕ). f.before.before.c.given.0.0 * k) f.fields.ensures.0);
+      room = omega (arith, c.if-values-count.false, ap (λ (k : ℕ). f.in-Read.count * k) f.fields-f.ensures.0);
       accepted = (_, known_tracks t);
     }
 
-add-copy-offsets : tie.Need-overflow-add-copy-offsets
-add-copy-offsets c = omega (arith, (list_known (sized c).before).few)
+overflow_add-count : tie.Need-overflow_add-count
+overflow_add-count c = omega (arith, (list_known (sized c).before).few)
 
-copy-offsets-requires : tie.Need-copy-offsets-requires
-copy-offsets-requires c κs =
+copy_offsets-requires : tie.Need-copy_offsets-requires
+copy_offsets-requires c κs =
     let t = (sized c.before).before in
-    let a = list_known t in
-    (omega (arith, a.few, offsets-long (list_of t) _ _ (checked t).check-offsets.ensures.1 a.accepted refl), omega arith)
+    let a = list_known t.before in
+    (omega (arith, a.few, offsets-long (list_of t.before) _ _ (checked t.before).check_offsets-c.ensures.1 a.accepted refl), omega arith)
 
-returns-3 : tie.Need-returns-3
-returns-3 c =
+returns-else-offsets-count : tie.Need-returns-else-offsets-count
+returns-else-offsets-count c =
     let f = sized (stored c) in
-    let t = f.before in
-    let s = start_of (checked t) in
-    let a = list_known t in
-    let answer = sym t.before.c.given.1 ∙ (checked t).check-offsets.ensures.0 ∙ ap read_answer a.accepted in
-    all_three s (answered a.held) (placed_fits _ _ _ a.accepted (omega (arith, needed f, (asked (stored c)).before.if1.false)) (omega (arith, a.count, (asked (stored c)).if2.false))) answer
-    ((stored c).before.before.before.put-tracks.ensures _ (known_tracks a)).1
-    (c.before.before.copy-offsets.ensures ∙ ap (over s.args.offsets.now 0) (known_front a _ _ (checked t).check-offsets.ensures.1))
+    let t = f in
+    let s = start_of (checked f.before) in
+    let a = list_known f.before in
+    let answer = sym t.in-Read.is ∙ (checked f.before).check_offsets-c.ensures.0 ∙ ap read_answer a.accepted in
+    all_three s (answered a.held) (placed_fits _ _ _ a.accepted (omega (arith, needed f, (asked (stored c)).if-values-count.false)) (omega (arith, a.count, (asked (stored c)).if-offsets-count.false))) answer
+    ((stored c).put_tracks.ensures _ (known_tracks a)).1
+    (c.copy_offsets.ensures ∙ ap (over s.args.offsets.now 0) (known_front a _ _ (checked f.before).check_offsets-c.ensures.1))
 
-returns-4 : tie.Need-returns-4
-returns-4 c =
-    let k = c.before.before.before.before in
-    let s = start_of k in
-    all_three s (refused c.before.c2.given.0.0)
-    (placed_refused _ _ _ (read_refused (contents s.args.list.now) (sym k.check-offsets.ensures.0 ∙ c.before.c2.given.1))) refl refl refl
+returns-in-Refused : tie.Need-returns-in-Refused
+returns-in-Refused c =
+    let k = c in
+    let s = start_of c.before.before in
+    all_three s (refused c.in-Refused.q)
+    (placed_refused _ _ _ (read_refused (contents s.args.list.now) (sym k.check_offsets-c.ensures.0 ∙ c.in-Refused.is))) refl refl refl
 
-pub read-with-offsets-spec : {M : Type 1} → statement M
-read-with-offsets-spec =
+pub read_with_offsets_spec : {M : Type 1} → statement M
+read_with_offsets_spec =
     tie.close
-    (tie.spec (λ c. search rules) (λ c κs. search rules) (λ c. search rules) fields-requires mul-if1 returns returns-2 put-tracks-requires
-    (λ c. search rules) add-copy-offsets copy-offsets-requires (λ c. search rules) (λ c. search rules) (λ c. search rules) returns-3 returns-4)
+    (tie.spec (λ c. search rules) (λ c κs. search rules) (λ c. search rules) fields-f-requires overflow_mul-count returns-then-values-count returns-then-offsets-count put_tracks-requires
+    (λ c. search rules) overflow_add-count copy_offsets-requires (λ c. search rules) (λ c. search rules) (λ c. search rules) returns-else-offsets-count returns-in-Refused)

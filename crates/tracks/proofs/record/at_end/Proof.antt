@@ -11,7 +11,7 @@ use Rattle.tracks.proofs.record.at_end.Tie as tie
 
 returns : tie.Need-returns
 unfolding at_end
-returns c = ap (λ (p : List ℕ). eqb (length p) 0) c.record.ensures.0
+returns c = ap (λ (p : List ℕ). eqb (length p) 0) c.record-part.ensures.0
 
-pub at-end-spec : {M : Type 1} → statement M
-at-end-spec = tie.close (tie.spec (λ c κs. search rules) returns)
+pub at_end_spec : {M : Type 1} → statement M
+at_end_spec = tie.close (tie.spec (λ c κs. search rules) returns)

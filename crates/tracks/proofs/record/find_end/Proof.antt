@@ -24,47 +24,47 @@ invariant-loop list d n at here₀ j₀ here j = Looking list d n at here j
 abbrev decreases-loop : tie.decreases-loop
 decreases-loop list d n at here₀ j₀ here j = n - j
 
-loop-holds : tie.Need-loop-init invariant-loop decreases-loop
-loop-holds c =
-    let x = c.before.args in
+loop-init : tie.Need-loop-init invariant-loop decreases-loop
+loop-init c =
+    let x = c.args in
     record { turns = omega arith; within = omega arith; among = ap (record_end x.list.now x.d x.at 2) (sym (sub-zero x.n)) }
 
 -- the turn's record, and those after it
-left : (c : tie.In-loop invariant-loop decreases-loop) → let x = c.before.before.before.args in let i = c.before.loop in
+left : (c : tie.In-loop invariant-loop decreases-loop) → let x = c.args in let i = c.loop in
     record_end x.list.now x.d x.at 2 x.n ≡ record_end x.list.now x.d x.at i.here (suc (x.n - (i.counter + 1)))
 left c =
-    let x = c.before.before.before.args in
-    let i = c.before.loop in
+    let x = c.args in
+    let i = c.loop in
     let e : x.n - i.counter ≡ suc (x.n - (i.counter + 1)) = omega arith in
     i.invariant.among ∙ ap (record_end x.list.now x.d x.at i.here) e
 
+returns-then-here-at : tie.Need-returns-then-here-at invariant-loop decreases-loop
+returns-then-here-at c =
+    let t = c in
+    let x = t.args in
+    let e = sym c.check_track-c.ensures ∙ c.in-End.is in
+    (sym (left c.before.before.before ∙ end_here _ _ _ _ _ e c.if-here-at.true), track-within x.list.now x.d t.loop.here _ e)
+
+returns-in-Refused : tie.Need-returns-in-Refused invariant-loop decreases-loop
+returns-in-Refused c = (sym (left c.before.before ∙ end_refused _ _ _ _ _ (sym c.check_track-c.ensures ∙ c.in-Refused.is)), omega arith)
+
+loop-preserved : tie.Need-loop-preserved invariant-loop decreases-loop
+loop-preserved c =
+    let t = c in
+    let x = t.args in
+    let e = sym c.check_track-c.ensures ∙ c.in-End.is in
+    record { turns = omega arith; within = track-within x.list.now x.d t.loop.here _ e; among = left c.before.before.before ∙ end_later _ _ _ _ _ e c.if-here-at.false }
+
 returns : tie.Need-returns invariant-loop decreases-loop
-returns c =
-    let t = c.before.before.before.before.before in
-    let x = t.before.before.before.args in
-    let e = sym c.before.before.before.before.check-track.ensures ∙ c.before.before.c.given.1 in
-    (sym (left t ∙ end_here _ _ _ _ _ e c.if1.true), track-within x.list.now x.d t.before.loop.here _ e)
-
-returns-2 : tie.Need-returns-2 invariant-loop decreases-loop
-returns-2 c = (sym (left c.before.before.before ∙ end_refused _ _ _ _ _ (sym c.before.before.check-track.ensures ∙ c.enum_told.given.1)), omega arith)
-
-loop-again : tie.Need-loop-preserved invariant-loop decreases-loop
-loop-again c =
-    let t = c.before.before.before.before.before in
-    let x = t.before.before.before.args in
-    let e = sym c.before.before.before.before.check-track.ensures ∙ c.before.before.c.given.1 in
-    record { turns = omega arith; within = track-within x.list.now x.d t.before.loop.here _ e; among = left t ∙ end_later _ _ _ _ _ e c.if1.false }
-
-returns-3 : tie.Need-returns-3 invariant-loop decreases-loop
 unfolding record_end
-returns-3 c =
-    let x = c.before.before.before.args in
-    let i = c.before.loop in
+returns c =
+    let x = c.args in
+    let i = c.loop in
     let e : x.n - i.counter ≡ 0 = omega (arith, c.loop-test.false) in
     (sym (i.invariant.among ∙ ap (record_end x.list.now x.d x.at i.here) e), omega arith)
 
-pub find-end-spec : {M : Type 1} → statement M
-find-end-spec =
+pub find_end_spec : {M : Type 1} → statement M
+find_end_spec =
     tie.close
-    (tie.spec invariant-loop decreases-loop loop-holds (λ c κs. omega arith) (λ c. search rules) returns (λ c. search rules) returns-2 (λ c. omega arith)
-    (λ c. omega arith) loop-again returns-3)
+    (tie.spec invariant-loop decreases-loop loop-init (λ c κs. omega arith) (λ c. search rules) returns-then-here-at (λ c. search rules) returns-in-Refused (λ c. omega arith)
+    (λ c. omega arith) loop-preserved returns)

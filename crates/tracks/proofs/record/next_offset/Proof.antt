@@ -10,12 +10,12 @@ use borrow.Author.Rules.{rules}
 use Rattle.tracks.proofs.record.next_offset.Statement.{statement}
 use Rattle.tracks.proofs.record.next_offset.Tie as tie
 
-add-result : tie.Need-overflow-add-result
-add-result c = let x = c.before.before.args in omega (arith, record_short x.list.now x.at, ap length c.record.ensures.0)
+overflow_add-result : tie.Need-overflow_add-result
+overflow_add-result c = let x = c.args in omega (arith, record_short x.list.now x.at, ap length c.record-part.ensures.0)
 
 returns : tie.Need-returns
 unfolding next_offset
-returns c = ap (λ (p : List ℕ). c.before.before.args.at + length p) c.record.ensures.0
+returns c = ap (λ (p : List ℕ). c.args.at + length p) c.record-part.ensures.0
 
-pub next-offset-spec : {M : Type 1} → statement M
-next-offset-spec = tie.close (tie.spec (λ c κs. search rules) add-result returns)
+pub next_offset_spec : {M : Type 1} → statement M
+next_offset_spec = tie.close (tie.spec (λ c κs. search rules) overflow_add-result returns)

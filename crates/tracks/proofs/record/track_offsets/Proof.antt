@@ -17,18 +17,18 @@ use Rattle.tracks.proofs.record.track_offsets.Statement.{statement}
 use Rattle.tracks.proofs.record.track_offsets.Tie as tie
 
 -- the places, each from a later one
-abbrev checked : tie.After-known-told → tie.After-check-offsets
-checked c = c.before.before.before.before
+abbrev checked : tie.In-Read → tie.After-check_offsets-c
+checked c = c.before.before
 
-abbrev start_of : tie.After-check-offsets → tie.Start
+abbrev start_of : tie.After-check_offsets-c → tie.Start
 start_of c = c.before.before.before.before
 
-abbrev list_of : tie.After-known-told → List ℕ
+abbrev list_of : tie.In-Read → List ℕ
 list_of c = (start_of (checked c)).args.list.now
 
 -- what the answer of `check_offsets` says of the list
-list_known : (c : tie.After-known-told) → Known (list_of c) c.before.c.given.0.0 c.before.c.given.0.1.0
-list_known c = known_list (list_of c) (checked c).check-offsets.ensures.0 c.before.c.given.1
+list_known : (c : tie.In-Read) → Known (list_of c) c.in-Read.count c.in-Read.dimension
+list_known c = known_list (list_of c) (checked c).check_offsets-c.ensures.0 c.in-Read.is
 
 -- what is answered, and what is left in the slice
 both : (c : tie.Start) (o : Outcome TrackList) {r : ReadList} {new : List ℕ} → let l = c.args.list.now in let old = c.args.offsets.now in
@@ -38,38 +38,38 @@ both c o {r} {new} e p q =
     let old = c.args.offsets.now in
     ap (λ (x : ReadList). (x, new)) p ∙ ap (λ (y : List ℕ). (read_answer o, y)) q ∙ ap (λ (z : Outcome TrackList). (read_answer z, offsets_left l z old)) (sym e)
 
-returns : tie.Need-returns
-returns c =
-    let t = c.before in
-    let a = list_known t in
-    both (start_of (checked t)) (refused 2) (placing_short _ _ a.accepted (omega (arith, a.count, c.if1.true))) refl refl
+returns-then-offsets-count : tie.Need-returns-then-offsets-count
+returns-then-offsets-count c =
+    let t = c in
+    let a = list_known c.before in
+    both (start_of (checked c.before)) (refused 2) (placing_short _ _ a.accepted (omega (arith, a.count, c.if-offsets-count.true))) refl refl
 
-add-copy-offsets : tie.Need-overflow-add-copy-offsets
-add-copy-offsets c = omega (arith, (list_known c.before.before).few)
+overflow_add-count : tie.Need-overflow_add-count
+overflow_add-count c = omega (arith, (list_known c.before.before).few)
 
-copy-offsets-requires : tie.Need-copy-offsets-requires
-copy-offsets-requires c κs =
-    let t = c.before.before.before in
-    let a = list_known t in
-    (omega (arith, a.few, offsets-long (list_of t) _ _ (checked t).check-offsets.ensures.1 a.accepted refl), omega (arith, c.before.before.if1.false))
+copy_offsets-requires : tie.Need-copy_offsets-requires
+copy_offsets-requires c κs =
+    let t = c in
+    let a = list_known c.before.before.before in
+    (omega (arith, a.few, offsets-long (list_of c.before.before.before) _ _ (checked c.before.before.before).check_offsets-c.ensures.1 a.accepted refl), omega (arith, c.if-offsets-count.false))
 
-returns-2 : tie.Need-returns-2
-returns-2 c =
-    let t = c.before.before.before.before.before.before in
-    let s = start_of (checked t) in
-    let a = list_known t in
-    let answer = sym t.before.c.given.1 ∙ (checked t).check-offsets.ensures.0 ∙ ap read_answer a.accepted in
-    both s (answered a.held) (placing-fits _ _ a.accepted (omega (arith, a.count, c.before.before.before.before.before.if1.false))) answer
-    (c.before.before.copy-offsets.ensures ∙ ap (over s.args.offsets.now 0) (known_front a _ _ (checked t).check-offsets.ensures.1))
+returns-else-offsets-count : tie.Need-returns-else-offsets-count
+returns-else-offsets-count c =
+    let t = c in
+    let s = start_of (checked c.before.before.before.before.before.before) in
+    let a = list_known c.before.before.before.before.before.before in
+    let answer = sym t.in-Read.is ∙ (checked c.before.before.before.before.before.before).check_offsets-c.ensures.0 ∙ ap read_answer a.accepted in
+    both s (answered a.held) (placing-fits _ _ a.accepted (omega (arith, a.count, c.if-offsets-count.false))) answer
+    (c.copy_offsets.ensures ∙ ap (over s.args.offsets.now 0) (known_front a _ _ (checked c.before.before.before.before.before.before).check_offsets-c.ensures.1))
 
-returns-3 : tie.Need-returns-3
-returns-3 c =
-    let k = c.before.before.before.before in
-    let s = start_of k in
-    both s (refused c.before.c2.given.0.0) (placing-refused _ _ (read_refused (contents s.args.list.now) (sym k.check-offsets.ensures.0 ∙ c.before.c2.given.1))) refl refl
+returns-in-Refused : tie.Need-returns-in-Refused
+returns-in-Refused c =
+    let k = c in
+    let s = start_of c.before.before in
+    both s (refused c.in-Refused.q) (placing-refused _ _ (read_refused (contents s.args.list.now) (sym k.check_offsets-c.ensures.0 ∙ c.in-Refused.is))) refl refl
 
-pub track-offsets-spec : {M : Type 1} → statement M
-track-offsets-spec =
+pub track_offsets_spec : {M : Type 1} → statement M
+track_offsets_spec =
     tie.close
-    (tie.spec (λ c. search rules) (λ c κs. search rules) (λ c. search rules) returns (λ c. search rules) add-copy-offsets copy-offsets-requires
-    (λ c. search rules) (λ c. search rules) returns-2 returns-3)
+    (tie.spec (λ c. search rules) (λ c κs. search rules) (λ c. search rules) returns-then-offsets-count (λ c. search rules) overflow_add-count copy_offsets-requires
+    (λ c. search rules) (λ c. search rules) returns-else-offsets-count returns-in-Refused)

@@ -30,24 +30,24 @@ module _ (l offsets : List ℕ) (i : ℕ) where
   unfolding track_record
   outside h = rw (lt-leb (get_or offsets (i + 1) 0) (length l) h) refl
 
+returns-then-offsets-i : tie.Need-returns-then-offsets-i
+returns-then-offsets-i c = (sym (unlisted _ _ _ (omega arith)), λ some. absurd (some refl))
+
+returns-then-offsets-i-2 : tie.Need-returns-then-offsets-i-2
+returns-then-offsets-i-2 c = (sym (unlisted _ _ _ (omega arith)), λ some. absurd (some refl))
+
+returns-then-list-end : tie.Need-returns-then-list-end
+returns-then-list-end c = (sym (outside _ _ _ c.if-list-end.true), λ some. absurd (some refl))
+
+returns-then-end-start : tie.Need-returns-then-end-start
+returns-then-end-start c = (sym (falling _ _ _ (omega (arith, c.if-end-start.true))), λ some. absurd (some refl))
+
 returns : tie.Need-returns
-returns c = (sym (unlisted _ _ _ (omega arith)), λ some. absurd (some refl))
-
-returns-2 : tie.Need-returns-2
-returns-2 c = (sym (unlisted _ _ _ (omega arith)), λ some. absurd (some refl))
-
-returns-3 : tie.Need-returns-3
-returns-3 c = (sym (outside _ _ _ c.before.if3.true), λ some. absurd (some refl))
-
-returns-4 : tie.Need-returns-4
-returns-4 c = (sym (falling _ _ _ (omega (arith, c.before.if4.true))), λ some. absurd (some refl))
-
-returns-5 : tie.Need-returns-5
 unfolding track_record
-returns-5 c = (rw (le-leb _ _ c.before.before.if3.false) refl, λ some. (refl, omega arith))
+returns c = (rw (le-leb _ _ c.if-list-end.false) refl, λ some. (refl, omega arith))
 
-pub track-record-spec : {M : Type 1} → statement M
-track-record-spec =
+pub track_record_spec : {M : Type 1} → statement M
+track_record_spec =
     tie.close
-    (tie.spec (λ c. search rules) returns (λ c. omega arith) (λ c. search rules) returns-2 (λ c. omega arith) (λ c. omega arith) (λ c. omega arith) (λ c. omega arith)
-    (λ c. omega arith) (λ c. search rules) returns-3 (λ c. search rules) returns-4 (λ c. search rules) (λ c. search rules) returns-5)
+    (tie.spec (λ c. search rules) returns-then-offsets-i (λ c. omega arith) (λ c. search rules) returns-then-offsets-i-2 (λ c. omega arith) (λ c. omega arith) (λ c. omega arith) (λ c. omega arith)
+    (λ c. omega arith) (λ c. search rules) returns-then-list-end (λ c. search rules) returns-then-end-start (λ c. search rules) (λ c. search rules) returns)

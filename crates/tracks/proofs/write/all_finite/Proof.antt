@@ -14,38 +14,38 @@ use Rattle.tracks.proofs.Numbers.Values.{length-patterns, all_more, all_not}
 use Rattle.tracks.proofs.write.all_finite.Statement.{statement}
 use Rattle.tracks.proofs.write.all_finite.Tie as tie
 
-abbrev invariant-loop : tie.invariant-loop
-invariant-loop v i₀ i-end i = (i ≤ length (patterns v)) × (all_finite (take i (patterns v)) ≡ true)
+abbrev invariant-loop-i : tie.invariant-loop-i
+invariant-loop-i v i₀ i-end i = (i ≤ length (patterns v)) × (all_finite (take i (patterns v)) ≡ true)
 
-abbrev decreases-loop : tie.decreases-loop
-decreases-loop v i₀ i-end i = length v - i
+abbrev decreases-loop-i : tie.decreases-loop-i
+decreases-loop-i v i₀ i-end i = length v - i
 
-loop-holds : tie.Need-loop-init invariant-loop decreases-loop
+loop-i-init : tie.Need-loop-i-init invariant-loop-i decreases-loop-i
 unfolding all_finite
-loop-holds c = (omega arith, refl)
+loop-i-init c = (omega arith, refl)
 
-returns : tie.Need-returns invariant-loop decreases-loop
-returns c =
-    let v = c.before.before.before.before.before.before.args.v.now in
-    let i = c.before.before.before.before.loop in
-    sym (all_not (patterns v) i.i (omega (arith, length-patterns v)) (ap finite_bits (sym c.before.before.bits_at.ensures) ∙ sym c.before.finite.ensures ∙ not-true _ c.if1.true))
+returns-then-not-finite : tie.Need-returns-then-not-finite invariant-loop-i decreases-loop-i
+returns-then-not-finite c =
+    let v = c.args.v.now in
+    let i = c.loop-i in
+    sym (all_not (patterns v) i.i (omega (arith, length-patterns v)) (ap finite_bits (sym c.bits_at.ensures) ∙ sym c.finite.ensures ∙ c.if-not-finite.true))
 
-loop-again : tie.Need-loop-preserved invariant-loop decreases-loop
-loop-again c =
-    let v = c.before.before.before.before.before.before.args.v.now in
-    let i = c.before.before.before.before.loop in (
+loop-i-preserved : tie.Need-loop-i-preserved invariant-loop-i decreases-loop-i
+loop-i-preserved c =
+    let v = c.args.v.now in
+    let i = c.loop-i in (
       omega (arith, length-patterns v),
       ap all_finite (take_more (patterns v) i.i (omega (arith, length-patterns v)))
-          ∙ all_more (take i.i (patterns v)) _ i.invariant.1 (ap finite_bits (sym c.before.before.bits_at.ensures) ∙ sym c.before.finite.ensures ∙ not-false _ c.if1.false),
+          ∙ all_more (take i.i (patterns v)) _ i.invariant.1 (ap finite_bits (sym c.bits_at.ensures) ∙ sym c.finite.ensures ∙ c.if-not-finite.false),
     )
 
-returns-2 : tie.Need-returns-2 invariant-loop decreases-loop
-returns-2 c =
-    let v = c.before.before.before.args.v.now in
-    let i = c.before.loop in
-    sym i.invariant.1 ∙ ap all_finite (take_all i.i (patterns v) (omega (arith, c.loop-test.false, length-patterns v)))
+returns : tie.Need-returns invariant-loop-i decreases-loop-i
+returns c =
+    let v = c.args.v.now in
+    let i = c.loop-i in
+    sym i.invariant.1 ∙ ap all_finite (take_all i.i (patterns v) (omega (arith, c.loop-i-test.false, length-patterns v)))
 
-pub all-finite-spec : {M : Type 1} → statement M
-all-finite-spec =
+pub all_finite_spec : {M : Type 1} → statement M
+all_finite_spec =
     tie.close
-    (tie.spec invariant-loop decreases-loop loop-holds (λ c κs. omega arith) (λ c κs. tt) returns (λ c. omega arith) (λ c. omega arith) loop-again returns-2)
+    (tie.spec invariant-loop-i decreases-loop-i loop-i-init (λ c κs. omega arith) (λ c κs. tt) returns-then-not-finite (λ c. omega arith) (λ c. omega arith) loop-i-preserved returns)

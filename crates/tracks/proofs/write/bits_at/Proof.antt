@@ -8,15 +8,15 @@ use borrow.Author.Rules.{rules}
 use Rattle.tracks.proofs.write.bits_at.Statement.{statement}
 use Rattle.tracks.proofs.write.bits_at.Tie as tie
 
+returns-then-x : tie.Need-returns-then-x
+returns-then-x c = let x = c.args in sym (pattern-at x.v.now x.i c.requires ∙ nan_bits (get_or x.v.now x.i nan) c.if-x.true)
+
+float_to_bits-result : tie.Need-float_to_bits-result
+float_to_bits-result c = equals_itself _ c.if-x.false
+
 returns : tie.Need-returns
-returns c = let x = c.before.before.args in sym (pattern-at x.v.now x.i c.before.before.requires ∙ nan_bits (get_or x.v.now x.i nan) c.if1.true)
+returns c = let x = c.args in sym (pattern-at x.v.now x.i c.requires)
 
-float-to-bits-result : tie.Need-float-to-bits-result
-float-to-bits-result c = equals_itself _ c.if1.false
-
-returns-2 : tie.Need-returns-2
-returns-2 c = let x = c.before.before.args in sym (pattern-at x.v.now x.i c.before.before.requires)
-
-pub bits-at-spec : {M : Type 1} → statement M
-bits-at-spec =
-    tie.close (tie.spec (λ c. search rules) (λ c. search rules) returns float-to-bits-result returns-2)
+pub bits_at_spec : {M : Type 1} → statement M
+bits_at_spec =
+    tie.close (tie.spec (λ c. search rules) (λ c. search rules) returns-then-x float_to_bits-result returns)

@@ -7,11 +7,11 @@ use Rattle.kernel.proofs.Words.{length-bytes}
 use Rattle.tracks.proofs.write.field_length.Statement.{statement}
 use Rattle.tracks.proofs.write.field_length.Tie as tie
 
+returns-then-x-eq0 : tie.Need-returns-then-x-eq0
+returns-then-x-eq0 c = (sym (ap length (field-none c.args.x c.if-x-eq0.true)), omega arith)
+
 returns : tie.Need-returns
-returns c = (sym (ap length (field-none c.before.args.x c.if1.true)), omega arith)
+returns c = let x = c.args.x in (sym (ap length (field-some x c.if-x-eq0.false) ∙ length-bytes 8 x), omega arith)
 
-returns-2 : tie.Need-returns-2
-returns-2 c = let x = c.before.args.x in (sym (ap length (field-some x c.if1.false) ∙ length-bytes 8 x), omega arith)
-
-pub field-length-spec : {M : Type 1} → statement M
-field-length-spec = tie.close (tie.spec returns returns-2)
+pub field_length_spec : {M : Type 1} → statement M
+field_length_spec = tie.close (tie.spec returns-then-x-eq0 returns)

@@ -9,11 +9,11 @@ use borrow.Author.Rules.{rules}
 use Rattle.tracks.proofs.write.is_stored.Statement.{statement}
 use Rattle.tracks.proofs.write.is_stored.Tie as tie
 
+returns-then-k-v : tie.Need-returns-then-k-v
+returns-then-k-v c = ap nonzero c.bits_at.ensures
+
 returns : tie.Need-returns
-returns c = ap nonzero c.bits_at.ensures
+returns c = let x = c.args in sym (ap nonzero (get_or-eq_default (patterns x.v.now) 0 (omega (arith, length-patterns x.v.now))))
 
-returns-2 : tie.Need-returns-2
-returns-2 c = let x = c.before.before.args in sym (ap nonzero (get_or-eq_default (patterns x.v.now) 0 (omega (arith, length-patterns x.v.now))))
-
-pub is-stored-spec : {M : Type 1} → statement M
-is-stored-spec = tie.close (tie.spec (λ c κs. search rules) returns returns-2)
+pub is_stored_spec : {M : Type 1} → statement M
+is_stored_spec = tie.close (tie.spec (λ c κs. search rules) returns-then-k-v returns)

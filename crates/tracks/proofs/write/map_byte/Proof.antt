@@ -25,29 +25,29 @@ record Packing (v : List ℕ) (b byte weight i : ℕ) : Type 0 where
   pub weighs : weight ≡ 2 ^ i
   pub bits : byte ≡ packed (test v b) i
 
-abbrev invariant-loop : tie.invariant-loop
-invariant-loop v b byte₀ weight₀ i₀ byte weight i = Packing (patterns v) b byte weight i
+abbrev invariant-loop-i : tie.invariant-loop-i
+invariant-loop-i v b byte₀ weight₀ i₀ byte weight i = Packing (patterns v) b byte weight i
 
-abbrev decreases-loop : tie.decreases-loop
-decreases-loop v b byte₀ weight₀ i₀ byte weight i = 8 - i
+abbrev decreases-loop-i : tie.decreases-loop-i
+decreases-loop-i v b byte₀ weight₀ i₀ byte weight i = 8 - i
 
-loop-holds : tie.Need-loop-init invariant-loop decreases-loop
+loop-i-init : tie.Need-loop-i-init invariant-loop-i decreases-loop-i
 unfolding packed
-loop-holds c = record { turns = omega arith; weighs = refl; bits = refl }
+loop-i-init c = record { turns = omega arith; weighs = refl; bits = refl }
 
 -- the byte and the weight are small
-small : (c : tie.At-loop invariant-loop decreases-loop) → (c.loop.byte < 2 ^ c.loop.i) × (2 ^ c.loop.i ≤ 256)
+small : (c : tie.At-loop-i invariant-loop-i decreases-loop-i) → (c.loop-i.byte < 2 ^ c.loop-i.i) × (2 ^ c.loop-i.i ≤ 256)
 small c =
-    let x = c.before.before.args in
-    let i = c.loop in
+    let x = c.args in
+    let i = c.loop-i in
     (rw i.invariant.bits (packed_lt (test (patterns x.v.now) x.b) i.i), pow_mono i.invariant.turns)
 
-loop-again : tie.Need-loop-preserved invariant-loop decreases-loop
-loop-again c =
-    let x = c.before.before.before.before.before.args in
-    let i = c.before.before.before.loop in
+loop-i-preserved : tie.Need-loop-i-preserved invariant-loop-i decreases-loop-i
+loop-i-preserved c =
+    let x = c.args in
+    let i = c.loop-i in
     let t = test (patterns x.v.now) x.b in
-    let s = sym c.before.is-stored.ensures in
+    let s = sym c.is_stored.ensures in
     record {
       turns = omega arith;
       weighs = omega (arith, i.invariant.weighs, ap (λ (n : ℕ). 2 ^ n) (add-one i.i), pow-suc 2 i.i);
@@ -55,18 +55,18 @@ loop-again c =
           ⊎_elim
           (λ w. omega (arith, w.1, i.invariant, packed_more t i.i {b = true} (s ∙ w.0.taken)))
           (λ w. omega (arith, w.1, i.invariant, packed_more t i.i {b = false} (s ∙ w.0.left)))
-          c.if1.branch;
+          c.if-is_stored.branch;
     }
 
-returns : tie.Need-returns invariant-loop decreases-loop
+returns : tie.Need-returns invariant-loop-i decreases-loop-i
 unfolding map_byte
 returns c =
-    let x = c.before.before.before.args in
-    let i = c.before.loop in
-    at_end_lem (packed (test (patterns x.v.now) x.b)) i.invariant.turns c.loop-test.false i.invariant.bits
+    let x = c.args in
+    let i = c.loop-i in
+    at_end_lem (packed (test (patterns x.v.now) x.b)) i.invariant.turns c.loop-i-test.false i.invariant.bits
 
-pub map-byte-spec : {M : Type 1} → statement M
-map-byte-spec =
+pub map_byte_spec : {M : Type 1} → statement M
+map_byte_spec =
     tie.close
-    (tie.spec invariant-loop decreases-loop loop-holds (λ c. omega arith) (λ c. omega arith) (λ c κs. tt) (λ c. omega (arith, small c.before.before.before))
-    (λ c. omega (arith, small c.before.before.before)) (λ c. omega arith) (λ c. omega arith) loop-again (λ c. omega (arith, small c.before)) returns)
+    (tie.spec invariant-loop-i decreases-loop-i loop-i-init (λ c. omega arith) (λ c. omega arith) (λ c κs. tt) (λ c. omega (arith, small c.before.before.before))
+    (λ c. omega (arith, small c.before.before.before)) (λ c. omega arith) (λ c. omega arith) loop-i-preserved (λ c. omega (arith, small c.before)) returns)

@@ -19,39 +19,39 @@ record Counted (v : List Float) (i n : ℕ) : Type 0 where
   pub few : n ≤ 8 * i
   pub count : n ≡ length (stored_bytes (take i (patterns v)))
 
-abbrev invariant-loop : tie.invariant-loop
-invariant-loop v n₀ i₀ i-end n i = Counted v i n
+abbrev invariant-loop-i : tie.invariant-loop-i
+invariant-loop-i v n₀ i₀ i-end n i = Counted v i n
 
-abbrev decreases-loop : tie.decreases-loop
-decreases-loop v n₀ i₀ i-end n i = length v - i
+abbrev decreases-loop-i : tie.decreases-loop-i
+decreases-loop-i v n₀ i₀ i-end n i = length v - i
 
-loop-holds : tie.Need-loop-init invariant-loop decreases-loop
+loop-i-init : tie.Need-loop-i-init invariant-loop-i decreases-loop-i
 unfolding stored_bytes flat_map
-loop-holds c = record { turns = omega arith; few = omega arith; count = refl }
+loop-i-init c = record { turns = omega arith; few = omega arith; count = refl }
 
-add-n : tie.Need-overflow-add-n invariant-loop decreases-loop
-add-n c = omega (arith, c.field-length.ensures.1)
+overflow_add-n : tie.Need-overflow_add-n invariant-loop-i decreases-loop-i
+overflow_add-n c = omega (arith, c.field_length-n.ensures.1)
 
-loop-again : tie.Need-loop-preserved invariant-loop decreases-loop
-loop-again c =
-    let v = c.before.before.before.before.before.args.v.now in
+loop-i-preserved : tie.Need-loop-i-preserved invariant-loop-i decreases-loop-i
+loop-i-preserved c =
+    let v = c.args.v.now in
     let p = patterns v in
-    let i = c.before.before.before.loop in
-    let e = c.field-length.ensures.0 ∙ ap (λ (b : ℕ). length (field_bytes b)) c.before.bits_at.ensures in
+    let i = c.loop-i in
+    let e = c.field_length-n.ensures.0 ∙ ap (λ (b : ℕ). length (field_bytes b)) c.bits_at.ensures in
     let more = stored_more p i.i (omega (arith, length-patterns v)) in
     record {
       turns = omega arith;
-      few = omega (arith, c.field-length.ensures.1);
+      few = omega (arith, c.field_length-n.ensures.1);
       count = omega (arith, e, i.invariant.count, ap length more, length-append (stored_bytes (take i.i p)) (field_bytes (get_or p i.i 0)));
     }
 
-returns : tie.Need-returns invariant-loop decreases-loop
+returns : tie.Need-returns invariant-loop-i decreases-loop-i
 returns c =
-    let i = c.before.loop in
-    let v = c.before.before.before.args.v.now in
-    (i.invariant.count ∙ ap (λ (u : List ℕ). length (stored_bytes u)) (take_all i.i (patterns v) (omega (arith, c.loop-test.false, length-patterns v))), omega (arith, i.invariant))
+    let i = c.loop-i in
+    let v = c.args.v.now in
+    (i.invariant.count ∙ ap (λ (u : List ℕ). length (stored_bytes u)) (take_all i.i (patterns v) (omega (arith, c.loop-i-test.false, length-patterns v))), omega (arith, i.invariant))
 
-pub stored-length-spec : {M : Type 1} → statement M
-stored-length-spec =
+pub stored_length_spec : {M : Type 1} → statement M
+stored_length_spec =
     tie.close
-    (tie.spec invariant-loop decreases-loop loop-holds (λ c κs. omega arith) (λ c κs. tt) add-n (λ c. omega arith) (λ c. omega arith) loop-again returns)
+    (tie.spec invariant-loop-i decreases-loop-i loop-i-init (λ c κs. omega arith) (λ c κs. tt) overflow_add-n (λ c. omega arith) (λ c. omega arith) loop-i-preserved returns)

@@ -10,23 +10,23 @@ use borrow.Author.Rules.{rules}
 use Rattle.tracks.proofs.write.write_field.Statement.{statement}
 use Rattle.tracks.proofs.write.write_field.Tie as tie
 
-returns : tie.Need-returns
-returns c =
-    let x = c.before.before.args in
-    let e = field-none x.x c.if1.true in
+returns-then-x-eq0 : tie.Need-returns-then-x-eq0
+returns-then-x-eq0 c =
+    let x = c.args in
+    let e = field-none x.x c.if-x-eq0.true in
     (omega (arith, ap length e), sym (ap (over x.out.now x.at) e ∙ over_none x.out.now x.at))
 
-write-word-requires : tie.Need-write-word-requires
-write-word-requires c κs =
-    let x = c.before.before.before.args in
-    omega (arith, ap length (field-some x.x c.before.if1.false), length-bytes 8 x.x)
+write_word-requires : tie.Need-write_word-requires
+write_word-requires c κs =
+    let x = c.args in
+    omega (arith, ap length (field-some x.x c.if-x-eq0.false), length-bytes 8 x.x)
 
-returns-2 : tie.Need-returns-2
-returns-2 c =
-    let x = c.before.before.before.before.before.before.args in
-    let e = field-some x.x c.before.before.before.before.if1.false in
-    (omega (arith, ap length e, length-bytes 8 x.x), c.before.before.write_word.ensures ∙ sym (ap (over x.out.now x.at) e))
+returns : tie.Need-returns
+returns c =
+    let x = c.args in
+    let e = field-some x.x c.if-x-eq0.false in
+    (omega (arith, ap length e, length-bytes 8 x.x), c.write_word.ensures ∙ sym (ap (over x.out.now x.at) e))
 
-pub write-field-spec : {M : Type 1} → statement M
-write-field-spec =
-    tie.close (tie.spec returns write-word-requires (λ c. search rules) (λ c. search rules) returns-2)
+pub write_field_spec : {M : Type 1} → statement M
+write_field_spec =
+    tie.close (tie.spec returns-then-x-eq0 write_word-requires (λ c. search rules) (λ c. search rules) returns)

@@ -13,53 +13,53 @@ use Rattle.tracks.proofs.Numbers.Values.{length-patterns}
 use Rattle.tracks.proofs.write.write_fields.Statement.{statement}
 use Rattle.tracks.proofs.write.write_fields.Tie as tie
 
-abbrev invariant-loop : tie.invariant-loop
-invariant-loop v out₀ start at₀ k₀ k-end out at k = Laying out₀ start (λ j. stored_bytes (take j (patterns v))) (length v) k at out
+abbrev invariant-loop-k : tie.invariant-loop-k
+invariant-loop-k v out₀ start at₀ k₀ k-end out at k = Laying out₀ start (λ j. stored_bytes (take j (patterns v))) (length v) k at out
 
-abbrev decreases-loop : tie.decreases-loop
-decreases-loop v out₀ start at₀ k₀ k-end out at k = length v - k
+abbrev decreases-loop-k : tie.decreases-loop-k
+decreases-loop-k v out₀ start at₀ k₀ k-end out at k = length v - k
 
-loop-holds : tie.Need-loop-init invariant-loop decreases-loop
+loop-k-init : tie.Need-loop-k-init invariant-loop-k decreases-loop-k
 unfolding stored_bytes flat_map
-loop-holds c = record { turns = omega arith; laid = laid_none }
+loop-k-init c = record { turns = omega arith; laid = laid_none }
 
 -- from the bits of a field to the start of the turn and of the call
-abbrev turn : tie.After-bits-at invariant-loop decreases-loop → tie.At-loop invariant-loop decreases-loop
+abbrev turn : tie.After-bits_at invariant-loop-k decreases-loop-k → tie.At-loop-k invariant-loop-k decreases-loop-k
 turn c = c.before.before
 
-abbrev start_of : tie.After-bits-at invariant-loop decreases-loop → tie.Start invariant-loop decreases-loop
+abbrev start_of : tie.After-bits_at invariant-loop-k decreases-loop-k → tie.Start invariant-loop-k decreases-loop-k
 start_of c = (turn c).before.before.before
 
-abbrev bits_of : tie.After-bits-at invariant-loop decreases-loop → List ℕ
+abbrev bits_of : tie.After-bits_at invariant-loop-k decreases-loop-k → List ℕ
 bits_of c = patterns (start_of c).args.v.now
 
 -- the bytes so far and the next field's, and that they fit
-next : (c : tie.After-bits-at invariant-loop decreases-loop) → let k = (turn c).loop.k in stored_bytes (take (k + 1) (bits_of c)) ≡ stored_bytes (take k (bits_of c)) ++ field_bytes c.bits_at.result
+next : (c : tie.After-bits_at invariant-loop-k decreases-loop-k) → let k = (turn c).loop-k.k in stored_bytes (take (k + 1) (bits_of c)) ≡ stored_bytes (take k (bits_of c)) ++ field_bytes c.bits_at.result
 next c =
-    let k = (turn c).loop.k in
+    let k = (turn c).loop-k.k in
     stored_more (bits_of c) k (omega (arith, length-patterns (start_of c).args.v.now)) ∙ ap (λ (b : ℕ). stored_bytes (take k (bits_of c)) ++ field_bytes b) (sym c.bits_at.ensures)
 
-fits : (c : tie.After-bits-at invariant-loop decreases-loop) → let x = (start_of c).args in x.start + length (stored_bytes (take ((turn c).loop.k + 1) (bits_of c))) ≤ length x.out.now
-fits c = omega (arith, (start_of c).requires, stored-part (bits_of c) ((turn c).loop.k + 1))
+fits : (c : tie.After-bits_at invariant-loop-k decreases-loop-k) → let x = (start_of c).args in x.start + length (stored_bytes (take ((turn c).loop-k.k + 1) (bits_of c))) ≤ length x.out.now
+fits c = omega (arith, (start_of c).requires, stored-part (bits_of c) ((turn c).loop-k.k + 1))
 
-write-field-requires : tie.Need-write-field-requires invariant-loop decreases-loop
-write-field-requires c κs = let t = c.before in laid_room (turn t).loop.invariant.laid _ (next t) (fits t)
+write_field-at-requires : tie.Need-write_field-at-requires invariant-loop-k decreases-loop-k
+write_field-at-requires c κs = let t = c in laid_room (turn c.before).loop-k.invariant.laid _ (next c.before) (fits c.before)
 
-loop-again : tie.Need-loop-preserved invariant-loop decreases-loop
-loop-again c =
-    let t = c.before.before.before.before in
-    let w = c.before.before.write-field.ensures in
-    record { turns = omega arith; laid = laid_more (turn t).loop.invariant.laid _ (next t) (fits t) w.0 w.1 }
+loop-k-preserved : tie.Need-loop-k-preserved invariant-loop-k decreases-loop-k
+loop-k-preserved c =
+    let t = c in
+    let w = c.write_field-at.ensures in
+    record { turns = omega arith; laid = laid_more (turn c.before.before.before.before).loop-k.invariant.laid _ (next c.before.before.before.before) (fits c.before.before.before.before) w.0 w.1 }
 
-same_length : tie.Need-same-length invariant-loop decreases-loop
-same_length c = c.before.loop.invariant.laid.size
+shape_of-out : tie.Need-shape_of-out invariant-loop-k decreases-loop-k
+shape_of-out c = c.loop-k.invariant.laid.size
 
-returns : tie.Need-returns invariant-loop decreases-loop
+returns : tie.Need-returns invariant-loop-k decreases-loop-k
 returns c =
-    let v = c.before.before.before.before.args.v.now in
-    rw (sym (take_all (length v) (patterns v) (omega (arith, length-patterns v)))) (laying_all c.before.loop.invariant c.loop-test.false)
+    let v = c.args.v.now in
+    rw (sym (take_all (length v) (patterns v) (omega (arith, length-patterns v)))) (laying_all c.loop-k.invariant c.loop-k-test.false)
 
-pub write-fields-spec : {M : Type 1} → statement M
-write-fields-spec =
+pub write_fields_spec : {M : Type 1} → statement M
+write_fields_spec =
     tie.close
-    (tie.spec invariant-loop decreases-loop loop-holds (λ c κs. omega arith) write-field-requires (λ c. omega arith) (λ c. omega arith) loop-again same_length returns)
+    (tie.spec invariant-loop-k decreases-loop-k loop-k-init (λ c κs. omega arith) write_field-at-requires (λ c. omega arith) (λ c. omega arith) loop-k-preserved shape_of-out returns)

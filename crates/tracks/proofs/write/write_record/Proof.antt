@@ -12,35 +12,35 @@ use Rattle.tracks.proofs.write.write_record.Statement.{statement}
 use Rattle.tracks.proofs.write.write_record.Tie as tie
 
 -- where the call began, from the call that writes the map
-abbrev start_of : tie.After-write-map → tie.Start
+abbrev start_of : tie.After-write_map-next → tie.Start
 start_of c = c.before.before.before.before
 
-abbrev track_of_lem : tie.After-write-map → Track
+abbrev track_of_lem : tie.After-write_map-next → Track
 track_of_lem c = track_of_doubles (start_of c).args.v.now
 
 -- the map is written
-mapped : (c : tie.After-write-map) → let x = (start_of c).args in Laid x.out.now x.at (map_of x.d (track_of_lem c)) c.write-map.result c.write-map.new.1.1.0
+mapped : (c : tie.After-write_map-next) → let x = (start_of c).args in Laid x.out.now x.at (map_of x.d (track_of_lem c)) c.write_map-next.result c.write_map-next.new.out
 unfolding record_of
 mapped c =
     let t = track_of_lem c in
     let d = (start_of c).args.d in
-    laid_more laid_none (map_of d t) refl (omega (arith, (start_of c).requires.1, length-append (map_of d t) (stored_bytes t.values))) c.write-map.ensures.0 c.write-map.ensures.1
+    laid_more laid_none (map_of d t) refl (omega (arith, (start_of c).requires.1, length-append (map_of d t) (stored_bytes t.values))) c.write_map-next.ensures.0 c.write_map-next.ensures.1
 
-write-map-requires : tie.Need-write-map-requires
-write-map-requires c κs = let s = c.before.before.before in (s.requires.0, omega (arith, s.requires.1, record-length s.args.d (track_of_doubles s.args.v.now)))
+write_map-next-requires : tie.Need-write_map-next-requires
+write_map-next-requires c κs = let s = c in (s.requires.0, omega (arith, s.requires.1, record-length s.args.d (track_of_doubles s.args.v.now)))
 
-write-fields-requires : tie.Need-write-fields-requires
+write_fields-requires : tie.Need-write_fields-requires
 unfolding record_of
-write-fields-requires c κs = let m = c.before.before.before in laid_room (mapped m) (stored_bytes (track_of_lem m).values) refl (start_of m).requires.1
+write_fields-requires c κs = let m = c in laid_room (mapped c.before.before.before) (stored_bytes (track_of_lem c.before.before.before).values) refl (start_of c.before.before.before).requires.1
 
 returns : tie.Need-returns
 unfolding record_of
 returns c =
-    let written = c.before.before in
-    let m = written.before.before.before.before in
-    let w = written.write-fields.ensures in
-    laid_all (laid_more (mapped m) (stored_bytes (track_of_lem m).values) refl (start_of m).requires.1 w.0 w.1) refl
+    let written = c in
+    let m = written in
+    let w = written.write_fields.ensures in
+    laid_all (laid_more (mapped c.before.before.before.before.before.before) (stored_bytes (track_of_lem c.before.before.before.before.before.before).values) refl (start_of c.before.before.before.before.before.before).requires.1 w.0 w.1) refl
 
-pub write-record-spec : {M : Type 1} → statement M
-write-record-spec =
-    tie.close (tie.spec write-map-requires write-fields-requires (λ c. search rules) returns)
+pub write_record_spec : {M : Type 1} → statement M
+write_record_spec =
+    tie.close (tie.spec write_map-next-requires write_fields-requires (λ c. search rules) returns)

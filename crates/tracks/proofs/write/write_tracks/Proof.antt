@@ -26,12 +26,12 @@ invariant-loop v d n out₀ f at₀ i₀ j₀ out at i j = (i ≡ j * fields d) 
 abbrev decreases-loop : tie.decreases-loop
 decreases-loop v d n out₀ f at₀ i₀ j₀ out at i j = n - j
 
-loop-holds : tie.Need-loop-init invariant-loop decreases-loop
+loop-init : tie.Need-loop-init invariant-loop decreases-loop
 unfolding records_of tracks_of tabulate flat_map
-loop-holds c = (sym (zero-mul _), record { turns = omega arith; laid = laid_none })
+loop-init c = (sym (zero-mul _), record { turns = omega arith; laid = laid_none })
 
 -- from a turn to the number of fields, and to the start of the call
-abbrev sized : tie.In-loop invariant-loop decreases-loop → tie.After-fields invariant-loop decreases-loop
+abbrev sized : tie.In-loop invariant-loop decreases-loop → tie.After-fields-f invariant-loop decreases-loop
 sized c = c.before.before
 
 abbrev start_of : tie.In-loop invariant-loop decreases-loop → tie.Start invariant-loop decreases-loop
@@ -41,55 +41,55 @@ abbrev bits_of : tie.In-loop invariant-loop decreases-loop → List ℕ
 bits_of c = patterns (start_of c).args.v.now
 
 -- the values of the turn's track are among those of all
-inside : (c : tie.In-loop invariant-loop decreases-loop) → let x = (start_of c).args in c.before.loop.i + (sized c).fields.result ≤ length x.v.now
+inside : (c : tie.In-loop invariant-loop decreases-loop) → let x = (start_of c).args in c.loop.i + (sized c).fields-f.result ≤ length x.v.now
 inside c =
     let x = (start_of c).args in
-    omega (arith, row_within x.n (fields x.d) {i = c.before.loop.counter} c.loop-test.true, (sized c).fields.ensures.0, (start_of c).requires.long)
+    omega (arith, row_within x.n (fields x.d) {i = c.loop.counter} c.loop-test.true, (sized c).fields-f.ensures.0, (start_of c).requires.long)
 
 -- the turn's values, the records with the turn's, and that they fit
 part : (c : tie.In-loop invariant-loop decreases-loop) → List Float
-part c = let x = (start_of c).args in let i = c.before.loop.i in take (i + (sized c).fields.result - i) (drop i x.v.now)
+part c = let x = (start_of c).args in let i = c.loop.i in take (i + (sized c).fields-f.result - i) (drop i x.v.now)
 
-next : (c : tie.In-loop invariant-loop decreases-loop) → let d = (start_of c).args.d in let j = c.before.loop.counter in
+next : (c : tie.In-loop invariant-loop decreases-loop) → let d = (start_of c).args.d in let j = c.loop.counter in
     records_of d (tracks_of (j + 1) (fields d) (bits_of c)) ≡ records_of d (tracks_of j (fields d) (bits_of c)) ++ record_of d (track_of_doubles (part c))
 unfolding part
 next c =
     let x = (start_of c).args in
-    let l = c.before.loop in
-    let f = (sized c).fields in
+    let l = c.loop in
+    let f = (sized c).fields-f in
     let u : patterns (part c) ≡ take (fields x.d) (drop (l.counter * fields x.d) (bits_of c)) =
     ap (λ (k : ℕ). patterns (take k (drop l.i x.v.now))) (add-sub_cancel_left l.i f.result ∙ f.ensures.0) ∙ patterns-part x.v.now l.i (fields x.d)
     ∙ ap (λ (k : ℕ). take (fields x.d) (drop k (bits_of c))) l.invariant.0 in
     records_more x.d l.counter (fields x.d) (bits_of c)
     ∙ ap (λ (b : List ℕ). records_of x.d (tracks_of l.counter (fields x.d) (bits_of c)) ++ record_of x.d (track_of b)) (sym u)
 
-fits : (c : tie.In-loop invariant-loop decreases-loop) → let x = (start_of c).args in 2 + length (records_of x.d (tracks_of (c.before.loop.counter + 1) (fields x.d) (bits_of c))) ≤ length x.out.now
-fits c = let x = (start_of c).args in omega (arith, (start_of c).requires.room, records_part x.d (c.before.loop.counter + 1) x.n (fields x.d) (bits_of c) (omega arith))
+fits : (c : tie.In-loop invariant-loop decreases-loop) → let x = (start_of c).args in 2 + length (records_of x.d (tracks_of (c.loop.counter + 1) (fields x.d) (bits_of c))) ≤ length x.out.now
+fits c = let x = (start_of c).args in omega (arith, (start_of c).requires.room, records_part x.d (c.loop.counter + 1) x.n (fields x.d) (bits_of c) (omega arith))
 
-write-record-requires : tie.Need-write-record-requires invariant-loop decreases-loop
+write_record-at-requires : tie.Need-write_record-at-requires invariant-loop decreases-loop
 unfolding part
-write-record-requires c κs =
-    let t = c.before.before in
-    ((start_of t).requires.small, laid_room t.before.loop.invariant.1.laid _ (next t) (fits t))
+write_record-at-requires c κs =
+    let t = c in
+    ((start_of c.before.before).requires.small, laid_room t.loop.invariant.1.laid _ (next c.before.before) (fits c.before.before))
 
-loop-again : tie.Need-loop-preserved invariant-loop decreases-loop
+loop-preserved : tie.Need-loop-preserved invariant-loop decreases-loop
 unfolding part
-loop-again c =
-    let t = c.before.before.before.before.before in
-    let l = t.before.loop in
-    let w = c.before.before.write-record.ensures in (
-      omega (arith, row_next (fields (start_of t).args.d) l.counter, (sized t).fields.ensures.0),
-      record { turns = omega arith; laid = laid_more l.invariant.1.laid _ (next t) (fits t) w.0 w.1 },
+loop-preserved c =
+    let t = c in
+    let l = t.loop in
+    let w = c.write_record-at.ensures in (
+      omega (arith, row_next (fields (start_of c.before.before.before.before.before).args.d) l.counter, (sized c.before.before.before.before.before).fields-f.ensures.0),
+      record { turns = omega arith; laid = laid_more l.invariant.1.laid _ (next c.before.before.before.before.before) (fits c.before.before.before.before.before) w.0 w.1 },
     )
 
-same_length : tie.Need-same-length invariant-loop decreases-loop
-same_length c = c.before.loop.invariant.1.laid.size
+shape_of-out : tie.Need-shape_of-out invariant-loop decreases-loop
+shape_of-out c = c.loop.invariant.1.laid.size
 
 returns : tie.Need-returns invariant-loop decreases-loop
-returns c = laying_all c.before.loop.invariant.1 c.loop-test.false
+returns c = laying_all c.loop.invariant.1 c.loop-test.false
 
-pub write-tracks-spec : {M : Type 1} → statement M
-write-tracks-spec =
+pub write_tracks_spec : {M : Type 1} → statement M
+write_tracks_spec =
     tie.close
-    (tie.spec invariant-loop decreases-loop (λ c κs. c.before.before.requires.small) loop-holds (λ c. omega (arith, inside c)) (λ c. omega (arith, inside c))
-    (λ c. omega (arith, inside c)) (λ c. omega (arith, inside c)) (λ c. omega (arith, inside c)) write-record-requires (λ c. omega arith) (λ c. omega arith) loop-again same_length returns)
+    (tie.spec invariant-loop decreases-loop (λ c κs. c.requires.small) loop-init (λ c. omega (arith, inside c)) (λ c. omega (arith, inside c))
+    (λ c. omega (arith, inside c)) (λ c. omega (arith, inside c)) (λ c. omega (arith, inside c)) write_record-at-requires (λ c. omega arith) (λ c. omega arith) loop-preserved shape_of-out returns)

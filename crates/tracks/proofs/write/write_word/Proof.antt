@@ -12,8 +12,8 @@ use Rattle.tracks.proofs.write.write_word.Tie as tie
 returns : tie.Need-returns
 returns c = let x = c.args in stores x.out.now x.at _ _ _ _ _ _ _ _ c.requires ∙ sym (ap (over x.out.now x.at) (bytes_8 x.x))
 
-pub write-word-spec : {M : Type 1} → statement M
-write-word-spec =
+pub write_word_spec : {M : Type 1} → statement M
+write_word_spec =
     tie.close
     (tie.spec (λ c. search rules) (λ c. search rules)
     (λ c. search rules) (λ c. search rules) (λ c. simp length-set (omega arith)) (λ c. search rules) (λ c. search rules) (λ c. simp length-set (omega arith))
