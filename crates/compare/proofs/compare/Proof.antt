@@ -13,57 +13,57 @@ use Rattle.compare.proofs.compare.Statement.{statement}
 use Rattle.compare.proofs.compare.Tie as tie
 
 -- the places on the way
-abbrev entered : tie.After-is-side → tie.Start
+abbrev entered : tie.After-is_side → tie.Start
 entered c = c.before.before.before.before.before
 
-abbrev sided : tie.Else2 → tie.Else1
+abbrev sided : tie.Else-not-are_tracks → tie.Else-not-is_side
 sided c = c.before.before
 
-abbrev start_of : tie.Else2 → tie.Start
+abbrev start_of : tie.Else-not-are_tracks → tie.Start
 start_of c = entered (sided c).before
 
 -- questions 1, 2 and 18 are met
-met_1 : (c : tie.Else1) → is_side (entered c.before).args.n ≡ true
-met_1 c = met c.before.is-side.ensures c.if1.false
+met_1 : (c : tie.Else-not-is_side) → is_side (entered c.before).args.n ≡ true
+met_1 c = met c.is_side.ensures c.if-not-is_side.false
 
-met_2 : (c : tie.Else2)
+met_2 : (c : tie.Else-not-are_tracks)
     → let x = (start_of c).args in
-    (has_length x.mu.now x.n && (has_length x.x.now x.n && (has_length x.p-i.now (x.n * x.n) && has_length x.p-j.now (x.n * x.n)))) ≡ true
-met_2 c = met c.before.are-tracks.ensures c.if2.false
+    (has_length x.mu.now x.n && (has_length x.x.now x.n && (has_length x.p_i.now (x.n * x.n) && has_length x.p_j.now (x.n * x.n)))) ≡ true
+met_2 c = met c.are_tracks.ensures c.if-not-are_tracks.false
 
-met_18 : (c : tie.Else3) → let x = (start_of c.before.before).args in floor_and_gate x.floor x.gate ≡ true
-met_18 c = met c.before.is-floor-and-gate.ensures c.if3.false
+met_18 : (c : tie.Else-not-is_floor_and_gate) → let x = (start_of c.before.before).args in floor_and_gate x.floor x.gate ≡ true
+met_18 c = met c.is_floor_and_gate.ensures c.if-not-is_floor_and_gate.false
+
+returns-then-not-is_side : tie.Need-returns-then-not-is_side
+unfolding comparing
+returns-then-not-is_side c = rw (unmet c.is_side.ensures c.if-not-is_side.true)
+
+are_tracks-requires : tie.Need-are_tracks-requires
+are_tracks-requires c κs = square_area (entered c.before).args.n (met_1 c)
+
+returns-then-not-are_tracks : tie.Need-returns-then-not-are_tracks
+unfolding comparing
+returns-then-not-are_tracks c = rw (met_1 c.before.before, unmet c.are_tracks.ensures c.if-not-are_tracks.true)
+
+returns-then-not-is_floor_and_gate : tie.Need-returns-then-not-is_floor_and_gate
+unfolding comparing
+returns-then-not-is_floor_and_gate c = let shaped = c in rw (met_1 (sided c.before.before), met_2 c.before.before, unmet c.is_floor_and_gate.ensures c.if-not-is_floor_and_gate.true)
+
+compare_tracks-report-requires : tie.Need-compare_tracks-report-requires
+compare_tracks-report-requires c κs =
+    let shaped = c in
+    let x = (start_of c.before.before).args in
+    two-tracks x.mu.now x.x.now x.p_i.now x.p_j.now x.n (met_1 (sided c.before.before)) (met_2 c.before.before)
 
 returns : tie.Need-returns
-unfolding comparing
-returns c = rw (unmet c.before.is-side.ensures c.if1.true)
-
-are-tracks-requires : tie.Need-are-tracks-requires
-are-tracks-requires c κs = square_area (entered c.before).args.n (met_1 c)
-
-returns-2 : tie.Need-returns-2
-unfolding comparing
-returns-2 c = rw (met_1 c.before.before, unmet c.before.are-tracks.ensures c.if2.true)
-
-returns-3 : tie.Need-returns-3
-unfolding comparing
-returns-3 c = let shaped = c.before.before in rw (met_1 (sided shaped), met_2 shaped, unmet c.before.is-floor-and-gate.ensures c.if3.true)
-
-compare-tracks-requires : tie.Need-compare-tracks-requires
-compare-tracks-requires c κs =
-    let shaped = c.before.before in
-    let x = (start_of shaped).args in
-    two-tracks x.mu.now x.x.now x.p-i.now x.p-j.now x.n (met_1 (sided shaped)) (met_2 shaped)
-
-returns-4 : tie.Need-returns-4
 unfolding compared_with_report
-returns-4 c =
-    let asked = c.before in
-    let shaped = asked.before.before in
-    let x = (start_of shaped).args in
-    ap (λ (r : ComparisonReport). Answered r.comparison) c.compare-tracks.ensures
-    ∙ sym (ap compare_answer (comparing_met x.mu.now x.x.now x.p-i.now x.p-j.now x.n x.floor x.gate (met_1 (sided shaped)) (met_2 shaped) (met_18 asked)))
+returns c =
+    let asked = c in
+    let shaped = asked in
+    let x = (start_of c.before.before.before).args in
+    ap (λ (r : ComparisonReport). Answered r.comparison) c.compare_tracks-report.ensures
+    ∙ sym (ap compare_answer (comparing_met x.mu.now x.x.now x.p_i.now x.p_j.now x.n x.floor x.gate (met_1 (sided c.before.before.before)) (met_2 c.before.before.before) (met_18 c.before)))
 
-pub compare-spec : {M : Type 1} → statement M
-compare-spec =
-    tie.close (tie.spec (λ c κs. search rules) returns are-tracks-requires returns-2 (λ c κs. search rules) returns-3 compare-tracks-requires returns-4)
+pub compare_spec : {M : Type 1} → statement M
+compare_spec =
+    tie.close (tie.spec (λ c κs. search rules) returns-then-not-is_side are_tracks-requires returns-then-not-are_tracks (λ c κs. search rules) returns-then-not-is_floor_and_gate compare_tracks-report-requires returns)

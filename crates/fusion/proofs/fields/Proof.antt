@@ -8,15 +8,15 @@ use Rattle.tracks.specs.Layout.{fields}
 use Rattle.fusion.proofs.fields.Statement.{statement}
 use Rattle.fusion.proofs.fields.Tie as tie
 
-mul-result : tie.Need-overflow-mul-result
-mul-result c = omega (arith, mul-le-mul_right (c.args.d + 1) c.requires)
+overflow_mul-result : tie.Need-overflow_mul-result
+overflow_mul-result c = omega (arith, mul-le-mul_right (c.args.d + 1) c.requires)
 
-add-result-2 : tie.Need-overflow-add-result-2
-add-result-2 c = omega (arith, mul-le-mul_right (c.args.d + 1) c.requires)
+overflow_add-result-2 : tie.Need-overflow_add-result-2
+overflow_add-result-2 c = omega (arith, mul-le-mul_right (c.args.d + 1) c.requires)
 
 returns : tie.Need-returns
 unfolding fields
 returns c = refl
 
-pub fields-spec : {M : Type 1} → statement M
-fields-spec = tie.close (tie.spec (λ c. search rules) mul-result add-result-2 returns)
+pub fields_spec : {M : Type 1} → statement M
+fields_spec = tie.close (tie.spec (λ c. search rules) overflow_mul-result overflow_add-result-2 returns)

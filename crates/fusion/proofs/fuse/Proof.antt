@@ -14,31 +14,31 @@ use Rattle.fusion.proofs.fuse.Statement.{statement}
 use Rattle.fusion.proofs.fuse.Tie as tie
 
 -- the places on the way
-abbrev entered : tie.After-is-side → tie.Start
+abbrev entered : tie.After-is_side → tie.Start
 entered c = c.before.before.before.before.before
 
-abbrev sided : tie.After-are-long → tie.Else1
-sided c = c.before.before.before
+abbrev sided : tie.After-are_long → tie.Else-not-is_side
+sided c = c.before.before
 
-abbrev start_of : tie.After-are-long → tie.Start
+abbrev start_of : tie.After-are_long → tie.Start
 start_of c = entered (sided c).before
 
-abbrev shaped : tie.After-slice-known2 → tie.Else2
+abbrev shaped : tie.After-slice_known-2-1 → tie.Else-not-are_long
 shaped c = c.before.before.before.before
 
 -- questions 1 and 2 are met
-met_1 : (c : tie.Else1) → is_side (entered c.before).args.d ≡ true
-met_1 c = met c.before.is-side.ensures c.if1.false
+met_1 : (c : tie.Else-not-is_side) → is_side (entered c.before).args.d ≡ true
+met_1 c = met c.is_side.ensures c.if-not-is_side.false
 
-asked_2 : (c : tie.After-are-long) → let x = (start_of c).args in c.are-long.result ≡ are_long x.base.now x.ours.now x.theirs.now x.out.now (fields x.d)
+asked_2 : (c : tie.After-are_long) → let x = (start_of c).args in c.are_long.result ≡ are_long x.base.now x.ours.now x.theirs.now x.out.now (fields x.d)
 asked_2 c =
-    let x = (start_of c).args in c.are-long.ensures ∙ ap (λ (f : ℕ). are_long x.base.now x.ours.now x.theirs.now x.out.now f) c.before.fields.ensures
+    let x = (start_of c).args in c.are_long.ensures ∙ ap (λ (f : ℕ). are_long x.base.now x.ours.now x.theirs.now x.out.now f) c.fields.ensures
 
-met_2 : (c : tie.Else2) → let x = (start_of c.before).args in are_long x.base.now x.ours.now x.theirs.now x.out.now (fields x.d) ≡ true
-met_2 c = met (asked_2 c.before) c.if2.false
+met_2 : (c : tie.Else-not-are_long) → let x = (start_of c.before).args in are_long x.base.now x.ours.now x.theirs.now x.out.now (fields x.d) ≡ true
+met_2 c = met (asked_2 c.before) c.if-not-are_long.false
 
 -- and then the fusion answers
-answers : (c : tie.Else2)
+answers : (c : tie.Else-not-are_long)
     → let x = (start_of c.before).args in
     after_fusing (answered (fused x.d x.floor x.base.now x.ours.now x.theirs.now)) x.out.now
     ≡ after_fusing (fusing x.base.now x.ours.now x.theirs.now x.d x.floor x.out.now) x.out.now
@@ -46,34 +46,34 @@ answers c =
     let x = (start_of c.before).args in
     sym (ap (λ (o : Outcome Fusing). after_fusing o x.out.now) (fusing_met x.d x.base.now x.ours.now x.theirs.now x.out.now (met_1 (sided c.before)) (met_2 c) x.floor))
 
+returns-then-not-is_side : tie.Need-returns-then-not-is_side
+unfolding fusing
+returns-then-not-is_side c = rw (unmet c.is_side.ensures c.if-not-is_side.true)
+
+returns-then-not-are_long : tie.Need-returns-then-not-are_long
+unfolding fusing
+returns-then-not-are_long c = rw (met_1 (sided c.before), unmet (asked_2 c.before) c.if-not-are_long.true)
+
+fuse_tracks-requires : tie.Need-fuse_tracks-requires
+fuse_tracks-requires c κs =
+    let two = c in
+    let x = (start_of c.before.before).args in
+    to_fuse x.d x.base.now x.ours.now x.theirs.now x.out.now (met_1 (sided c.before.before)) (met_2 c.before)
+
+returns-then-fuse_tracks : tie.Need-returns-then-fuse_tracks
+returns-then-fuse_tracks c =
+    let two = shaped c.before in
+    let x = (start_of two.before).args in
+    is_fused_lem (fused x.d x.floor x.base.now x.ours.now x.theirs.now) x.out.now c.fuse_tracks.ensures c.if-fuse_tracks.true ∙ answers two
+
 returns : tie.Need-returns
-unfolding fusing
-returns c = rw (unmet c.before.is-side.ensures c.if1.true)
-
-returns-2 : tie.Need-returns-2
-unfolding fusing
-returns-2 c = rw (met_1 (sided c.before), unmet (asked_2 c.before) c.if2.true)
-
-fuse-tracks-requires : tie.Need-fuse-tracks-requires
-fuse-tracks-requires c κs =
-    let two = c.before in
-    let x = (start_of two.before).args in
-    to_fuse x.d x.base.now x.ours.now x.theirs.now x.out.now (met_1 (sided two.before)) (met_2 two)
-
-returns-3 : tie.Need-returns-3
-returns-3 c =
+returns c =
     let two = shaped c.before in
     let x = (start_of two.before).args in
-    is_fused_lem (fused x.d x.floor x.base.now x.ours.now x.theirs.now) x.out.now c.before.before.before.fuse-tracks.ensures c.if3.true ∙ answers two
+    not-fused (fused x.d x.floor x.base.now x.ours.now x.theirs.now) x.out.now c.fuse_tracks.ensures c.if-fuse_tracks.false ∙ answers two
 
-returns-4 : tie.Need-returns-4
-returns-4 c =
-    let two = shaped c.before in
-    let x = (start_of two.before).args in
-    not-fused (fused x.d x.floor x.base.now x.ours.now x.theirs.now) x.out.now c.before.before.before.fuse-tracks.ensures c.if3.false ∙ answers two
-
-pub fuse-spec : {M : Type 1} → statement M
-fuse-spec =
+pub fuse_spec : {M : Type 1} → statement M
+fuse_spec =
     tie.close
-    (tie.spec (λ c κs. search rules) returns (λ c κs. side_high _ (met_1 c.before)) (λ c κs. search rules) (λ c. search rules) returns-2 fuse-tracks-requires (λ c. search rules)
-    returns-3 (λ c. search rules) returns-4)
+    (tie.spec (λ c κs. search rules) returns-then-not-is_side (λ c κs. side_high _ (met_1 c)) (λ c κs. search rules) (λ c. search rules) returns-then-not-are_long fuse_tracks-requires (λ c. search rules)
+    returns-then-fuse_tracks (λ c. search rules) returns)

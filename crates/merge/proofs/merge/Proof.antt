@@ -6,9 +6,9 @@ use Rattle.merge.proofs.merge.Tie as tie
 
 returns : tie.Need-returns
 returns c =
-    let x = c.before.before.before.before.before.before.before.before.before.before.args in
-    let e = c.before.before.before.merge-fused.ensures.0 in
+    let x = c.args in
+    let e = c.merge_fused.ensures.0 in
     (e, demanded x.base.now x.ours.now x.theirs.now x.floor x.gate x.rows.now e)
 
-pub merge-spec : {M : Type 1} → statement M
-merge-spec = tie.close (tie.spec (λ c. search rules) (λ c κs. search rules) (λ c. search rules) returns)
+pub merge_spec : {M : Type 1} → statement M
+merge_spec = tie.close (tie.spec (λ c. search rules) (λ c κs. search rules) (λ c. search rules) returns)

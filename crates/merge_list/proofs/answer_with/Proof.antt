@@ -6,11 +6,11 @@ use Rattle.merge_list.specs.Private.{answer_with}
 use Rattle.merge_list.proofs.answer_with.Statement.{statement}
 use Rattle.merge_list.proofs.answer_with.Tie as tie
 
-returns : tie.Need-returns
-returns c = ap (λ (l : WrittenList). answer_with l c.before.before.before.args.counts) (sym c.before.list.given.1)
+returns-in-Length : tie.Need-returns-in-Length
+returns-in-Length c = ap (λ (l : WrittenList). answer_with l c.args.counts) (sym c.in-Length.is)
 
-returns-2 : tie.Need-returns-2
-returns-2 c = ap (λ (l : WrittenList). answer_with l c.before.before.before.args.counts) (sym c.before.list2.given.1)
+returns-in-Refused : tie.Need-returns-in-Refused
+returns-in-Refused c = ap (λ (l : WrittenList). answer_with l c.args.counts) (sym c.in-Refused.is)
 
-pub answer-with-spec : {M : Type 1} → statement M
-answer-with-spec = tie.close (tie.spec (λ c. search rules) (λ c. search rules) returns returns-2)
+pub answer_with_spec : {M : Type 1} → statement M
+answer_with_spec = tie.close (tie.spec (λ c. search rules) (λ c. search rules) returns-in-Length returns-in-Refused)

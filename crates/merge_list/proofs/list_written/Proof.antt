@@ -5,11 +5,11 @@ use Rattle.merge_list.specs.Private.{is_written}
 use Rattle.merge_list.proofs.list_written.Statement.{statement}
 use Rattle.merge_list.proofs.list_written.Tie as tie
 
-returns : tie.Need-returns
-returns c = ap is_written (sym c.enum_told.given.1)
+returns-in-Length : tie.Need-returns-in-Length
+returns-in-Length c = ap is_written (sym c.in-Length.is)
 
-returns-2 : tie.Need-returns-2
-returns-2 c = ap is_written (sym c.enum-told2.given.1)
+returns-in-Refused : tie.Need-returns-in-Refused
+returns-in-Refused c = ap is_written (sym c.in-Refused.is)
 
-pub list-written-spec : {M : Type 1} → statement M
-list-written-spec = tie.close (tie.spec (λ c. search rules) (λ c. search rules) returns returns-2)
+pub list_written_spec : {M : Type 1} → statement M
+list_written_spec = tie.close (tie.spec (λ c. search rules) (λ c. search rules) returns-in-Length returns-in-Refused)

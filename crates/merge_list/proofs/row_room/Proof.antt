@@ -4,11 +4,11 @@ use mathlib.Core.Path.{refl}
 use Rattle.merge_list.proofs.row_room.Statement.{statement}
 use Rattle.merge_list.proofs.row_room.Tie as tie
 
+returns-then-n-lt-MOST_ROW_BYTES : tie.Need-returns-then-n-lt-MOST_ROW_BYTES
+returns-then-n-lt-MOST_ROW_BYTES c = rw (lt-ltb _ 384 c.if-n-lt-MOST_ROW_BYTES.true) refl
+
 returns : tie.Need-returns
-returns c = rw (lt-ltb _ 384 c.if1.true) refl
+returns c = rw (le-ltb _ 384 c.if-n-lt-MOST_ROW_BYTES.false) refl
 
-returns-2 : tie.Need-returns-2
-returns-2 c = rw (le-ltb _ 384 c.if1.false) refl
-
-pub row-room-spec : {M : Type 1} → statement M
-row-room-spec = tie.close (tie.spec returns returns-2)
+pub row_room_spec : {M : Type 1} → statement M
+row_room_spec = tie.close (tie.spec returns-then-n-lt-MOST_ROW_BYTES returns)

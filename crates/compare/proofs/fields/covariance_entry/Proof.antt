@@ -11,26 +11,26 @@ use Rattle.compare.proofs.fields.covariance_entry.Statement.{statement}
 use Rattle.compare.proofs.fields.covariance_entry.Tie as tie
 
 -- the place of the entry, or of the one that it mirrors
-below : (c : tie.After-lower-field) → c.lower-field.result < length c.before.before.before.args.v.now
-below c = let start = c.before.before.before in omega (arith, field-within start.args.d start.args.i start.args.j (omega arith) (omega arith), c.lower-field.ensures)
+below : (c : tie.After-lower_field-at) → c.lower_field-at.result < length c.args.v.now
+below c = let start = c in omega (arith, field-within start.args.d start.args.i start.args.j (omega arith) (omega arith), c.lower_field-at.ensures)
 
-above : (c : tie.After-lower-field2) → c.lower-field2.result < length c.before.before.before.args.v.now
-above c = let start = c.before.before.before in omega (arith, field-within start.args.d start.args.j start.args.i (omega arith) (omega arith), c.lower-field2.ensures)
+above : (c : tie.After-lower_field-at-2) → c.lower_field-at-2.result < length c.args.v.now
+above c = let start = c in omega (arith, field-within start.args.d start.args.j start.args.i (omega arith) (omega arith), c.lower_field-at-2.ensures)
+
+returns-then-j-i : tie.Need-returns-then-j-i
+returns-then-j-i c =
+    let start = c in
+    let x = start.args in
+    rw (le-leb x.j x.i (omega arith)) (ap (nth x.v.now) c.lower_field-at.ensures)
 
 returns : tie.Need-returns
 returns c =
-    let start = c.before.before.before.before in
+    let start = c in
     let x = start.args in
-    rw (le-leb x.j x.i (omega arith)) (ap (nth x.v.now) c.before.lower-field.ensures)
+    rw (lt-leb x.j x.i (omega arith)) (ap (nth x.v.now) c.lower_field-at-2.ensures)
 
-returns-2 : tie.Need-returns-2
-returns-2 c =
-    let start = c.before.before.before.before in
-    let x = start.args in
-    rw (lt-leb x.j x.i (omega arith)) (ap (nth x.v.now) c.before.lower-field2.ensures)
-
-pub covariance-entry-spec : {M : Type 1} → statement M
-covariance-entry-spec =
+pub covariance_entry_spec : {M : Type 1} → statement M
+covariance_entry_spec =
     tie.close
-    (tie.spec (λ c κs. search rules) (λ c. omega (arith, below c)) (λ c. below c.before) returns (λ c κs. search rules) (λ c. omega (arith, above c))
-    (λ c. above c.before) returns-2)
+    (tie.spec (λ c κs. search rules) (λ c. omega (arith, below c)) (λ c. below c.before) returns-then-j-i (λ c κs. search rules) (λ c. omega (arith, above c))
+    (λ c. above c.before) returns)

@@ -8,13 +8,13 @@ use Rattle.tracks.specs.Layout.{fields}
 use Rattle.compare.proofs.fields.is_track.Statement.{statement}
 use Rattle.compare.proofs.fields.is_track.Tie as tie
 
+returns-then-v-lower_field : tie.Need-returns-then-v-lower_field
+unfolding fields
+returns-then-v-lower_field c = let x = c.args in rw (lt-leb (fields x.d) (length x.v.now) (omega arith))
+
 returns : tie.Need-returns
 unfolding fields
-returns c = let x = c.before.before.before.before.args in rw (lt-leb (fields x.d) (length x.v.now) (omega arith))
+returns c = let x = c.args in rw (le-leb (fields x.d) (length x.v.now) (omega arith)) c.is_matrix.ensures
 
-returns-2 : tie.Need-returns-2
-unfolding fields
-returns-2 c = let x = c.before.before.before.before.before.args in rw (le-leb (fields x.d) (length x.v.now) (omega arith)) c.is-matrix.ensures
-
-pub is-track-spec : {M : Type 1} → statement M
-is-track-spec = tie.close (tie.spec (λ c κs. search rules) returns (λ c κs. let start = c.before.before.before.before in square-size start.args.d start.requires) returns-2)
+pub is_track_spec : {M : Type 1} → statement M
+is_track_spec = tie.close (tie.spec (λ c κs. search rules) returns-then-v-lower_field (λ c κs. let start = c in square-size start.args.d start.requires) returns)

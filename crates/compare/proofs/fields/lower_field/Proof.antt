@@ -14,5 +14,5 @@ small c = row-product c.args.d c.args.i (omega arith) (omega arith)
 returns : tie.Need-returns
 returns c = refl
 
-pub lower-field-spec : {M : Type 1} → statement M
-lower-field-spec = tie.close (tie.spec (λ c. search rules) (λ c. omega (arith, small c)) (λ c. omega (arith, small c)) (λ c. omega (arith, small c)) returns)
+pub lower_field_spec : {M : Type 1} → statement M
+lower_field_spec = tie.close (tie.spec (λ c. search rules) (λ c. omega (arith, small c)) (λ c. omega (arith, small c)) (λ c. omega (arith, small c)) returns)

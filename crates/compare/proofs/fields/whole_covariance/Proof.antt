@@ -15,44 +15,44 @@ use Rattle.compare.proofs.fields.whole_covariance.Statement.{statement}
 use Rattle.compare.proofs.fields.whole_covariance.Tie as tie
 
 -- questions 1 and 2 are met
-sided : (c : tie.Else1) → is_side c.before.before.before.before.args.d ≡ true
-sided c = met c.before.is-side.ensures c.if1.false
+sided : (c : tie.Else-not-is_side) → is_side c.args.d ≡ true
+sided c = met c.is_side.ensures c.if-not-is_side.false
 
-abbrev start_of : tie.Else2 → tie.Start
-start_of c = c.before.before.before.before.before.before.before
+abbrev start_of : tie.Else-not-is_track → tie.Start
+start_of c = c.before.before.before.before.before.before
 
-shaped : (c : tie.Else2) → let x = (start_of c).args in (leb (fields x.d) (length x.v.now) && has_length x.out.now (x.d * x.d)) ≡ true
-shaped c = met c.before.is_track_lem.ensures c.if2.false
+shaped : (c : tie.Else-not-is_track) → let x = (start_of c).args in (leb (fields x.d) (length x.v.now) && has_length x.out.now (x.d * x.d)) ≡ true
+shaped c = met c.is_track.ensures c.if-not-is_track.false
+
+returns-then-not-is_side : tie.Need-returns-then-not-is_side
+unfolding whole_covariance
+returns-then-not-is_side c = rw (unmet c.is_side.ensures c.if-not-is_side.true)
+
+returns-then-not-is_track : tie.Need-returns-then-not-is_track
+unfolding whole_covariance
+returns-then-not-is_track c = rw (sided c.before.before, unmet c.is_track.ensures c.if-not-is_track.true)
+
+track_covariance-requires : tie.Need-track_covariance-requires
+track_covariance-requires c κs =
+    let two = c in
+    let x = (start_of c.before).args in
+    record {
+      track = record {
+        few = side_high x.d (sided c.before.before.before);
+        enough = leb-true (fields x.d) (length x.v.now) (and_left _ (has_length x.out.now (x.d * x.d)) (shaped c.before));
+      };
+      room = long-length x.out.now (x.d * x.d) (and_right (leb (fields x.d) (length x.v.now)) _ (shaped c.before));
+    }
 
 returns : tie.Need-returns
 unfolding whole_covariance
-returns c = rw (unmet c.before.is-side.ensures c.if1.true)
+returns c =
+    let mirrored = c in
+    let two = mirrored in
+    rw (sided c.before.before.before.before.before.before, shaped c.before.before.before.before) (done mirrored.track_covariance.ensures)
 
-returns-2 : tie.Need-returns-2
-unfolding whole_covariance
-returns-2 c = rw (sided c.before.before.before, unmet c.before.is_track_lem.ensures c.if2.true)
-
-track-covariance-requires : tie.Need-track-covariance-requires
-track-covariance-requires c κs =
-    let two = c.before in
-    let x = (start_of two).args in
-    record {
-      track = record {
-        few = side_high x.d (sided two.before.before.before);
-        enough = leb-true (fields x.d) (length x.v.now) (and_left _ (has_length x.out.now (x.d * x.d)) (shaped two));
-      };
-      room = long-length x.out.now (x.d * x.d) (and_right (leb (fields x.d) (length x.v.now)) _ (shaped two));
-    }
-
-returns-3 : tie.Need-returns-3
-unfolding whole_covariance
-returns-3 c =
-    let mirrored = c.before.before in
-    let two = mirrored.before.before in
-    rw (sided two.before.before.before, shaped two) (done mirrored.track-covariance.ensures)
-
-pub whole-covariance-spec : {M : Type 1} → statement M
-whole-covariance-spec =
+pub whole_covariance_spec : {M : Type 1} → statement M
+whole_covariance_spec =
     tie.close
-    (tie.spec (λ c κs. search rules) returns (λ c κs. side_high _ (sided c.before)) (λ c. search rules) returns-2 track-covariance-requires
-    (λ c. c.before.before.track-covariance.auto.1.1.0) returns-3)
+    (tie.spec (λ c κs. search rules) returns-then-not-is_side (λ c κs. side_high _ (sided c)) (λ c. search rules) returns-then-not-is_track track_covariance-requires
+    (λ c. c.track_covariance.auto.out) returns)

@@ -11,23 +11,23 @@ use Rattle.compare.proofs.gate.by_gate.Statement.{statement}
 use Rattle.compare.proofs.gate.by_gate.Tie as tie
 
 -- d2 is finite
-bounded : (c : tie.Then1) → finite c.before.before.args.d2 ≡ true
-bounded c = sym c.before.is_finite.ensures ∙ c.if1.true
+bounded : (c : tie.Then-is_finite) → finite c.args.d2 ≡ true
+bounded c = sym c.is_finite.ensures ∙ c.if-is_finite.true
+
+returns-then-not-d2 : tie.Need-returns-then-not-d2
+unfolding by_gate
+returns-then-not-d2 c =
+    let positive = c in
+    let then1 = positive in
+    rw (bounded c.before.before, positive.if-not-d2.true) c.near_or_far.ensures
+
+returns-then-is_finite : tie.Need-returns-then-is_finite
+unfolding by_gate
+returns-then-is_finite c = let then1 = c in rw (bounded c.before, c.if-not-d2.false)
 
 returns : tie.Need-returns
 unfolding by_gate
-returns c =
-    let positive = c.before in
-    let then1 = positive.before in
-    rw (bounded then1, not-true (lt then1.before.before.args.d2 nought) positive.if2.true) c.near-or-far.ensures
+returns c = rw (sym c.is_finite.ensures ∙ c.if-is_finite.false)
 
-returns-2 : tie.Need-returns-2
-unfolding by_gate
-returns-2 c = let then1 = c.before in rw (bounded then1, not-false (lt then1.before.before.args.d2 nought) c.if2.false)
-
-returns-3 : tie.Need-returns-3
-unfolding by_gate
-returns-3 c = rw (sym c.before.is_finite.ensures ∙ c.if1.false)
-
-pub by-gate-spec : {M : Type 1} → statement M
-by-gate-spec = tie.close (tie.spec (λ c κs. search rules) (λ c κs. search rules) returns returns-2 returns-3)
+pub by_gate_spec : {M : Type 1} → statement M
+by_gate_spec = tie.close (tie.spec (λ c κs. search rules) (λ c κs. search rules) returns-then-not-d2 returns-then-is_finite returns)

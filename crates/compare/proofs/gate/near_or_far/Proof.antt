@@ -4,11 +4,11 @@ use lib.Ieee.{le}
 use Rattle.compare.proofs.gate.near_or_far.Statement.{statement}
 use Rattle.compare.proofs.gate.near_or_far.Tie as tie
 
+returns-then-not-d2-gate : tie.Need-returns-then-not-d2-gate
+returns-then-not-d2-gate c = let x = c.args in rw c.if-not-d2-gate.true
+
 returns : tie.Need-returns
-returns c = let x = c.before.args in rw (not-true (le x.d2 x.gate) c.if1.true)
+returns c = let x = c.args in rw c.if-not-d2-gate.false
 
-returns-2 : tie.Need-returns-2
-returns-2 c = let x = c.before.args in rw (not-false (le x.d2 x.gate) c.if1.false)
-
-pub near-or-far-spec : {M : Type 1} → statement M
-near-or-far-spec = tie.close (tie.spec returns returns-2)
+pub near_or_far_spec : {M : Type 1} → statement M
+near_or_far_spec = tie.close (tie.spec returns-then-not-d2-gate returns)

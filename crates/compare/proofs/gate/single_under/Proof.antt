@@ -7,21 +7,21 @@ use Rattle.compare.proofs.gate.single_under.Statement.{statement}
 use Rattle.compare.proofs.gate.single_under.Tie as tie
 
 -- where the call begins
-abbrev entered : tie.After-single-distance → tie.Start
+abbrev entered : tie.After-single_distance → tie.Start
 entered c = c.before
 
-returns : tie.Need-returns
-returns c =
-    let measured = c.before.before in
-    let x = (entered measured).args in
-    no_distance x.gate (distance (x.x ∷ []) (x.mu ∷ []) (x.cov ∷ []) 1) measured.single_distance.ensures c.enum_told.given.1
+returns-in-Refused : tie.Need-returns-in-Refused
+returns-in-Refused c =
+    let measured = c in
+    let x = (entered c.before).args in
+    no_distance x.gate (distance (x.x ∷ []) (x.mu ∷ []) (x.cov ∷ []) 1) measured.single_distance.ensures c.in-Refused.is
 
-returns-2 : tie.Need-returns-2
-returns-2 c =
-    let known = c.before.before in
-    let measured = known.before.before in
-    let x = (entered measured).args in
-    distance-by_gate x.gate (distance (x.x ∷ []) (x.mu ∷ []) (x.cov ∷ []) 1) measured.single_distance.ensures known.d2.given.1 c.by-gate.ensures
+returns-in-Value : tie.Need-returns-in-Value
+returns-in-Value c =
+    let known = c in
+    let measured = known in
+    let x = (entered c.before.before).args in
+    distance-by_gate x.gate (distance (x.x ∷ []) (x.mu ∷ []) (x.cov ∷ []) 1) measured.single_distance.ensures known.in-Value.is c.by_gate.ensures
 
-pub single-under-spec : {M : Type 1} → statement M
-single-under-spec = tie.close (tie.spec (λ c κs. search rules) (λ c. search rules) (λ c. search rules) (λ c κs. search rules) returns returns-2)
+pub single_under_spec : {M : Type 1} → statement M
+single_under_spec = tie.close (tie.spec (λ c κs. search rules) (λ c. search rules) (λ c. search rules) (λ c κs. search rules) returns-in-Refused returns-in-Value)

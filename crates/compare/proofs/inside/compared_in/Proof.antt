@@ -14,37 +14,37 @@ use Rattle.compare.proofs.inside.compared_in.Statement.{statement}
 use Rattle.compare.proofs.inside.compared_in.Tie as tie
 
 -- the places on the way
-abbrev summed : tie.After-repair → tie.After-sums
-summed c = c.before.before.before.before.before
+abbrev summed : tie.After-repair-repaired → tie.After-sums
+summed c = c.before.before.before.before
 
-abbrev entered : tie.After-repair → tie.Start
+abbrev entered : tie.After-repair-repaired → tie.Start
 entered c = (summed c).before.before.before.before.before.before.before.before
 
 -- what was repaired is the joint covariance
-joint : (c : tie.After-repair) → let x = (entered c).args in (summed c).sums.new.1.1.1.0 ≡ joint_covariance x.p.now x.q.now x.n
+joint : (c : tie.After-repair-repaired) → let x = (entered c).args in (summed c).sums.new.y ≡ joint_covariance x.p.now x.q.now x.n
 joint c = let x = (entered c).args in (summed c).sums.ensures ∙ joint-sums x.p.now x.q.now x.n
 
-repairs : (c : tie.After-repair)
+repairs : (c : tie.After-repair-repaired)
     → let x = (entered c).args in
-    ◌≡◌ {A = Repaired × List Float} (c.repair.result, c.repair.new.1.1.1.0) (after_repair (joint_repair x.p.now x.q.now x.n x.terms.floor) x.r.now)
+    ◌≡◌ {A = Repaired × List Float} (c.repair-repaired.result, c.repair-repaired.new.out) (after_repair (joint_repair x.p.now x.q.now x.n x.terms.floor) x.r.now)
 unfolding joint_repair
-repairs c = let x = (entered c).args in c.repair.ensures ∙ ap (λ (s : List Float). after_repair (repair s x.terms.floor x.n) x.r.now) (joint c)
+repairs c = let x = (entered c).args in c.repair-repaired.ensures ∙ ap (λ (s : List Float). after_repair (repair s x.terms.floor x.n) x.r.now) (joint c)
 
-compared-after-requires : tie.Need-compared-after-requires
-compared-after-requires c κs =
-    let repaired = c.before.before.before in
-    let start = entered repaired in
-    let h = start.pre.0 in
+compared_after-requires : tie.Need-compared_after-requires
+compared_after-requires c κs =
+    let repaired = c in
+    let start = entered c.before.before in
+    let h = start.requires.0 in
     let n = start.args.n in
-    (record { first = h.state-j; second = h.state-i; square = repaired.repair.auto.1.1.1.0 ∙ start.pre.2 }, side_high n h.sided)
+    (record { first = h.state-j; second = h.state-i; square = repaired.repair-repaired.auto.out ∙ start.requires.2 }, side_high n h.sided)
 
 returns : tie.Need-returns
 returns c =
-    let repaired = c.before.before.before.before in
-    let x = (entered repaired).args in
-    with_report x.mu.now x.x.now x.n x.terms.gate x.p.now x.q.now x.r.now x.terms.floor (repairs repaired) c.compared-after.ensures
+    let repaired = c in
+    let x = (entered c.before.before.before).args in
+    with_report x.mu.now x.x.now x.n x.terms.gate x.p.now x.q.now x.r.now x.terms.floor (repairs c.before.before.before) c.compared_after.ensures
 
-pub compared-in-spec : {M : Type 1} → statement M
-compared-in-spec =
+pub compared_in_spec : {M : Type 1} → statement M
+compared_in_spec =
     tie.close
-    (tie.spec (λ c. search rules) (λ c κs. search rules) (λ c κs. search rules) compared-after-requires (λ c. search rules) (λ c. search rules) returns)
+    (tie.spec (λ c. search rules) (λ c κs. search rules) (λ c κs. search rules) compared_after-requires (λ c. search rules) (λ c. search rules) returns)

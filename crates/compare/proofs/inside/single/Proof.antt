@@ -15,14 +15,14 @@ use Rattle.compare.proofs.inside.single.Tie as tie
 
 returns : tie.Need-returns
 returns c =
-    let rebuilt = c.before in
-    let answered = rebuilt.before in
-    let x = answered.before.args in
+    let rebuilt = c in
+    let answered = rebuilt in
+    let x = answered.args in
     let cov = single_rebuilt x.terms.floor (add x.p x.q) in
-    let answer = answered.single-answer.result.answer in
+    let answer = answered.single_answer-repaired.result.answer in
     with_report (x.mu ∷ []) (x.x ∷ []) 1 x.terms.gate (x.p ∷ []) (x.q ∷ []) (cov ∷ []) x.terms.floor
-    (ap (λ (a : Repaired). (a, cov ∷ [])) answered.single-answer.ensures ∙ single-joint x.p x.q x.terms.floor)
-    (c.single_after.ensures ∙ ap (λ (s : Float). comparison_of (after_written answer (distance (x.x ∷ []) (x.mu ∷ []) (s ∷ []) 1)) x.terms.gate) rebuilt.single-rebuilt.ensures)
+    (ap (λ (a : Repaired). (a, cov ∷ [])) answered.single_answer-repaired.ensures ∙ single-joint x.p x.q x.terms.floor)
+    (c.single_after.ensures ∙ ap (λ (s : Float). comparison_of (after_written answer (distance (x.x ∷ []) (x.mu ∷ []) (s ∷ []) 1)) x.terms.gate) rebuilt.single_rebuilt-cov.ensures)
 
-pub single-spec : {M : Type 1} → statement M
-single-spec = tie.close (tie.spec (λ c κs. search rules) (λ c κs. search rules) (λ c κs. search rules) returns)
+pub single_spec : {M : Type 1} → statement M
+single_spec = tie.close (tie.spec (λ c κs. search rules) (λ c κs. search rules) (λ c κs. search rules) returns)

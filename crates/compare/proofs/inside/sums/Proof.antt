@@ -8,20 +8,20 @@ use Rattle.dense.proofs.Entries.{EntryByEntry, no_entry, entry-written, every_en
 use Rattle.compare.proofs.inside.sums.Statement.{statement}
 use Rattle.compare.proofs.inside.sums.Tie as tie
 
-abbrev invariant-loop : tie.invariant-loop
-invariant-loop p q n y₀ k₀ y k = EntryByEntry (λ i. add (nth p i) (nth q i)) n y₀ k y
+abbrev invariant-loop-k : tie.invariant-loop-k
+invariant-loop-k p q n y₀ k₀ y k = EntryByEntry (λ i. add (nth p i) (nth q i)) n y₀ k y
 
-abbrev decreases-loop : tie.decreases-loop
-decreases-loop p q n y₀ k₀ y k = n - k
+abbrev decreases-loop-k : tie.decreases-loop-k
+decreases-loop-k p q n y₀ k₀ y k = n - k
 
-loop-again : tie.Need-loop-preserved invariant-loop decreases-loop
-loop-again c = entry-written c.before.before.before.loop.invariant c.before.before.loop-test.true refl
+loop-k-preserved : tie.Need-loop-k-preserved invariant-loop-k decreases-loop-k
+loop-k-preserved c = entry-written c.loop-k.invariant c.loop-k-test.true refl
 
-returns : tie.Need-returns invariant-loop decreases-loop
-returns c = every_entry c.before.loop.invariant c.loop-test.false
+returns : tie.Need-returns invariant-loop-k decreases-loop-k
+returns c = every_entry c.loop-k.invariant c.loop-k-test.false
 
-pub sums-spec : {M : Type 1} → statement M
-sums-spec =
+pub sums_spec : {M : Type 1} → statement M
+sums_spec =
     tie.close
-    (tie.spec invariant-loop decreases-loop (λ c. no_entry c.requires.2) (λ c. omega arith) (λ c. omega arith) (λ c. omega arith) (λ c. omega arith) (λ c. omega arith) (λ c. omega arith)
-    (λ c. omega arith) (λ c. omega arith) loop-again (λ c. c.before.loop.invariant.entries.size) returns)
+    (tie.spec invariant-loop-k decreases-loop-k (λ c. no_entry c.requires.2) (λ c. omega arith) (λ c. omega arith) (λ c. omega arith) (λ c. omega arith) (λ c. omega arith) (λ c. omega arith)
+    (λ c. omega arith) (λ c. omega arith) loop-k-preserved (λ c. c.loop-k.invariant.entries.size) returns)

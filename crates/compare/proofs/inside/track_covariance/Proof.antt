@@ -6,30 +6,30 @@ use Rattle.compare.specs.Fields.{covariance_entry, track_covariance}
 use Rattle.compare.proofs.inside.track_covariance.Statement.{statement}
 use Rattle.compare.proofs.inside.track_covariance.Tie as tie
 
-abbrev invariant-loop : tie.invariant-loop
-invariant-loop v d out₀ i₀ out i = RowByRow (covariance_entry d v) d d out₀ i out
+abbrev invariant-loop-i : tie.invariant-loop-i
+invariant-loop-i v d out₀ i₀ out i = RowByRow (covariance_entry d v) d d out₀ i out
 
-abbrev decreases-loop : tie.decreases-loop
-decreases-loop v d out₀ i₀ out i = d - i
+abbrev decreases-loop-i : tie.decreases-loop-i
+decreases-loop-i v d out₀ i₀ out i = d - i
 
-fits : (c : tie.In-loop invariant-loop decreases-loop) → RowFits c.before.loop.invariant
-fits c = row_fits c.before.loop.invariant c.loop-test.true
+fits : (c : tie.In-loop-i invariant-loop-i decreases-loop-i) → RowFits c.loop-i.invariant
+fits c = row_fits c.loop-i.invariant c.loop-i-test.true
 
-covariance-row-requires : tie.Need-covariance-row-requires invariant-loop decreases-loop
-covariance-row-requires c κs =
-    let turn = c.before in
-    let held = turn.before in
-    record { track = held.before.before.before.requires.track; index = turn.loop-test.true; room = row-lent held.loop.invariant turn.loop-test.true }
+covariance_row-requires : tie.Need-covariance_row-requires invariant-loop-i decreases-loop-i
+covariance_row-requires c κs =
+    let turn = c in
+    let held = turn in
+    record { track = held.requires.track; index = turn.loop-i-test.true; room = row-lent held.loop-i.invariant turn.loop-i-test.true }
 
-loop-again : tie.Need-loop-preserved invariant-loop decreases-loop
-loop-again c = let turn = c.before.before.before.before in row_written turn.before.loop.invariant turn.loop-test.true c.before.before.covariance-row.ensures
+loop-i-preserved : tie.Need-loop-i-preserved invariant-loop-i decreases-loop-i
+loop-i-preserved c = let turn = c in row_written turn.loop-i.invariant turn.loop-i-test.true c.covariance_row.ensures
 
-returns : tie.Need-returns invariant-loop decreases-loop
+returns : tie.Need-returns invariant-loop-i decreases-loop-i
 unfolding track_covariance
-returns c = every_row c.before.loop.invariant c.loop-test.false
+returns c = every_row c.loop-i.invariant c.loop-i-test.false
 
-pub track-covariance-spec : {M : Type 1} → statement M
-track-covariance-spec =
+pub track_covariance_spec : {M : Type 1} → statement M
+track_covariance_spec =
     tie.close
-    (tie.spec invariant-loop decreases-loop (λ c. no_row c.before.before.requires.room) (λ c. omega (arith, fits c)) (λ c. omega (arith, fits c)) (λ c. omega (arith, fits c)) (λ c. omega arith)
-    (λ c. omega arith) (λ c. omega (arith, fits c)) covariance-row-requires (λ c. omega arith) (λ c. omega arith) loop-again (λ c. c.before.loop.invariant.rows.size) returns)
+    (tie.spec invariant-loop-i decreases-loop-i (λ c. no_row c.requires.room) (λ c. omega (arith, fits c)) (λ c. omega (arith, fits c)) (λ c. omega (arith, fits c)) (λ c. omega arith)
+    (λ c. omega arith) (λ c. omega (arith, fits c)) covariance_row-requires (λ c. omega arith) (λ c. omega arith) loop-i-preserved (λ c. c.loop-i.invariant.rows.size) returns)

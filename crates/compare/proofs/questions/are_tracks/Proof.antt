@@ -4,17 +4,17 @@ use Rattle.dense.proofs.Tests.{and_no, and_yes}
 use Rattle.compare.proofs.questions.are_tracks.Statement.{statement}
 use Rattle.compare.proofs.questions.are_tracks.Tie as tie
 
+returns-then-not-is_vector : tie.Need-returns-then-not-is_vector
+returns-then-not-is_vector c = and_no _ c.is_vector.ensures c.if-not-is_vector.true
+
+returns-then-not-is_vector-2 : tie.Need-returns-then-not-is_vector-2
+returns-then-not-is_vector-2 c = and_yes c.is_vector.ensures c.if-not-is_vector.false (and_no _ c.is_vector-2.ensures c.if-not-is_vector-2.true)
+
 returns : tie.Need-returns
-returns c = and_no _ c.before.is-vector.ensures c.if1.true
+returns c =
+    let second = c in
+    let first = second in
+    and_yes first.is_vector.ensures second.if-not-is_vector.false (and_yes second.is_vector-2.ensures c.if-not-is_vector-2.false c.are_matrices.ensures)
 
-returns-2 : tie.Need-returns-2
-returns-2 c = and_yes c.before.before.before.is-vector.ensures c.before.before.if1.false (and_no _ c.before.is-vector2.ensures c.if2.true)
-
-returns-3 : tie.Need-returns-3
-returns-3 c =
-    let second = c.before.before in
-    let first = second.before.before in
-    and_yes first.is-vector.ensures second.before.if1.false (and_yes second.is-vector2.ensures c.before.if2.false c.are-matrices.ensures)
-
-pub are-tracks-spec : {M : Type 1} → statement M
-are-tracks-spec = tie.close (tie.spec (λ c κs. search rules) returns (λ c κs. search rules) returns-2 (λ c κs. search rules) returns-3)
+pub are_tracks_spec : {M : Type 1} → statement M
+are_tracks_spec = tie.close (tie.spec (λ c κs. search rules) returns-then-not-is_vector (λ c κs. search rules) returns-then-not-is_vector-2 (λ c κs. search rules) returns)

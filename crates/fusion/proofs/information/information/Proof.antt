@@ -20,61 +20,61 @@ use Rattle.fusion.proofs.information.information.Statement.{statement}
 use Rattle.fusion.proofs.information.information.Tie as tie
 
 -- the places on the way
-abbrev entered : tie.After-track-covariance-arg → tie.Start
+abbrev entered : tie.After-track_covariance-arg-1 → tie.Start
 entered c = c.before.before.before.before.before
 
-abbrev covered : tie.After-mat-inv → tie.After-track-covariance
-covered c = c.before.before.before.before.before
+abbrev covered : tie.After-mat_inv → tie.After-track_covariance
+covered c = c.before.before.before.before
 
-abbrev start_of : tie.After-is-done → tie.Start
+abbrev start_of : tie.After-is_done → tie.Start
 start_of c = entered (covered c.before.before.before).before
 
 -- whether the covariance has an inverse, and that it stands in m
-inverted : (c : tie.After-is-done)
+inverted : (c : tie.After-is_done)
     → let x = (start_of c).args in
-    Gives (inverse (track_covariance x.d x.v.now) x.d) c.is-done.result c.before.before.before.mat-inv.new.1.1.0
+    Gives (inverse (track_covariance x.d x.v.now) x.d) c.is_done.result c.mat_inv.new.out
 inverted c =
-    let call = c.before.before.before in
-    let written = covered call in
+    let call = c in
+    let written = covered c.before.before.before in
     let start = start_of c in
     let x = start.args in
-    let p = written.track-covariance.last.1.1.0 in
+    let p = written.track_covariance.new.out in
     rw (
-      sym written.track-covariance.ensures,
-      sym (inverse_asked x.d p x.m.now start.pre.0.sided (written.track-covariance.kept.1.1.0 ∙ start.pre.1) start.pre.2.matrix),
+      sym written.track_covariance.ensures,
+      sym (inverse_asked x.d p x.m.now start.requires.0.sided (written.track_covariance.auto.out ∙ start.requires.1) start.requires.2.matrix),
     )
-    (call_gives (mat_inv p x.d x.m.now) x.m.now call.mat-inv.ensures c.is-done.ensures)
+    (call_gives (mat_inv p x.d x.m.now) x.m.now call.mat_inv.ensures c.is_done.ensures)
 
-track-covariance-requires : tie.Need-track-covariance-requires
+track_covariance-requires : tie.Need-track_covariance-requires
 unfolding fields
-track-covariance-requires c κs =
+track_covariance-requires c κs =
     let start = entered c in
-    record { track = record { few = side_high start.args.d start.pre.0.sided; enough = omega (arith, start.pre.0.long) }; room = start.pre.1 }
+    record { track = record { few = side_high start.args.d start.requires.0.sided; enough = omega (arith, start.requires.0.long) }; room = start.requires.1 }
 
-returns : tie.Need-returns
+returns-then-not-is_done : tie.Need-returns-then-not-is_done
 unfolding information_of
-returns c = let none = (inverted c.before).none (not-true _ c.if1.true) in rw none.1 (gives_none refl)
+returns-then-not-is_done c = let none = (inverted c.before).none c.if-not-is_done.true in rw none.1 (gives_none refl)
 
 -- the state has d entries
 state-long : (c : tie.Start) → length (track_state c.args.d c.args.v.now) ≡ c.args.d
 unfolding fields
 state-long c = length-take-le c.args.d c.args.v.now (omega (arith, c.requires.0.long))
 
-returns-2 : tie.Need-returns-2
+returns : tie.Need-returns
 unfolding information_of
-returns-2 c =
-    let call = c.before.before in
-    let done = call.before.before.before.before.before in
-    let start = start_of done in
+returns c =
+    let call = c in
+    let done = call in
+    let start = start_of c.before.before.before.before.before in
     let x = start.args in
-    let inv = done.before.before.before.mat-inv in
-    let m = inv.new.1.1.0 in
-    let met = times_asked x.d m (take x.d x.v.now) x.y.now start.pre.0.sided (inv.auto.1.1.0 ∙ start.pre.2.matrix) (state-long start) start.pre.2.vector in
-    rw ((inverted done).one (not-false _ call.before.before.before.before.if1.false))
-    (gives_one (ap (λ (y : List Float). answered (information m y)) (sym (call_leaves (mat_vec_mul m (take x.d x.v.now) x.d x.y.now) x.y.now met call.mat-vec-mul.ensures))))
+    let inv = done.mat_inv in
+    let m = inv.new.out in
+    let met = times_asked x.d m (take x.d x.v.now) x.y.now start.requires.0.sided (inv.auto.out ∙ start.requires.2.matrix) (state-long start) start.requires.2.vector in
+    rw ((inverted c.before.before.before.before.before).one call.if-not-is_done.false)
+    (gives_one (ap (λ (y : List Float). answered (information m y)) (sym (call_leaves (mat_vec_mul m (take x.d x.v.now) x.d x.y.now) x.y.now met call.mat_vec_mul.ensures))))
 
-pub information-spec : {M : Type 1} → statement M
-information-spec =
+pub information_spec : {M : Type 1} → statement M
+information_spec =
     tie.close
-    (tie.spec track-covariance-requires (λ c κs. search rules) (λ c κs. search rules) (λ c. search rules) (λ c. search rules) returns
-    (λ c. sym (state-long (start_of c.before.before.before))) (λ c κs. search rules) (λ c. search rules) (λ c. search rules) (λ c. search rules) returns-2)
+    (tie.spec track_covariance-requires (λ c κs. search rules) (λ c κs. search rules) (λ c. search rules) (λ c. search rules) returns-then-not-is_done
+    (λ c. sym (state-long (start_of c.before))) (λ c κs. search rules) (λ c. search rules) (λ c. search rules) (λ c. search rules) returns)

@@ -9,23 +9,23 @@ use Rattle.dense.proofs.Entries.{EntryByEntry, no_entry, entry_old, entry-writte
 use Rattle.fusion.proofs.information.subtract.Statement.{statement}
 use Rattle.fusion.proofs.information.subtract.Tie as tie
 
-abbrev invariant-loop : tie.invariant-loop
-invariant-loop x n y₀ i₀ y i = EntryByEntry (λ q. sub (nth y₀ q) (nth x q)) n y₀ i y
+abbrev invariant-loop-i : tie.invariant-loop-i
+invariant-loop-i x n y₀ i₀ y i = EntryByEntry (λ q. sub (nth y₀ q) (nth x q)) n y₀ i y
 
-abbrev decreases-loop : tie.decreases-loop
-decreases-loop x n y₀ i₀ y i = n - i
+abbrev decreases-loop-i : tie.decreases-loop-i
+decreases-loop-i x n y₀ i₀ y i = n - i
 
-loop-again : tie.Need-loop-preserved invariant-loop decreases-loop
-loop-again c =
-    let held = c.before.before.before in
-    let inv = held.loop.invariant in
-    entry-written inv c.before.before.loop-test.true (ap (λ (v : Float). sub v (nth held.before.args.x.now held.loop.i)) (entry_old inv))
+loop-i-preserved : tie.Need-loop-i-preserved invariant-loop-i decreases-loop-i
+loop-i-preserved c =
+    let held = c in
+    let inv = held.loop-i.invariant in
+    entry-written inv c.loop-i-test.true (ap (λ (v : Float). sub v (nth held.args.x.now held.loop-i.i)) (entry_old inv))
 
-returns : tie.Need-returns invariant-loop decreases-loop
-returns c = every_entry c.before.loop.invariant c.loop-test.false
+returns : tie.Need-returns invariant-loop-i decreases-loop-i
+returns c = every_entry c.loop-i.invariant c.loop-i-test.false
 
-pub subtract-spec : {M : Type 1} → statement M
-subtract-spec =
+pub subtract_spec : {M : Type 1} → statement M
+subtract_spec =
     tie.close
-    (tie.spec invariant-loop decreases-loop (λ c. no_entry c.requires.1) (λ c. omega arith) (λ c. omega arith) (λ c. omega arith) (λ c. omega arith) (λ c. omega arith) (λ c. omega arith)
-    (λ c. omega arith) (λ c. omega arith) loop-again (λ c. c.before.loop.invariant.entries.size) returns)
+    (tie.spec invariant-loop-i decreases-loop-i (λ c. no_entry c.requires.1) (λ c. omega arith) (λ c. omega arith) (λ c. omega arith) (λ c. omega arith) (λ c. omega arith) (λ c. omega arith)
+    (λ c. omega arith) (λ c. omega arith) loop-i-preserved (λ c. c.loop-i.invariant.entries.size) returns)

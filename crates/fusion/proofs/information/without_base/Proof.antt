@@ -8,21 +8,21 @@ use Rattle.fusion.proofs.information.without_base.Statement.{statement}
 use Rattle.fusion.proofs.information.without_base.Tie as tie
 
 -- where base has told
-abbrev call : tie.After-slice-known8 → tie.After-information
+abbrev call : tie.After-slice_known-8-1 → tie.After-information
 call c = c.before.before.before.before.before.before
 
+returns-then-not-information : tie.Need-returns-then-not-information
+returns-then-not-information c = let none = (call c.before).information.ensures.none c.if-not-information.true in rw none.1 (gives_none refl)
+
 returns : tie.Need-returns
-returns c = let none = (call c.before).information.ensures.none (not-true _ c.if1.true) in rw none.1 (gives_none refl)
+returns c =
+    let less = c in
+    let matrix = less in
+    let told = matrix in
+    rw ((call c.before.before.before.before.before.before.before.before.before).information.ensures.one told.if-not-information.false) (gives_one (ap answered (informed matrix.subtract.ensures less.subtract-2.ensures)))
 
-returns-2 : tie.Need-returns-2
-returns-2 c =
-    let less = c.before.before in
-    let matrix = less.before.before.before.before.before in
-    let told = matrix.before.before.before in
-    rw ((call told.before).information.ensures.one (not-false _ told.if1.false)) (gives_one (ap answered (informed matrix.subtract.ensures less.subtract2.ensures)))
-
-pub without-base-spec : {M : Type 1} → statement M
-without-base-spec =
+pub without_base_spec : {M : Type 1} → statement M
+without_base_spec =
     tie.close
-    (tie.spec (λ c κs. search rules) (λ c. search rules) (λ c. search rules) (λ c. search rules) returns (λ c. search rules) (λ c κs. search rules) (λ c κs. search rules)
-    (λ c. search rules) (λ c. search rules) (λ c. search rules) (λ c. search rules) (λ c. search rules) returns-2)
+    (tie.spec (λ c κs. search rules) (λ c. search rules) (λ c. search rules) (λ c. search rules) returns-then-not-information (λ c. search rules) (λ c κs. search rules) (λ c κs. search rules)
+    (λ c. search rules) (λ c. search rules) (λ c. search rules) (λ c. search rules) (λ c. search rules) returns)

@@ -11,25 +11,25 @@ use Rattle.fusion.proofs.track.write_finite.Statement.{statement}
 use Rattle.fusion.proofs.track.write_finite.Tie as tie
 
 -- the state is finite
-finite-state : (c : tie.Else1) → let x = c.before.before.before.before.before.args in finite_entries x.x.now x.d ≡ true
-finite-state c = met c.before.are-finite.ensures c.if1.false
+finite-state : (c : tie.Else-not-are_finite) → let x = c.args in finite_entries x.x.now x.d ≡ true
+finite-state c = met c.are_finite.ensures c.if-not-are_finite.false
+
+returns-then-not-are_finite : tie.Need-returns-then-not-are_finite
+unfolding is_finite
+returns-then-not-are_finite c = rw (unmet c.are_finite.ensures c.if-not-are_finite.true)
+
+returns-then-not-are_finite-2 : tie.Need-returns-then-not-are_finite-2
+unfolding is_finite
+returns-then-not-are_finite-2 c = rw (finite-state c.before.before, unmet c.are_finite-2.ensures c.if-not-are_finite-2.true)
 
 returns : tie.Need-returns
 unfolding is_finite
-returns c = rw (unmet c.before.are-finite.ensures c.if1.true)
+returns c =
+    let call = c in
+    let finite = call in
+    rw (finite-state c.before.before.before.before.before.before, met finite.are_finite-2.ensures finite.if-not-are_finite-2.false) (ap (λ (v : List Float). (true, v)) call.write_fields.ensures)
 
-returns-2 : tie.Need-returns-2
-unfolding is_finite
-returns-2 c = rw (finite-state c.before.before, unmet c.before.are-finite2.ensures c.if2.true)
-
-returns-3 : tie.Need-returns-3
-unfolding is_finite
-returns-3 c =
-    let call = c.before.before in
-    let finite = call.before.before in
-    rw (finite-state finite.before.before, met finite.before.are-finite2.ensures finite.if2.false) (ap (λ (v : List Float). (true, v)) call.write-fields.ensures)
-
-pub write-finite-spec : {M : Type 1} → statement M
-write-finite-spec =
+pub write_finite_spec : {M : Type 1} → statement M
+write_finite_spec =
     tie.close
-    (tie.spec (λ c κs. search rules) returns (λ c. search rules) (λ c κs. search rules) returns-2 (λ c κs. search rules) (λ c. search rules) returns-3)
+    (tie.spec (λ c κs. search rules) returns-then-not-are_finite (λ c. search rules) (λ c κs. search rules) returns-then-not-are_finite-2 (λ c κs. search rules) (λ c. search rules) returns)

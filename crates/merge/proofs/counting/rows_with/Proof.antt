@@ -15,37 +15,37 @@ use Rattle.merge.proofs.counting.rows_with.Tie as tie
 abbrev has : List ℕ → ℕ → ℕ → Bool
 has rows n r = eqb (tracks_in rows r) n
 
-abbrev invariant-loop : tie.invariant-loop
-invariant-loop rows total n count₀ r₀ count r = AfterTurns (λ k. how_many k (has rows n)) total r count
+abbrev invariant-loop-r : tie.invariant-loop-r
+invariant-loop-r rows total n count₀ r₀ count r = AfterTurns (λ k. how_many k (has rows n)) total r count
 
-abbrev decreases-loop : tie.decreases-loop
-decreases-loop rows total n count₀ r₀ count r = total - r
+abbrev decreases-loop-r : tie.decreases-loop-r
+decreases-loop-r rows total n count₀ r₀ count r = total - r
 
 -- no more than the rows so far
-few : (c : tie.At-loop invariant-loop decreases-loop) → c.loop.count ≤ c.loop.r
-few c = let x = c.before.before.args in omega (arith, c.loop.invariant.state, how_many_most c.loop.r (has x.rows.now x.n))
+few : (c : tie.At-loop-r invariant-loop-r decreases-loop-r) → c.loop-r.count ≤ c.loop-r.r
+few c = let x = c.args in omega (arith, c.loop-r.invariant.state, how_many_most c.loop-r.r (has x.rows.now x.n))
 
-loop-holds : tie.Need-loop-init invariant-loop decreases-loop
+loop-r-init : tie.Need-loop-r-init invariant-loop-r decreases-loop-r
 unfolding how_many
-loop-holds c = turns_none refl
+loop-r-init c = turns_none refl
 
-counts : tie.Need-overflow-add-count invariant-loop decreases-loop
-counts c = omega (arith, c.one-if.ensures.1, few c.before.before.before.before.before.before)
+overflow_add-count : tie.Need-overflow_add-count invariant-loop-r decreases-loop-r
+overflow_add-count c = omega (arith, c.one_if-count.ensures.1, few c.before.before.before.before.before.before)
 
-loop-again : tie.Need-loop-preserved invariant-loop decreases-loop
+loop-r-preserved : tie.Need-loop-r-preserved invariant-loop-r decreases-loop-r
 unfolding how_many
-loop-again c =
-    let turn = c.before.before.before.before.before.before in
-    let x = turn.before.before.args in
+loop-r-preserved c =
+    let turn = c in
+    let x = turn.args in
     let test = has x.rows.now x.n in
-    let one = c.one-if.ensures.0 ∙ ap (λ (k : ℕ). cond (eqb k x.n) 1 0) c.before.tracks-among.ensures in
-    turns_more turn.loop.invariant (omega arith) (λ e. ap (λ (k : ℕ). turn.loop.count + k) one ∙ ap (λ (k : ℕ). k + cond (test turn.loop.r) 1 0) e)
+    let one = c.one_if-count.ensures.0 ∙ ap (λ (k : ℕ). cond (eqb k x.n) 1 0) c.tracks_among.ensures in
+    turns_more turn.loop-r.invariant (omega arith) (λ e. ap (λ (k : ℕ). turn.loop-r.count + k) one ∙ ap (λ (k : ℕ). k + cond (test turn.loop-r.r) 1 0) e)
 
-returns : tie.Need-returns invariant-loop decreases-loop
-returns c = turns_all c.before.loop.invariant c.loop-test.false
+returns : tie.Need-returns invariant-loop-r decreases-loop-r
+returns c = turns_all c.loop-r.invariant c.loop-r-test.false
 
-pub rows-with-spec : {M : Type 1} → statement M
-rows-with-spec =
+pub rows_with_spec : {M : Type 1} → statement M
+rows_with_spec =
     tie.close
-    (tie.spec invariant-loop decreases-loop loop-holds (λ c. omega arith) (λ c. omega arith) (λ c. omega arith) (λ c. omega arith) (λ c. omega arith) (λ c. omega arith) (λ c. omega arith) (λ c. omega arith)
-    (λ c κs. search rules) (λ c κs. search rules) counts (λ c. omega arith) (λ c. omega arith) loop-again returns)
+    (tie.spec invariant-loop-r decreases-loop-r loop-r-init (λ c. omega arith) (λ c. omega arith) (λ c. omega arith) (λ c. omega arith) (λ c. omega arith) (λ c. omega arith) (λ c. omega arith) (λ c. omega arith)
+    (λ c κs. search rules) (λ c κs. search rules) overflow_add-count (λ c. omega arith) (λ c. omega arith) loop-r-preserved returns)

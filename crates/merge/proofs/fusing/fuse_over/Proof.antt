@@ -12,54 +12,54 @@ use Rattle.merge.proofs.fusing.fuse_over.Statement.{statement}
 use Rattle.merge.proofs.fusing.fuse_over.Tie as tie
 
 -- the places, each from a later one
-abbrev entered : tie.After-out → tie.Start
-entered c = c.before.before.before.before.before.before
+abbrev entered : tie.After-out-1 → tie.Start
+entered c = c.before.before.before.before.before
 
-abbrev lent : tie.Else1 → tie.After-out
+abbrev lent : tie.Else-not-fuse_tracks → tie.After-out-1
 lent c = c.before.before.before
 
 -- the fusion
 abbrev o : tie.Start → Fusing
 o c = let x = c.args in fused x.d x.floor x.base.now x.ours.now x.theirs.now
 
-fuse-tracks-requires : tie.Need-fuse-tracks-requires
-fuse-tracks-requires c κs =
+fuse_tracks-requires : tie.Need-fuse_tracks-requires
+fuse_tracks-requires c κs =
     let w = (entered c).requires.0 in
-    let f = c.before.before.fields.ensures in
+    let f = c.fields-f.ensures in
     record { of_base = w.of_base; of_ours = w.of_ours; of_theirs = w.of_theirs; room = record { sided = w.room.sided; long = length-take-le _ _ f.1 ∙ f.0 } }
 
-returns : tie.Need-returns
-returns c =
-    let call = c.before.before in
-    let s = entered call.before in
-    rw (not_left (o s) _ call.fuse-tracks.ensures (not-true _ c.if1.true))
+returns-then-not-fuse_tracks : tie.Need-returns-then-not-fuse_tracks
+returns-then-not-fuse_tracks c =
+    let call = c in
+    let s = entered c.before.before.before in
+    rw (not_left (o s) _ call.fuse_tracks.ensures c.if-not-fuse_tracks.true)
 
 -- the part of the array that was lent is as long as a track
-long : (c : tie.Else1) → length c.before.before.fuse-tracks.new.1.1.1.1.1.0 ≡ (lent c).before.before.fields.result
-long c = c.before.before.fuse-tracks.auto.1.1.1.1.1.0 ∙ length-take-le _ _ (lent c).before.before.fields.ensures.1
+long : (c : tie.Else-not-fuse_tracks) → length c.fuse_tracks.new.out ≡ (lent c).fields-f.result
+long c = c.fuse_tracks.auto.out ∙ length-take-le _ _ (lent c).fields-f.ensures.1
 
-part-fits : tie.Need-array-share-prefix-out
-part-fits c =
-    let f = (lent c).before.before.fields in
-    let w = c.before.before.fuse-tracks in
-    omega (arith, f.ensures.1, length_front _ w.new.1.1.1.1.1.0 f.result w.auto.1.1.1.1.1.0)
+slice_bounds-out-end-2 : tie.Need-slice_bounds-out-end-2
+slice_bounds-out-end-2 c =
+    let f = (lent c).fields-f in
+    let w = c.fuse_tracks in
+    omega (arith, f.ensures.1, length_front _ w.new.out f.result w.auto.out)
 
 copy-requires : tie.Need-copy-requires
 copy-requires c κs =
-    let e = c.before.before in
-    let k = lent e in
-    (length-take-le _ _ (part-fits e), (entered k).pre.0.of_base.long ∙ sym k.before.before.fields.ensures.0)
+    let e = c in
+    let k = lent c.before.before in
+    (length-take-le _ _ (slice_bounds-out-end-2 e), (entered k).requires.0.of_base.long ∙ sym k.fields-f.ensures.0)
 
-returns-2 : tie.Need-returns-2
-returns-2 c =
-    let call = c.before.before in
-    let e = call.before.before.before in
-    let w = e.before.before.fuse-tracks in
-    let copied = call.copy.ensures ∙ take_at w.new.1.1.1.1.1.0 _ _ (long e) in
-    rw (is_left (o (entered (lent e))) _ w.ensures (not-false _ e.if1.false)) (λ x. (true, copied x))
+returns : tie.Need-returns
+returns c =
+    let call = c in
+    let e = call in
+    let w = e.fuse_tracks in
+    let copied = call.copy.ensures ∙ take_at w.new.out _ _ (long c.before.before.before.before.before) in
+    rw (is_left (o (entered (lent c.before.before.before.before.before))) _ w.ensures e.if-not-fuse_tracks.false) (λ x. (true, copied x))
 
-pub fuse-over-spec : {M : Type 1} → statement M
-fuse-over-spec =
+pub fuse_over_spec : {M : Type 1} → statement M
+fuse_over_spec =
     tie.close
-    (tie.spec (λ c κs. search rules) (λ c. search rules) (λ c. sym (length-take-le _ _ c.before.before.fields.ensures.1)) fuse-tracks-requires (λ c. search rules) returns
-    part-fits (λ c. sym (length-take-le _ _ (part-fits c.before))) copy-requires (λ c. search rules) returns-2)
+    (tie.spec (λ c κs. search rules) (λ c. search rules) (λ c. sym (length-take-le _ _ c.fields-f.ensures.1)) fuse_tracks-requires (λ c. search rules) returns-then-not-fuse_tracks
+    slice_bounds-out-end-2 (λ c. sym (length-take-le _ _ (slice_bounds-out-end-2 c.before))) copy-requires (λ c. search rules) returns)

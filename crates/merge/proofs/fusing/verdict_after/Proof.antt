@@ -19,80 +19,80 @@ use Rattle.merge.proofs.fusing.verdict_after.Statement.{statement}
 use Rattle.merge.proofs.fusing.verdict_after.Tie as tie
 
 -- the places, each from a later one
-abbrev entered : tie.Else3 → tie.Start
+abbrev entered : tie.Else-k-eq-NO_TRACK → tie.Start
 entered c = c.before.before.before.before.before.before
 
-abbrev full : tie.After-fuse-over → tie.Else3
+abbrev full : tie.After-fuse_over → tie.Else-k-eq-NO_TRACK
 full c = c.before.before.before.before.before
 
 -- the three tests
-tests : (c : tie.Else3) → let x = (entered c).args in (eqb x.v 4 ≡ true) × (is_track x.j ≡ true) × (is_track x.k ≡ true)
-tests c = (eq-eqb _ 4 c.before.before.if1.false, ap not (ne_eqb _ 255 c.before.if2.false), ap not (ne_eqb _ 255 c.if3.false))
+tests : (c : tie.Else-k-eq-NO_TRACK) → let x = (entered c).args in (eqb x.v 4 ≡ true) × (is_track x.j ≡ true) × (is_track x.k ≡ true)
+tests c = (eq-eqb _ 4 c.if-v-ne-CONFLICT.false, ap not (ne_eqb _ 255 c.if-j-eq-NO_TRACK.false), ap not (ne_eqb _ 255 c.if-k-eq-NO_TRACK.false))
 
-row-requires : tie.Need-row-requires
-row-requires c κs =
-    let e = c.before in
-    let x = (entered e).args in
-    subst (λ (f : ℕ). x.j * f + f ≤ length x.ours-values.now) (sym c.fields.ensures.0) ((entered e).requires.of_ours (tests e).1)
+row-o-requires : tie.Need-row-o-requires
+row-o-requires c κs =
+    let e = c in
+    let x = (entered c.before).args in
+    subst (λ (f : ℕ). x.j * f + f ≤ length x.ours_values.now) (sym c.fields-f.ensures.0) ((entered c.before).requires.of_ours (tests c.before).1)
 
-row-requires-2 : tie.Need-row-requires-2
-row-requires-2 c κs =
-    let e = c.before.before in
-    let x = (entered e).args in
-    subst (λ (f : ℕ). x.k * f + f ≤ length x.theirs-values.now) (sym c.before.fields.ensures.0) ((entered e).requires.of_theirs (tests e).2)
+row-t-requires : tie.Need-row-t-requires
+row-t-requires c κs =
+    let e = c in
+    let x = (entered c.before.before).args in
+    subst (λ (f : ℕ). x.k * f + f ≤ length x.theirs_values.now) (sym c.fields-f.ensures.0) ((entered c.before.before).requires.of_theirs (tests c.before.before).2)
 
-fuse-over-requires : tie.Need-fuse-over-requires
-fuse-over-requires c κs =
-    let k = c.before.before.before in
-    let w = (entered k.before).requires in
-    let f = k.fields.ensures.0 in
+fuse_over-requires : tie.Need-fuse_over-requires
+fuse_over-requires c κs =
+    let k = c in
+    let w = (entered c.before.before.before.before).requires in
+    let f = k.fields-f.ensures.0 in
     let own : HasFields _ _ = record { sided = w.sided; long = w.of_base } in (
       record {
         of_base = own;
-        of_ours = record { sided = w.sided; long = c.before.before.row.ensures.0 ∙ f };
-        of_theirs = record { sided = w.sided; long = c.before.row2.ensures.0 ∙ f };
+        of_ours = record { sided = w.sided; long = c.row-o.ensures.0 ∙ f };
+        of_theirs = record { sided = w.sided; long = c.row-t.ensures.0 ∙ f };
         room = own;
       },
       w.few,
     )
 
 -- the fusion that was tried
-abbrev fusion-at : tie.Else3 → Fusing
-fusion-at c = let x = (entered c).args in fusion_of x.d x.floor x.base.now x.ours-values.now x.j x.theirs-values.now x.k
+abbrev fusion-at : tie.Else-k-eq-NO_TRACK → Fusing
+fusion-at c = let x = (entered c).args in fusion_of x.d x.floor x.base.now x.ours_values.now x.j x.theirs_values.now x.k
 
-tried : (c : tie.After-fuse-over) → (c.fuse-over.result, c.fuse-over.new.0) ≡ left_by (fusion-at (full c)) (entered (full c)).args.base.now
+tried : (c : tie.After-fuse_over) → (c.fuse_over.result, c.fuse_over.new.base) ≡ left_by (fusion-at (full c)) (entered (full c)).args.base.now
 tried c =
     let k = full c in
     let x = (entered k).args in
-    let f = c.before.before.before.before.fields.ensures.0 in
-    c.fuse-over.ensures
+    let f = c.fields-f.ensures.0 in
+    c.fuse_over.ensures
     ∙ (λ z. left_by (fused x.d x.floor x.base.now
-    ((c.before.before.before.row.ensures.1 ∙ ap (λ (n : ℕ). row_of x.ours-values.now n x.j) f) z)
-    ((c.before.before.row2.ensures.1 ∙ ap (λ (n : ℕ). row_of x.theirs-values.now n x.k) f) z)) x.base.now)
+    ((c.row-o.ensures.1 ∙ ap (λ (n : ℕ). row_of x.ours_values.now n x.j) f) z)
+    ((c.row-t.ensures.1 ∙ ap (λ (n : ℕ). row_of x.theirs_values.now n x.k) f) z)) x.base.now)
 
-returns-2 : tie.Need-returns-2
-returns-2 c = rw (eq-eqb _ 4 c.before.if1.false, eq-eqb _ 255 c.if2.true) refl
+returns-then-j-eq-NO_TRACK : tie.Need-returns-then-j-eq-NO_TRACK
+returns-then-j-eq-NO_TRACK c = rw (eq-eqb _ 4 c.if-v-ne-CONFLICT.false, eq-eqb _ 255 c.if-j-eq-NO_TRACK.true) refl
 
-returns-3 : tie.Need-returns-3
-returns-3 c = rw (eq-eqb _ 4 c.before.before.if1.false, ne_eqb _ 255 c.before.if2.false, eq-eqb _ 255 c.if3.true) refl
+returns-then-k-eq-NO_TRACK : tie.Need-returns-then-k-eq-NO_TRACK
+returns-then-k-eq-NO_TRACK c = rw (eq-eqb _ 4 c.if-v-ne-CONFLICT.false, ne_eqb _ 255 c.if-j-eq-NO_TRACK.false, eq-eqb _ 255 c.if-k-eq-NO_TRACK.true) refl
 
-returns-4 : tie.Need-returns-4
-returns-4 c =
-    let call = c.before.before.before in
-    let k = full call in
-    rw ((tests k).0, (tests k).1, (tests k).2, is_left (fusion-at k) _ (tried call) c.if4.true) refl
+returns-then-fuse_over : tie.Need-returns-then-fuse_over
+returns-then-fuse_over c =
+    let call = c in
+    let k = full c.before.before.before in
+    rw ((tests k).0, (tests k).1, (tests k).2, is_left (fusion-at k) _ (tried c.before.before.before) c.if-fuse_over.true) refl
 
-returns-5 : tie.Need-returns-5
-returns-5 c =
-    let call = c.before.before.before in
-    let k = full call in
+returns : tie.Need-returns
+returns c =
+    let call = c in
+    let k = full c.before.before.before in
     let x = (entered k).args in
-    let untold = not_left (fusion-at k) _ (tried call) c.if4.false in
-    let kept = ap (λ (z : Bool × List Float). z.1) (tried call ∙ ap (λ (o : Fusing). left_by o x.base.now) untold) in
+    let untold = not_left (fusion-at k) _ (tried c.before.before.before) c.if-fuse_over.false in
+    let kept = ap (λ (z : Bool × List Float). z.1) (tried c.before.before.before ∙ ap (λ (o : Fusing). left_by o x.base.now) untold) in
     rw ((tests k).0, (tests k).1, (tests k).2, untold) (λ z. (x.v, kept z))
 
-pub verdict-after-spec : {M : Type 1} → statement M
-verdict-after-spec =
+pub verdict_after_spec : {M : Type 1} → statement M
+verdict_after_spec =
     tie.close
-    (tie.spec (λ c. rw (ne_eqb _ 4 c.if1.true) refl) returns-2 returns-3 (λ c κs. search rules) row-requires row-requires-2 fuse-over-requires
-    (λ c. search rules) returns-4 (λ c. search rules) returns-5)
+    (tie.spec (λ c. rw (ne_eqb _ 4 c.if-v-ne-CONFLICT.true) refl) returns-then-j-eq-NO_TRACK returns-then-k-eq-NO_TRACK (λ c κs. search rules) row-o-requires row-t-requires fuse_over-requires
+    (λ c. search rules) returns-then-fuse_over (λ c. search rules) returns)

@@ -13,48 +13,48 @@ use Rattle.merge.proofs.keys.key.Statement.{statement}
 use Rattle.merge.proofs.keys.key.Tie as tie
 
 -- the places on the way
-abbrev filled : tie.After-compare-tracks → tie.After-track-covariance
-filled c = c.before.before.before.before.before
+abbrev filled : tie.After-compare_tracks-c → tie.After-track_covariance
+filled c = c.before.before.before
 
-abbrev entered : tie.After-track-covariance → tie.Start
+abbrev entered : tie.After-track_covariance → tie.Start
 entered c = c.before.before.before.before.before.before
 
 -- the state of the second track
 state : (c : tie.Start) → length (track_state c.args.terms.d c.args.v.now) ≡ c.args.terms.d
 state c = length-state c.args.terms c.requires.track.compares c.args.v.now c.requires.other
 
-room-requires : tie.Need-track-covariance-requires
-room-requires c κs =
-    let s = c.before.before.before.before.before in
+track_covariance-requires : tie.Need-track_covariance-requires
+track_covariance-requires c κs =
+    let s = c in
     covariance-room s.args.terms s.requires.track.compares s.args.v.now s.args.q.now s.requires.other s.requires.track.room
 
-compare-requires : tie.Need-compare-tracks-requires
-compare-requires c κs =
-    let whole = c.before.before.before.before in
-    let s = entered whole in
-    let h = s.pre.track in
+compare_tracks-c-requires : tie.Need-compare_tracks-c-requires
+compare_tracks-c-requires c κs =
+    let whole = c in
+    let s = entered c.before.before in
+    let h = s.requires.track in
     record {
       sided = side_met h.compares;
       state-i = h.state;
       state-j = state s;
       covariance-i = h.covariance;
-      covariance-j = whole.track-covariance.auto.1.1.0 ∙ h.room;
+      covariance-j = whole.track_covariance.auto.out ∙ h.room;
     }
 
 returns : tie.Need-returns
 unfolding compared_with_report
 returns c =
-    let made = c.before in
-    let whole = (filled made).track-covariance in
-    let s = entered (filled made) in
+    let made = c in
+    let whole = (filled c.before).track_covariance in
+    let s = entered (filled c.before) in
     let x = s.args in
     let t = x.terms in
     c.rank.ensures
-    ∙ ap (λ (z : ComparisonReport). rank (candidacy_of z.comparison)) made.compare-tracks.ensures
+    ∙ ap (λ (z : ComparisonReport). rank (candidacy_of z.comparison)) made.compare_tracks-c.ensures
     ∙ ap (λ (q : List Float). rank (candidacy_of (compared x.mu.now (track_state t.d x.v.now) x.p.now q t.d t.floor t.gate)))
     whole.ensures
 
 pub key_spec : {M : Type 1} → statement M
 key_spec =
     tie.close
-    (tie.spec room-requires (λ c. sym (state (entered c.before.before.before))) compare-requires (λ c κs. search rules) (λ c. search rules) returns)
+    (tie.spec track_covariance-requires (λ c. sym (state (entered c.before.before))) compare_tracks-c-requires (λ c κs. search rules) (λ c. search rules) returns)

@@ -17,13 +17,13 @@ use Rattle.merge.proofs.keys.key_row.Statement.{statement}
 use Rattle.merge.proofs.keys.key_row.Tie as tie
 
 -- the places on the way
-abbrev entered : tie.After-slice-known → tie.Start
+abbrev entered : tie.After-slice_known-1 → tie.Start
 entered c = c.before.before.before
 
-abbrev written : tie.After-put-keys-arg → tie.After-track-covariance
-written c = c.before.before
+abbrev written : tie.After-put_keys-arg-1 → tie.After-track_covariance
+written c = c.before.before.before.before
 
-abbrev start_of : tie.After-track-covariance → tie.Start
+abbrev start_of : tie.After-track_covariance → tie.Start
 start_of c = entered c.before.before
 
 -- the square of the dimension
@@ -37,35 +37,35 @@ state c = length-state c.args.terms c.requires.compares c.args.u.now c.requires.
 abbrev covariance : tie.Start → List Float
 covariance c = track_covariance c.args.terms.d c.args.u.now
 
-left : (c : tie.After-track-covariance) → c.track-covariance.new.1.1.0 ≡ covariance (start_of c)
-left c = c.track-covariance.ensures
+left : (c : tie.After-track_covariance) → c.track_covariance.new.out ≡ covariance (start_of c)
+left c = c.track_covariance.ensures
 
-array-share-prefix-p : tie.Need-array-share-prefix-p
-array-share-prefix-p c =
+slice_bounds-p-end-2 : tie.Need-slice_bounds-p-end-2
+slice_bounds-p-end-2 c =
     let d = (start_of (written c)).args.terms.d in
-    let whole = (written c).track-covariance in
-    omega (arith, size (start_of (written c)), length_front _ whole.last.1.1.0 (d * d) whole.kept.1.1.0)
+    let whole = (written c).track_covariance in
+    omega (arith, size (start_of (written c)), length_front _ whole.new.out (d * d) whole.auto.out)
 
-room-requires : tie.Need-track-covariance-requires
-room-requires c κs =
+track_covariance-requires : tie.Need-track_covariance-requires
+track_covariance-requires c κs =
     let s = entered c.before in
-    covariance-room s.args.terms s.pre.compares s.args.u.now _ s.pre.track (length-take-le _ _ (size s))
+    covariance-room s.args.terms s.requires.compares s.args.u.now _ s.requires.track (length-take-le _ _ (size s))
 
-in_front : (c : tie.After-track-covariance) (rest : List Float)
+in_front : (c : tie.After-track_covariance) (rest : List Float)
     → let d = (start_of c).args.terms.d in
-    take (d * d) (c.track-covariance.new.1.1.0 ++ rest) ≡ covariance (start_of c)
+    take (d * d) (c.track_covariance.new.out ++ rest) ≡ covariance (start_of c)
 in_front c rest = let x = (start_of c).args in front rest (length-covariance x.terms.d x.u.now) (left c)
 
-length_in_front : (c : tie.After-track-covariance) (rest : List Float)
+length_in_front : (c : tie.After-track_covariance) (rest : List Float)
     → let d = (start_of c).args.terms.d in
-    length (take (d * d) (c.track-covariance.new.1.1.0 ++ rest)) ≡ d * d
+    length (take (d * d) (c.track_covariance.new.out ++ rest)) ≡ d * d
 length_in_front c rest = let x = (start_of c).args in ap length (in_front c rest) ∙ length-covariance x.terms.d x.u.now
 
-put-keys-requires : tie.Need-put-keys-requires
-put-keys-requires c κs =
-    let w = written c.before.before.before in
+put_keys-requires : tie.Need-put_keys-requires
+put_keys-requires c κs =
+    let w = written c in
     let start = start_of w in
-    let h = start.pre in
+    let h = start.requires in
     record {
       track = record { compares = h.compares; state = state start; covariance = length_in_front w _; room = length-take-le _ _ (size start) };
       others = record { few = omega (arith, h.others.few, h.room); long = omega (arith, h.others.long, ap (λ (n : ℕ). n * start.args.terms.f) h.room) };
@@ -73,16 +73,16 @@ put-keys-requires c κs =
 
 returns : tie.Need-returns
 returns c =
-    let made = c.before.before.before in
-    let w = written made.before.before.before.before in
+    let made = c in
+    let w = written c.before.before.before.before in
     let x = (start_of w).args in
-    made.put-keys.ensures
+    made.put_keys.ensures
     ∙ ap (λ (p : List Float). keys_from x.terms (eqb x.first nobody) (track_state x.terms.d x.u.now) p x.vs.now x.partners (length x.keys.now)) (in_front w _)
-    ∙ ap (λ (n : ℕ). keys_from x.terms (eqb x.first nobody) (track_state x.terms.d x.u.now) (covariance (start_of w)) x.vs.now x.partners n) (start_of w).pre.room
+    ∙ ap (λ (n : ℕ). keys_from x.terms (eqb x.first nobody) (track_state x.terms.d x.u.now) (covariance (start_of w)) x.vs.now x.partners n) (start_of w).requires.room
 
-pub key-row-spec : {M : Type 1} → statement M
-key-row-spec =
+pub key_row_spec : {M : Type 1} → statement M
+key_row_spec =
     tie.close
-    (tie.spec (λ c. omega (arith, size (entered c))) (λ c. size (entered c)) (λ c. sym (length-take-le _ _ (size (entered c.before)))) room-requires
-    (λ c. sym (state (start_of (written c)))) array-share-prefix-p (λ c. sym (length_in_front (written c.before) _)) (λ c. size (start_of (written c.before)))
-    (λ c. sym (length-take-le _ _ (size (start_of (written c.before.before))))) put-keys-requires (λ c. search rules) returns)
+    (tie.spec (λ c. omega (arith, size (entered c))) (λ c. size (entered c)) (λ c. sym (length-take-le _ _ (size (entered c.before)))) track_covariance-requires
+    (λ c. sym (state (start_of (written c)))) slice_bounds-p-end-2 (λ c. sym (length_in_front (written c.before) _)) (λ c. size (start_of (written c.before)))
+    (λ c. sym (length-take-le _ _ (size (start_of (written c.before.before))))) put_keys-requires (λ c. search rules) returns)

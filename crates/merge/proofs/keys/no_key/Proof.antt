@@ -8,5 +8,5 @@ returns : tie.Need-returns
 unfolding div of_bits
 returns c = refl
 
-pub no-key-spec : {M : Type 1} → statement M
-no-key-spec = tie.close (tie.spec returns)
+pub no_key_spec : {M : Type 1} → statement M
+no_key_spec = tie.close (tie.spec returns)

@@ -22,32 +22,32 @@ record Before (f : ℕ → Float) (n d : ℕ) (old : List Float) (j : ℕ) (q ne
   room : length q ≡ d * d
   keys : EntryByEntry f n old j new
 
-abbrev invariant-loop : tie.invariant-loop
-invariant-loop mu p first vs terms q₀ keys₀ partners f n j₀ q keys j =
+abbrev invariant-loop-j : tie.invariant-loop-j
+invariant-loop-j mu p first vs terms q₀ keys₀ partners f n j₀ q keys j =
     Before (λ k. cond (eqb first nobody && is_free partners k) (key_from terms mu p (row_of vs terms.f k)) nan) n terms.d keys₀ j q keys
 
-abbrev decreases-loop : tie.decreases-loop
-decreases-loop mu p first vs terms q₀ keys₀ partners f n j₀ q keys j = n - j
+abbrev decreases-loop-j : tie.decreases-loop-j
+decreases-loop-j mu p first vs terms q₀ keys₀ partners f n j₀ q keys j = n - j
 
-abbrev entered : tie.At-loop invariant-loop decreases-loop → tie.Start invariant-loop decreases-loop
+abbrev entered : tie.At-loop-j invariant-loop-j decreases-loop-j → tie.Start invariant-loop-j decreases-loop-j
 entered c = c.before.before.before.before.before.before
 
-loop-holds : tie.Need-loop-init invariant-loop decreases-loop
-loop-holds c = let p = c.before.before.before.before.before.requires in record { room = p.track.room; keys = no_entry refl }
+loop-j-init : tie.Need-loop-j-init invariant-loop-j decreases-loop-j
+loop-j-init c = let p = c.requires in record { room = p.track.room; keys = no_entry refl }
 
-row-requires : tie.Need-row-requires invariant-loop decreases-loop
-row-requires c κs =
-    let turn = c.before.before.before in
-    let s = entered turn in
-    omega (arith, row_within (length s.args.keys.now) s.args.terms.f {i = turn.loop.j} (omega arith), s.pre.others.long)
+row-v-requires : tie.Need-row-v-requires invariant-loop-j decreases-loop-j
+row-v-requires c κs =
+    let turn = c in
+    let s = entered c.before.before.before in
+    omega (arith, row_within (length s.args.keys.now) s.args.terms.f {i = turn.loop-j.j} (omega arith), s.requires.others.long)
 
-key-requires : tie.Need-key-requires invariant-loop decreases-loop
+key-requires : tie.Need-key-requires invariant-loop-j decreases-loop-j
 key-requires c κs =
-    let turn = c.before.before.before.before.before in
-    let h = (entered turn).requires.track in
+    let turn = c in
+    let h = (entered c.before.before.before.before.before).requires.track in
     record {
-      track = record { compares = h.compares; state = h.state; covariance = h.covariance; room = turn.loop.invariant.room };
-      other = c.before.row.ensures.0;
+      track = record { compares = h.compares; state = h.state; covariance = h.covariance; room = turn.loop-j.invariant.room };
+      other = c.row-v.ensures.0;
     }
 
 -- a key that is stored, of two free tracks or of others
@@ -60,28 +60,28 @@ of_free e t h = rw (sym e ∙ t) h
 of_others : {r b : Bool} (k : Float) {v : Float} → r ≡ b → r ≡ false → v ≡ nan → v ≡ cond b k nan
 of_others k e t h = rw (sym e ∙ t) h
 
-loop-again : tie.Need-loop-preserved invariant-loop decreases-loop
-loop-again c =
-    let free = c.before in
-    let in-loop = free.before in
-    let x = (entered in-loop.before).args in
-    let v = in-loop.before.loop.invariant in
-    let h = in-loop.loop-test.true in
-    let e = free.both-free.ensures in
+loop-j-preserved : tie.Need-loop-j-preserved invariant-loop-j decreases-loop-j
+loop-j-preserved c =
+    let free = c in
+    let in-loop = free in
+    let x = (entered c.before.before.before).args in
+    let v = in-loop.loop-j.invariant in
+    let h = in-loop.loop-j-test.true in
+    let e = free.both_free.ensures in
     ⊎_elim
     (λ w. record {
       room = ap length w.6 ∙ w.3.kept.1.1.1.1.0 ∙ v.room;
       keys = stored v.keys h w.7 (of_free e w.0.taken (w.3.ensures ∙ ap (key_from x.terms x.mu.now x.p.now) w.1.ensures.1));
     })
     (λ w. record { room = ap length w.2 ∙ v.room; keys = stored v.keys h w.3 (of_others _ e w.0.left w.1.ensures) })
-    c.if1.branch
+    c.if-both_free.branch
 
-returns : tie.Need-returns invariant-loop decreases-loop
-returns c = every_entry c.before.loop.invariant.keys c.loop-test.false
+returns : tie.Need-returns invariant-loop-j decreases-loop-j
+returns c = every_entry c.loop-j.invariant.keys c.loop-j-test.false
 
-pub put-keys-spec : {M : Type 1} → statement M
-put-keys-spec =
+pub put_keys_spec : {M : Type 1} → statement M
+put_keys_spec =
     tie.close
-    (tie.spec invariant-loop decreases-loop loop-holds (λ c. omega (arith, (entered c.before).pre.others.few)) (λ c κs. search rules) row-requires key-requires (λ c. omega arith) (λ c. omega arith)
-    (λ c κs. search rules) (λ c. omega arith) (λ c. omega arith) (λ c. omega arith) (λ c. omega arith) loop-again
-    (λ c. c.before.loop.invariant.room ∙ sym (entered c.before).pre.track.room) (λ c. c.before.loop.invariant.keys.entries.size) returns)
+    (tie.spec invariant-loop-j decreases-loop-j loop-j-init (λ c. omega (arith, (entered c.before).requires.others.few)) (λ c κs. search rules) row-v-requires key-requires (λ c. omega arith) (λ c. omega arith)
+    (λ c κs. search rules) (λ c. omega arith) (λ c. omega arith) (λ c. omega arith) (λ c. omega arith) loop-j-preserved
+    (λ c. c.loop-j.invariant.room ∙ sym (entered c.before).requires.track.room) (λ c. c.loop-j.invariant.keys.entries.size) returns)

@@ -10,10 +10,10 @@ use Rattle.merge.proofs.keys.rank.Tie as tie
 ranked : {x y : Comparison} → x ≡ y → rank (candidacy_of y) ≡ rank (candidacy_of x)
 ranked e = ap (λ (z : Comparison). rank (candidacy_of z)) (sym e)
 
-pub rank-spec : {M : Type 1} → statement M
-rank-spec =
+pub rank_spec : {M : Type 1} → statement M
+rank_spec =
     tie.close
     (tie.spec (λ c. search rules) (λ c. search rules) (λ c κs. search rules) (λ c. search rules) (λ c κs. search rules)
-    (λ c. ranked c.before.c.given.1)
-    (λ c. c.no_key.ensures ∙ ranked c.before.enum_told.given.1)
-    (λ c. c.no-key2.ensures ∙ ranked c.before.enum-told2.given.1))
+    (λ c. ranked c.in-Near.is)
+    (λ c. c.no_key.ensures ∙ ranked c.in-Far.is)
+    (λ c. c.no_key-in-NoDistance.ensures ∙ ranked c.in-NoDistance.is))

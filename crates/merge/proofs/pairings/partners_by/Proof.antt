@@ -14,22 +14,22 @@ use Rattle.merge.proofs.pairings.partners_by.Tie as tie
 in_front : (c : tie.Start) → length (take (c.args.m * c.args.n) c.args.keys.now) ≡ c.args.m * c.args.n
 in_front c = length-take-le _ c.args.keys.now c.requires.long
 
-requires : tie.Need-pair-tracks-requires
-requires c κs =
-    let s = c.before.before.before.before in
+pair_tracks-requires : tie.Need-pair_tracks-requires
+pair_tracks-requires c κs =
+    let s = c in
     let p = s.requires in
-    (p.few-firsts, p.few-seconds, record { all_keys = in_front s; all_firsts = new_long p.few-firsts; all_seconds = new_long p.few-seconds })
+    (p.few-firsts, p.few-seconds, record { all_keys = in_front c.before.before.before; all_firsts = new_long p.few-firsts; all_seconds = new_long p.few-seconds })
 
 returns : tie.Need-returns
 returns c =
-    let made = c.before.before in
-    let s = made.before.before.before.before.before in
+    let made = c in
+    let s = made in
     let x = s.args in
-    tables-front (from_keys (take (x.m * x.n) x.keys.now) x.m x.n) _ _ made.pair-tracks.ensures.0 made.pair-tracks.ensures.1
+    tables-front (from_keys (take (x.m * x.n) x.keys.now) x.m x.n) _ _ made.pair_tracks.ensures.0 made.pair_tracks.ensures.1
 
-pub partners-by-spec : {M : Type 1} → statement M
-partners-by-spec =
+pub partners_by_spec : {M : Type 1} → statement M
+partners_by_spec =
     tie.close
-    (tie.spec (λ c. omega (arith, mul-le-mul c.before.requires.few-firsts c.before.requires.few-seconds)) (λ c. sym (in_front c.before.before))
-    (λ c. c.before.before.requires.few-firsts) (λ c. sym (new_long c.before.before.before.requires.few-firsts)) (λ c. c.before.before.before.requires.few-seconds)
-    (λ c. sym (new_long c.before.before.before.before.requires.few-seconds)) requires returns)
+    (tie.spec (λ c. omega (arith, mul-le-mul c.requires.few-firsts c.requires.few-seconds)) (λ c. sym (in_front c.before))
+    (λ c. c.requires.few-firsts) (λ c. sym (new_long c.requires.few-firsts)) (λ c. c.requires.few-seconds)
+    (λ c. sym (new_long c.requires.few-seconds)) pair_tracks-requires returns)

@@ -4,11 +4,11 @@ use borrow.Author.Tests.{eq-eqb, ne_eqb}
 use Rattle.merge.proofs.questions.one_dimension.Statement.{statement}
 use Rattle.merge.proofs.questions.one_dimension.Tie as tie
 
-returns-2 : tie.Need-returns-2
-returns-2 c = rw (eq-eqb _ _ c.before.before.if1.false, ne_eqb _ _ c.if2.true) refl
+returns-then-sizes-theirs_d : tie.Need-returns-then-sizes-theirs_d
+returns-then-sizes-theirs_d c = rw (eq-eqb _ _ c.if-sizes-ours_d.false, ne_eqb _ _ c.if-sizes-theirs_d.true) refl
 
-returns-3 : tie.Need-returns-3
-returns-3 c = rw (eq-eqb _ _ c.before.before.if1.false, eq-eqb _ _ c.if2.false) refl
+returns : tie.Need-returns
+returns c = rw (eq-eqb _ _ c.if-sizes-ours_d.false, eq-eqb _ _ c.if-sizes-theirs_d.false) refl
 
-pub one-dimension-spec : {M : Type 1} → statement M
-one-dimension-spec = tie.close (tie.spec (λ c. rw (ne_eqb _ _ c.if1.true) refl) returns-2 returns-3)
+pub one_dimension_spec : {M : Type 1} → statement M
+one_dimension_spec = tie.close (tie.spec (λ c. rw (ne_eqb _ _ c.if-sizes-ours_d.true) refl) returns-then-sizes-theirs_d returns)

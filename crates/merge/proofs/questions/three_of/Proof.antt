@@ -5,25 +5,25 @@ use Rattle.merge.proofs.questions.three_of.Statement.{statement}
 use Rattle.merge.proofs.questions.three_of.Tie as tie
 
 -- the place where theirs is looked at, from the places after it
-abbrev of_ours : tie.After-known-told4 → tie.After-base2
+abbrev of_ours : tie.In-Read-ours → tie.In-Read-2
 of_ours c = c.before.before.before.before
 
-returns : tie.Need-returns
-returns c = rw c.before.base.given.1 refl
+returns-in-Refused : tie.Need-returns-in-Refused
+returns-in-Refused c = rw c.in-Refused.is refl
 
-returns-2 : tie.Need-returns-2
-returns-2 c = rw (c.before.before.before.before.base2.given.1, c.before.ours.given.1) refl
+returns-in-Refused-ours : tie.Need-returns-in-Refused-ours
+returns-in-Refused-ours c = rw (c.in-Read.is, c.in-Refused-ours.is) refl
 
-returns-3 : tie.Need-returns-3
-returns-3 c = let k = c.before.before.before in rw ((of_ours k).base2.given.1, k.before.ours2.given.1, c.before.theirs.given.1) refl
+returns-in-Refused-theirs : tie.Need-returns-in-Refused-theirs
+returns-in-Refused-theirs c = let k = c in rw ((of_ours c.before).in-Read.is, k.in-Read-ours.is, c.in-Refused-theirs.is) refl
 
-returns-4 : tie.Need-returns-4
-returns-4 c =
-    let k = c.before.before.before.before in
-    rw ((of_ours k).base2.given.1, k.before.ours2.given.1, c.before.before.theirs2.given.1) c.one_dimension_lem.ensures
+returns-in-Read-theirs : tie.Need-returns-in-Read-theirs
+returns-in-Read-theirs c =
+    let k = c in
+    rw ((of_ours c.before.before).in-Read.is, k.in-Read-ours.is, c.in-Read-theirs.is) c.one_dimension.ensures
 
-pub three-of-spec : {M : Type 1} → statement M
-three-of-spec =
+pub three_of_spec : {M : Type 1} → statement M
+three_of_spec =
     tie.close
     (tie.spec (λ c. search rules) (λ c. search rules) (λ c. search rules) (λ c. search rules) (λ c. search rules) (λ c. search rules) (λ c κs. search rules)
-    returns returns-2 returns-3 returns-4)
+    returns-in-Refused returns-in-Refused-ours returns-in-Refused-theirs returns-in-Read-theirs)

@@ -10,42 +10,42 @@ use Rattle.merge.proofs.Buffers.Appending.{Growing, no_turn, tabulated_turn, eve
 use Rattle.merge.proofs.rows.base_rows.Statement.{statement}
 use Rattle.merge.proofs.rows.base_rows.Tie as tie
 
-abbrev invariant-loop : tie.invariant-loop
-invariant-loop m rows₀ ours-of theirs-of i₀ rows i = Growing (base_group ours-of theirs-of) m 0 rows₀ i i rows
+abbrev invariant-loop-i : tie.invariant-loop-i
+invariant-loop-i m rows₀ ours-of theirs-of i₀ rows i = Growing (base_group ours-of theirs-of) m 0 rows₀ i i rows
 
-abbrev decreases-loop : tie.decreases-loop
-decreases-loop m rows₀ ours-of theirs-of i₀ rows i = m - i
+abbrev decreases-loop-i : tie.decreases-loop-i
+decreases-loop-i m rows₀ ours-of theirs-of i₀ rows i = m - i
 
 -- the places, each from a later one
-abbrev begun : tie.At-loop invariant-loop decreases-loop → tie.Start invariant-loop decreases-loop
+abbrev begun : tie.At-loop-i invariant-loop-i decreases-loop-i → tie.Start invariant-loop-i decreases-loop-i
 begun c = c.before.before.before.before
 
 -- the row of a base track
-abbrev at_row : tie.Start invariant-loop decreases-loop → ℕ → Row
-at_row c i = let x = c.args in undecided_row i (get_or x.base_ours_lem.firsts i 0) (get_or x.base_theirs_lem.firsts i 0)
+abbrev at_row : tie.Start invariant-loop-i decreases-loop-i → ℕ → Row
+at_row c i = let x = c.args in undecided_row i (get_or x.base_ours.firsts i 0) (get_or x.base_theirs.firsts i 0)
 
-loop-holds : tie.Need-loop-init invariant-loop decreases-loop
+loop-i-init : tie.Need-loop-i-init invariant-loop-i decreases-loop-i
 unfolding tabulate
-loop-holds c = no_turn refl
+loop-i-init c = no_turn refl
 
-put-row-requires : tie.Need-put-row-requires invariant-loop decreases-loop
-put-row-requires c κs =
-    let turn = c.before.before in
-    let room = (begun turn).requires in
-    (omega (arith, room.few), omega (arith, room.room, turn.loop.invariant.long))
+put_row-requires : tie.Need-put_row-requires invariant-loop-i decreases-loop-i
+put_row-requires c κs =
+    let turn = c in
+    let room = (begun c.before.before).requires in
+    (omega (arith, room.few), omega (arith, room.room, turn.loop-i.invariant.long))
 
 -- the turn's row is one more
-loop-again : tie.Need-loop-preserved invariant-loop decreases-loop
-loop-again c =
-    let turn = c.before.before.before.before.before in
-    let s = begun turn in
-    tabulated_turn (at_row s) turn.loop.invariant (omega arith) (omega (arith, s.pre.room)) c.before.before.put-row.ensures
+loop-i-preserved : tie.Need-loop-i-preserved invariant-loop-i decreases-loop-i
+loop-i-preserved c =
+    let turn = c in
+    let s = begun c.before.before.before.before.before in
+    tabulated_turn (at_row s) turn.loop-i.invariant (omega arith) (omega (arith, s.requires.room)) c.put_row.ensures
 
-returns : tie.Need-returns invariant-loop decreases-loop
-returns c = (every_turn c.before.loop.invariant c.loop-test.false).bytes
+returns : tie.Need-returns invariant-loop-i decreases-loop-i
+returns c = (every_turn c.loop-i.invariant c.loop-i-test.false).bytes
 
-pub base-rows-spec : {M : Type 1} → statement M
-base-rows-spec =
+pub base_rows_spec : {M : Type 1} → statement M
+base_rows_spec =
     tie.close
-    (tie.spec invariant-loop decreases-loop loop-holds (λ c. omega arith) (λ c. omega arith) (λ c. omega arith) put-row-requires (λ c. omega arith) (λ c. omega arith)
-    loop-again (λ c. c.before.loop.invariant.long) returns)
+    (tie.spec invariant-loop-i decreases-loop-i loop-i-init (λ c. omega arith) (λ c. omega arith) (λ c. omega arith) put_row-requires (λ c. omega arith) (λ c. omega arith)
+    loop-i-preserved (λ c. c.loop-i.invariant.long) returns)

@@ -11,45 +11,45 @@ use Rattle.merge.proofs.Buffers.Appending.{Growing, no_turn, selected-room, sele
 use Rattle.merge.proofs.rows.ours_rows.Statement.{statement}
 use Rattle.merge.proofs.rows.ours_rows.Tie as tie
 
-abbrev invariant-loop : tie.invariant-loop
-invariant-loop n at rows₀ base-of theirs-of r₀ j₀ rows r j = Growing (ours_group base-of theirs-of) n at rows₀ j r rows
+abbrev invariant-loop-j : tie.invariant-loop-j
+invariant-loop-j n at rows₀ base-of theirs-of r₀ j₀ rows r j = Growing (ours_group base-of theirs-of) n at rows₀ j r rows
 
-abbrev decreases-loop : tie.decreases-loop
-decreases-loop n at rows₀ base-of theirs-of r₀ j₀ rows r j = n - j
+abbrev decreases-loop-j : tie.decreases-loop-j
+decreases-loop-j n at rows₀ base-of theirs-of r₀ j₀ rows r j = n - j
 
 -- the places, each from a later one
-abbrev begun : tie.At-loop invariant-loop decreases-loop → tie.Start invariant-loop decreases-loop
+abbrev begun : tie.At-loop-j invariant-loop-j decreases-loop-j → tie.Start invariant-loop-j decreases-loop-j
 begun c = c.before.before.before.before
 
-abbrev turn : tie.After-put-row-arg invariant-loop decreases-loop → tie.At-loop invariant-loop decreases-loop
+abbrev turn : tie.After-put_row-arg-1 invariant-loop-j decreases-loop-j → tie.At-loop-j invariant-loop-j decreases-loop-j
 turn c = c.before.before
 
 -- the tracks that have a row here, and the row of one
-abbrev wanted : tie.Start invariant-loop decreases-loop → ℕ → Bool
-wanted c j = is_free c.args.base_ours_lem.seconds j
+abbrev wanted : tie.Start invariant-loop-j decreases-loop-j → ℕ → Bool
+wanted c j = is_free c.args.base_ours.seconds j
 
-abbrev at_row : tie.Start invariant-loop decreases-loop → ℕ → Row
-at_row c j = undecided_row nobody j (get_or c.args.ours_theirs_lem.firsts j 0)
+abbrev at_row : tie.Start invariant-loop-j decreases-loop-j → ℕ → Row
+at_row c j = undecided_row nobody j (get_or c.args.ours_theirs.firsts j 0)
 
-loop-holds : tie.Need-loop-init invariant-loop decreases-loop
+loop-j-init : tie.Need-loop-j-init invariant-loop-j decreases-loop-j
 unfolding selected
-loop-holds c = no_turn refl
+loop-j-init c = no_turn refl
 
-put-row-requires : tie.Need-put-row-requires invariant-loop decreases-loop
-put-row-requires c κs = let s = begun (turn c) in selected-room (wanted s) (at_row s) (turn c).loop.invariant (omega arith) s.pre
+put_row-r-requires : tie.Need-put_row-r-requires invariant-loop-j decreases-loop-j
+put_row-r-requires c κs = let s = begun (turn c) in selected-room (wanted s) (at_row s) (turn c).loop-j.invariant (omega arith) s.requires
 
 -- the turn's row is one more, or none is
-loop-again : tie.Need-loop-preserved invariant-loop decreases-loop
-loop-again c =
-    let t = c.before.before.before in
-    let s = begun (turn t) in
-    selected-turn (wanted s) (at_row s) (turn t).loop.invariant (omega arith) s.pre c.before.before.put-row.ensures
+loop-j-preserved : tie.Need-loop-j-preserved invariant-loop-j decreases-loop-j
+loop-j-preserved c =
+    let t = c in
+    let s = begun (turn c.before.before.before) in
+    selected-turn (wanted s) (at_row s) (turn c.before.before.before).loop-j.invariant (omega arith) s.requires c.put_row-r.ensures
 
-returns : tie.Need-returns invariant-loop decreases-loop
-returns c = every_turn c.before.loop.invariant c.loop-test.false
+returns : tie.Need-returns invariant-loop-j decreases-loop-j
+returns c = every_turn c.loop-j.invariant c.loop-j-test.false
 
-pub ours-rows-spec : {M : Type 1} → statement M
-ours-rows-spec =
+pub ours_rows_spec : {M : Type 1} → statement M
+ours_rows_spec =
     tie.close
-    (tie.spec invariant-loop decreases-loop loop-holds (λ c. omega arith) (λ c. omega arith) (λ c. omega arith) put-row-requires (λ c. omega arith) (λ c. omega arith)
-    loop-again (λ c. c.before.loop.invariant.long) returns)
+    (tie.spec invariant-loop-j decreases-loop-j loop-j-init (λ c. omega arith) (λ c. omega arith) (λ c. omega arith) put_row-r-requires (λ c. omega arith) (λ c. omega arith)
+    loop-j-preserved (λ c. c.loop-j.invariant.long) returns)

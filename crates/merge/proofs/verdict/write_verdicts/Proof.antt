@@ -11,45 +11,45 @@ use Rattle.merge.proofs.Buffers.Appending.{Growing, no_turn, appended_one, tabul
 use Rattle.merge.proofs.verdict.write_verdicts.Statement.{statement}
 use Rattle.merge.proofs.verdict.write_verdicts.Tie as tie
 
-abbrev invariant-loop : tie.invariant-loop
-invariant-loop base ours theirs total rows₀ base-offsets ours-offsets theirs-offsets r₀ rows r =
+abbrev invariant-loop-r : tie.invariant-loop-r
+invariant-loop-r base ours theirs total rows₀ base-offsets ours-offsets theirs-offsets r₀ rows r =
     Growing (λ k. tabulate k (decided_row base ours theirs rows₀)) total 0 rows₀ r r rows
 
-abbrev decreases-loop : tie.decreases-loop
-decreases-loop base ours theirs total rows₀ base-offsets ours-offsets theirs-offsets r₀ rows r = total - r
+abbrev decreases-loop-r : tie.decreases-loop-r
+decreases-loop-r base ours theirs total rows₀ base-offsets ours-offsets theirs-offsets r₀ rows r = total - r
 
 -- the places, each from a later one
-abbrev begun : tie.At-loop invariant-loop decreases-loop → tie.Start invariant-loop decreases-loop
+abbrev begun : tie.At-loop-r invariant-loop-r decreases-loop-r → tie.Start invariant-loop-r decreases-loop-r
 begun c = c.before.before.before.before.before.before.before.before
 
-abbrev turn : tie.After-slice-known4 invariant-loop decreases-loop → tie.At-loop invariant-loop decreases-loop
+abbrev turn : tie.After-slice_known-in-loop-r-3-1 invariant-loop-r decreases-loop-r → tie.At-loop-r invariant-loop-r decreases-loop-r
 turn c = c.before.before.before.before
 
 -- where the tracks are
-lists_at : (c : tie.After-slice-known4 invariant-loop decreases-loop) → let x = (begun (turn c)).args in AllLocated x.base.now x.ours.now x.theirs.now x.offsets
-lists_at c = (begun (turn c)).pre.lists
+lists_at : (c : tie.After-slice_known-in-loop-r-3-1 invariant-loop-r decreases-loop-r) → let x = (begun (turn c)).args in AllLocated x.base.now x.ours.now x.theirs.now x.offsets
+lists_at c = (begun (turn c)).requires.lists
 
 -- row r with its verdict
-abbrev at_row : tie.Start invariant-loop decreases-loop → ℕ → Row
+abbrev at_row : tie.Start invariant-loop-r decreases-loop-r → ℕ → Row
 at_row c = let x = c.args in decided_row x.base.now x.ours.now x.theirs.now x.rows.now
 
 -- the turn's row is still as it was
-still : (c : tie.At-loop invariant-loop decreases-loop) (k : ℕ) → 4 * c.loop.r ≤ k → get_or c.loop.rows k 0 ≡ get_or (begun c).args.rows.now k 0
-still c k h = tabulated_rest (at_row (begun c)) c.loop.r c.loop.invariant.rows k h
+still : (c : tie.At-loop-r invariant-loop-r decreases-loop-r) (k : ℕ) → 4 * c.loop-r.r ≤ k → get_or c.loop-r.rows k 0 ≡ get_or (begun c).args.rows.now k 0
+still c k h = tabulated_rest (at_row (begun c)) c.loop-r.r c.loop-r.invariant.rows k h
 
-loop-holds : tie.Need-loop-init invariant-loop decreases-loop
+loop-r-init : tie.Need-loop-r-init invariant-loop-r decreases-loop-r
 unfolding tabulate
-loop-holds c = no_turn refl
+loop-r-init c = no_turn refl
 
-verdict-requires : tie.Need-verdict-on-requires invariant-loop decreases-loop
-verdict-requires c κs =
+verdict_on-v-requires : tie.Need-verdict_on-v-requires invariant-loop-r decreases-loop-r
+verdict_on-v-requires c κs =
     let t = turn c.before.before.before in
     let s = begun t in
     let x = s.args in
-    let r = t.loop.r in
-    let i = s.pre.indices r (omega arith) in
+    let r = t.loop-r.r in
+    let i = s.requires.indices r (omega arith) in
     record {
-      lists = s.pre.lists;
+      lists = s.requires.lists;
       indices = record {
         of_base = subst (Index x.base.now) (sym (still t (4 * r) (omega arith))) i.of_base;
         of_ours = subst (Index x.ours.now) (sym (still t (4 * r + 1) (omega arith))) i.of_ours;
@@ -58,27 +58,27 @@ verdict-requires c κs =
     }
 
 -- the turn's row has its verdict
-loop-again : tie.Need-loop-preserved invariant-loop decreases-loop
-loop-again c =
+loop-r-preserved : tie.Need-loop-r-preserved invariant-loop-r decreases-loop-r
+loop-r-preserved c =
     let t = turn c.before.before.before.before in
     let s = begun t in
     let x = s.args in
-    let i = t.loop in
-    let room = s.pre.room in
+    let i = t.loop-r in
+    let room = s.requires.room in
     let first = still t (4 * i.r) (omega arith) in
     let second = still t (4 * i.r + 1) (omega arith) in
     let third = still t (4 * i.r + 2) (omega arith) in
-    let decided = c.verdict-on.ensures ∙ (λ z. verdict_held x.base.now x.ours.now x.theirs.now (first z) (second z) (third z)) in
-    let put = verdict-put i.rows (4 * i.r) first second third decided (omega (arith, i.inv.long, room)) in
-    tabulated_turn (at_row s) i.inv (omega arith) room (appended_one true (at_row s i.r) refl refl put)
+    let decided = c.verdict_on-v.ensures ∙ (λ z. verdict_held x.base.now x.ours.now x.theirs.now (first z) (second z) (third z)) in
+    let put = verdict-put i.rows (4 * i.r) first second third decided (omega (arith, i.invariant.long, room)) in
+    tabulated_turn (at_row s) i.invariant (omega arith) room (appended_one true (at_row s i.r) refl refl put)
 
-returns : tie.Need-returns invariant-loop decreases-loop
-returns c = (every_turn c.before.loop.invariant c.loop-test.false).bytes
+returns : tie.Need-returns invariant-loop-r decreases-loop-r
+returns c = (every_turn c.loop-r.invariant c.loop-r-test.false).bytes
 
-pub write-verdicts-spec : {M : Type 1} → statement M
-write-verdicts-spec =
+pub write_verdicts_spec : {M : Type 1} → statement M
+write_verdicts_spec =
     tie.close
-    (tie.spec invariant-loop decreases-loop loop-holds (λ c. omega arith) (λ c. omega arith) (λ c. omega arith) (λ c. omega arith) (λ c. omega arith) (λ c. omega arith)
+    (tie.spec invariant-loop-r decreases-loop-r loop-r-init (λ c. omega arith) (λ c. omega arith) (λ c. omega arith) (λ c. omega arith) (λ c. omega arith) (λ c. omega arith)
     (λ c. omega arith) (λ c. omega arith) (λ c. sym (lists_at c.before).of_base.room) (λ c. sym (lists_at c.before.before).of_ours.room)
-    (λ c. sym (lists_at c.before.before.before).of_theirs.room) verdict-requires (λ c. omega arith) (λ c. omega arith) (λ c. omega arith) (λ c. omega arith) (λ c. omega arith)
-    loop-again (λ c. c.before.loop.invariant.long) returns)
+    (λ c. sym (lists_at c.before.before.before).of_theirs.room) verdict_on-v-requires (λ c. omega arith) (λ c. omega arith) (λ c. omega arith) (λ c. omega arith) (λ c. omega arith)
+    loop-r-preserved (λ c. c.loop-r.invariant.long) returns)

@@ -17,22 +17,22 @@ use Rattle.merge.proofs.winner.place_in.Statement.{statement}
 use Rattle.merge.proofs.winner.place_in.Tie as tie
 
 -- the places, each from a later one
-abbrev checked : tie.After-other-offsets2 → tie.After-track-offsets
+abbrev checked : tie.After-other_offsets-2-1 → tie.After-track_offsets-c
 checked c = c.before.before.before.before
 
-abbrev start_of : tie.After-other-offsets2 → tie.Start
+abbrev start_of : tie.After-other_offsets-2-1 → tie.Start
 start_of c = (checked c).before.before.before.before
 
-abbrev read : tie.After-enum-told → tie.After-known-told
-read c = c.before.before
+abbrev read : tie.In-Read-d → tie.In-Read
+read c = c.before
 
-abbrev both : tie.After-known-told → tie.After-other-offsets2
-both c = c.before.before.before
+abbrev both : tie.In-Read → tie.After-other_offsets-2-1
+both c = c.before
 
-abbrev list_of : tie.After-known-told → List ℕ
+abbrev list_of : tie.In-Read → List ℕ
 list_of c = (start_of (both c)).args.list.now
 
-abbrev other-of : tie.After-known-told → List ℕ
+abbrev other-of : tie.In-Read → List ℕ
 other-of c = (start_of (both c)).args.other.now
 
 -- what the offsets are at first
@@ -40,51 +40,51 @@ abbrev zeros : List ℕ
 zeros = replicate 33 0
 
 -- what the answers say of the two lists
-located : (c : tie.After-known-told) → Located (list_of c) (checked (both c)).track-offsets.new.1.0 × (c.before.c.given.0.0 ≡ track_count (held (list_of c)))
-located c = list-located (list_of c) zeros refl (checked (both c)).track-offsets.ensures c.before.c.given.1
+located : (c : tie.In-Read) → Located (list_of c) (checked (both c)).track_offsets-c.new.offsets × (c.in-Read.count ≡ track_count (held (list_of c)))
+located c = list-located (list_of c) zeros refl (checked (both c)).track_offsets-c.ensures c.in-Read.is
 
-accepted : (c : tie.After-enum-told) → contents (other-of (read c)) ≡ answered (held (other-of (read c)))
-accepted c = (list-located (other-of (read c)) zeros refl (both (read c)).before.track-offsets2.ensures c.enum_told.given.1).0.accepted
+accepted : (c : tie.In-Read-d) → contents (other-of (read c)) ≡ answered (held (other-of (read c)))
+accepted c = (list-located (other-of (read c)) zeros refl (both (read c)).track_offsets-d.ensures c.in-Read-d.is).0.accepted
 
-there : (c : tie.Else1)
-    → let k = read c.before in LocatedTrack (list_of k) (checked (both k)).track-offsets.new.1.0 (start_of (both k)).args.i
-there c = let l = located (read c.before) in record { located = l.0; index = omega (arith, l.1, c.if1.false) }
+there : (c : tie.Else-count-i)
+    → let k = read c.before in LocatedTrack (list_of k) (checked (both k)).track_offsets-c.new.offsets (start_of (both k)).args.i
+there c = let l = located (read c.before) in record { located = l.0; index = omega (arith, l.1, c.if-count-i.false) }
 
-returns : tie.Need-returns
-returns c =
+returns-then-count-i : tie.Need-returns-then-count-i
+returns-then-count-i c =
     let k = read c.before in
-    place_missing (list_of k) (other-of k) _ (located k).0.accepted (accepted c.before) (omega (arith, (located k).1, c.if1.true))
+    place_missing (list_of k) (other-of k) _ (located k).0.accepted (accepted c.before) (omega (arith, (located k).1, c.if-count-i.true))
 
-mul-start : tie.Need-overflow-mul-t19
-mul-start c = let t = there c.before.before in omega (arith, few-located t.located)
+offset_bounds-offsets-i : tie.Need-offset_bounds-offsets-i
+offset_bounds-offsets-i c = let t = there c.before.before in omega (arith, few-located t.located)
 
-read-start : tie.Need-array-read-t22
-read-start c = let t = there c.before.before in omega (arith, few-located t.located)
+bounds-offsets-i : tie.Need-bounds-offsets-i
+bounds-offsets-i c = let t = there c.before.before in omega (arith, few-located t.located)
 
-returns-2 : tie.Need-returns-2
-returns-2 c =
-    let e = c.before.before in
-    let k = read e.before in
+returns-else-count-i : tie.Need-returns-else-count-i
+returns-else-count-i c =
+    let e = c in
+    let k = read c.before.before.before in
     let l = list_of k in
     let i = (start_of (both k)).args.i in
-    let size = length c.track_record_lem.result.now in
-    ap (λ (s : ℕ). At s size) (starts (there e))
-    ∙ ap (λ (p : List ℕ). At (offset l i) (length p)) (c.track_record_lem.ensures.0 ∙ located-record (there e))
-    ∙ place_there l (other-of k) i (located k).0.accepted (accepted e.before) (there e).index
+    let size = length c.track_record-part.result.now in
+    ap (λ (s : ℕ). At s size) (starts (there c.before.before))
+    ∙ ap (λ (p : List ℕ). At (offset l i) (length p)) (c.track_record-part.ensures.0 ∙ located-record (there c.before.before))
+    ∙ place_there l (other-of k) i (located k).0.accepted (accepted c.before.before.before) (there c.before.before).index
 
-returns-3 : tie.Need-returns-3
-returns-3 c =
-    let k = c.before.before in
-    place-other-refused (list_of k) (other-of k) _ (located k).0.accepted (list-refused (other-of k) zeros refl (both k).before.track-offsets2.ensures c.enum-told2.given.1)
+returns-in-Refused-d : tie.Need-returns-in-Refused-d
+returns-in-Refused-d c =
+    let k = c in
+    place-other-refused (list_of c.before) (other-of c.before) _ (located c.before).0.accepted (list-refused (other-of c.before) zeros refl (both c.before).track_offsets-d.ensures c.in-Refused-d.is)
 
-returns-4 : tie.Need-returns-4
-returns-4 c =
-    let a = c.before.before in
-    let x = (start_of a).args in
-    place-refused x.list.now x.other.now _ (list-refused x.list.now zeros refl (checked a).track-offsets.ensures c.enum-told3.given.1)
+returns-in-Refused : tie.Need-returns-in-Refused
+returns-in-Refused c =
+    let a = c in
+    let x = (start_of c.before).args in
+    place-refused x.list.now x.other.now _ (list-refused x.list.now zeros refl (checked c.before).track_offsets-c.ensures c.in-Refused.is)
 
-pub place-in-spec : {M : Type 1} → statement M
-place-in-spec =
+pub place_in_spec : {M : Type 1} → statement M
+place_in_spec =
     tie.close
     (tie.spec
     (λ c. search rules)
@@ -93,13 +93,13 @@ place-in-spec =
     (λ c κs. search rules)
     (λ c. search rules)
     (λ c. search rules)
-    returns
+    returns-then-count-i
     (λ c. search rules)
     (λ c κs. search rules)
-    mul-start
-    read-start
+    offset_bounds-offsets-i
+    bounds-offsets-i
     (λ c. search rules)
     (λ c. search rules)
-    returns-2
-    returns-3
-    returns-4)
+    returns-else-count-i
+    returns-in-Refused-d
+    returns-in-Refused)

@@ -6,20 +6,20 @@ use Rattle.merge.specs.Winner.{in_ours, in_theirs, winning}
 use Rattle.merge.proofs.winner.winning.Statement.{statement}
 use Rattle.merge.proofs.winner.winning.Tie as tie
 
+returns-then-row-eq-TAKE_OURS : tie.Need-returns-then-row-eq-TAKE_OURS
+unfolding winning
+returns-then-row-eq-TAKE_OURS c = rw (eq-eqb _ 1 c.if-row-eq-TAKE_OURS.true) (c.in_ours.ensures ∙ ap in_ours c.before.IsPlace-in.ensures)
+
+returns-then-row-eq-TAKE_THEIRS : tie.Need-returns-then-row-eq-TAKE_THEIRS
+unfolding winning
+returns-then-row-eq-TAKE_THEIRS c = rw (ne_eqb _ 1 c.if-row-eq-TAKE_OURS.false, eq-eqb _ 2 c.if-row-eq-TAKE_THEIRS.true) (c.in_theirs.ensures ∙ ap in_theirs c.place_in-then-row-eq-TAKE_THEIRS.ensures)
+
 returns : tie.Need-returns
 unfolding winning
-returns c = rw (eq-eqb _ 1 c.before.before.if1.true) (c.in_ours_lem.ensures ∙ ap in_ours c.before.IsPlace-in.ensures)
+returns c = rw (ne_eqb _ 1 c.if-row-eq-TAKE_OURS.false, ne_eqb _ 2 c.if-row-eq-TAKE_THEIRS.false) refl
 
-returns-2 : tie.Need-returns-2
-unfolding winning
-returns-2 c = rw (ne_eqb _ 1 c.before.before.before.if1.false, eq-eqb _ 2 c.before.before.if2.true) (c.in_theirs_lem.ensures ∙ ap in_theirs c.before.place-in2.ensures)
-
-returns-3 : tie.Need-returns-3
-unfolding winning
-returns-3 c = rw (ne_eqb _ 1 c.before.if1.false, ne_eqb _ 2 c.if2.false) refl
-
-pub winning-spec : {M : Type 1} → statement M
-winning-spec =
+pub winning_spec : {M : Type 1} → statement M
+winning_spec =
     tie.close
     (tie.spec
     (λ c. search rules)
@@ -27,11 +27,11 @@ winning-spec =
     (λ c. search rules)
     (λ c κs. search rules)
     (λ c κs. search rules)
-    returns
+    returns-then-row-eq-TAKE_OURS
     (λ c. search rules)
     (λ c. search rules)
     (λ c. search rules)
     (λ c κs. search rules)
     (λ c κs. search rules)
-    returns-2
-    returns-3)
+    returns-then-row-eq-TAKE_THEIRS
+    returns)

@@ -35,10 +35,10 @@ placed_with : (c : tie.Start) (v : ℕ → ℕ → ℕ → ℕ) → rows_by v c.
 placed_with c v = rows_placed v c.requires.paired c.requires.sized
 
 -- the places, each from a later one
-abbrev begun : tie.After-write-rows → tie.Start
+abbrev begun : tie.After-write_rows-total → tie.Start
 begun c = c.before.before.before.before.before.before
 
-abbrev written : tie.After-write-verdicts → tie.After-write-rows
+abbrev written : tie.After-write_verdicts → tie.After-write_rows-total
 written c = c.before.before.before.before
 
 -- the number of all tracks, and room for their rows
@@ -53,47 +53,47 @@ fitting c v a =
     let fit = rows_fit v (pairings c) _ _ _ a (omega (arith, tracks_of_lem c, c.requires.room)) in
     (omega (arith, fit.0, few c), fit.1)
 
-write-rows-requires : tie.Need-write-rows-requires
-write-rows-requires c κs =
-    let s = c.before.before.before.before.before in
+write_rows-total-requires : tie.Need-write_rows-total-requires
+write_rows-total-requires c κs =
+    let s = c in
     let z = s.requires.sized in
     record {
-      few-base = omega (arith, few s, z.of_base);
-      few-ours = omega (arith, few s, z.of_ours);
-      few-theirs = omega (arith, few s, z.of_theirs);
+      few-base = omega (arith, few c.before.before.before.before.before, z.of_base);
+      few-ours = omega (arith, few c.before.before.before.before.before, z.of_ours);
+      few-theirs = omega (arith, few c.before.before.before.before.before, z.of_theirs);
       room = s.requires.room;
     }
 
 -- the rows stand in the buffer, and then their verdicts
-placed : (c : tie.After-write-rows) → Appended (rows_with_lem (begun c) undecided) 0 (old (begun c)) c.write-rows.result c.write-rows.new.1.1.0
-placed c = appended_same (placed_with (begun c) undecided) c.write-rows.ensures
+placed : (c : tie.After-write_rows-total) → Appended (rows_with_lem (begun c) undecided) 0 (old (begun c)) c.write_rows-total.result c.write_rows-total.new.rows
+placed c = appended_same (placed_with (begun c) undecided) c.write_rows-total.ensures
 
-decided : (c : tie.After-write-verdicts)
+decided : (c : tie.After-write_verdicts)
     → let s = begun (written c) in
-    Appended (rows_with_lem s (verdict_on (lists s))) 0 (old s) (written c).write-rows.result c.write-verdicts.new.1.1.1.1.1.0
+    Appended (rows_with_lem s (verdict_on (lists s))) 0 (old s) (written c).write_rows-total.result c.write_verdicts.new.rows
 decided c =
     let s = begun (written c) in
-    rows_decided undecided (verdict_on (lists s)) (pairings s) _ _ _ (placed (written c)) c.write-verdicts.ensures
+    rows_decided undecided (verdict_on (lists s)) (pairings s) _ _ _ (placed (written c)) c.write_verdicts.ensures
 
-write-verdicts-requires : tie.Need-write-verdicts-requires
-write-verdicts-requires c κs =
-    let w = c.before.before.before in
-    let s = begun w in
-    let fit = fitting s undecided (placed w) in
-    let is = indices_in_lem (lists s) s.pre.paired.floor s.pre.paired.gate (few s).0 (few s).1 (few s).2 (old s) undecided (placed w) in
-    record { lists = s.pre.lists; few = fit.0; room = fit.1; indices = λ r h. let i = is r h in record { of_base = i.0; of_ours = i.1; of_theirs = i.2 } }
+write_verdicts-requires : tie.Need-write_verdicts-requires
+write_verdicts-requires c κs =
+    let w = c in
+    let s = begun c.before.before.before in
+    let fit = fitting s undecided (placed c.before.before.before) in
+    let is = indices_in_lem (lists s) s.requires.paired.floor s.requires.paired.gate (few s).0 (few s).1 (few s).2 (old s) undecided (placed c.before.before.before) in
+    record { lists = s.requires.lists; few = fit.0; room = fit.1; indices = λ r h. let i = is r h in record { of_base = i.0; of_ours = i.1; of_theirs = i.2 } }
 
-count-rows-requires : tie.Need-count-rows-requires
-count-rows-requires c κs =
-    let v = c.before.before.before in
-    fitting (begun (written v)) (verdict_on (lists (begun (written v)))) (decided v)
+count_rows-requires : tie.Need-count_rows-requires
+count_rows-requires c κs =
+    let v = c in
+    fitting (begun (written c.before.before)) (verdict_on (lists (begun (written c.before.before)))) (decided c.before.before)
 
 returns : tie.Need-returns
 returns c =
-    let v = c.before.before.before.before in
-    let s = begun (written v) in
-    let a = appended_same (sym (placed_with s (verdict_on (lists s)))) (decided v) in
-    (c.count-rows.ensures ∙ counts_written a, a.bytes)
+    let v = c in
+    let s = begun (written c.before.before.before) in
+    let a = appended_same (sym (placed_with s (verdict_on (lists s)))) (decided c.before.before.before) in
+    (c.count_rows.ensures ∙ counts_written a, a.bytes)
 
-pub write-merge-spec : {M : Type 1} → statement M
-write-merge-spec = tie.close (tie.spec write-rows-requires write-verdicts-requires count-rows-requires (λ c. search rules) returns)
+pub write_merge_spec : {M : Type 1} → statement M
+write_merge_spec = tie.close (tie.spec write_rows-total-requires write_verdicts-requires count_rows-requires (λ c. search rules) returns)

@@ -14,49 +14,49 @@ use Rattle.merge_list.proofs.Taken.{unwanted}
 use Rattle.merge_list.proofs.records.copy_bytes.Statement.{statement}
 use Rattle.merge_list.proofs.records.copy_bytes.Tie as tie
 
-abbrev invariant-loop : tie.invariant-loop
-invariant-loop wanted from to₀ at i₀ i-end to i = (i ≤ length from) × Laid to₀ at (take i from) (at + i) to
+abbrev invariant-loop-i : tie.invariant-loop-i
+invariant-loop-i wanted from to₀ at i₀ i-end to i = (i ≤ length from) × Laid to₀ at (take i from) (at + i) to
 
-abbrev decreases-loop : tie.decreases-loop
-decreases-loop wanted from to₀ at i₀ i-end to i = length from - i
+abbrev decreases-loop-i : tie.decreases-loop-i
+decreases-loop-i wanted from to₀ at i₀ i-end to i = length from - i
 
-returns : tie.Need-returns invariant-loop decreases-loop
-returns c = let x = c.before.args in unwanted x.wanted x.from.now x.to.now x.at (not-true x.wanted c.if1.true)
+returns-then-not-wanted : tie.Need-returns-then-not-wanted invariant-loop-i decreases-loop-i
+returns-then-not-wanted c = let x = c.args in unwanted x.wanted x.from.now x.to.now x.at (c.if-not-wanted.true)
 
 -- bytes that are wanted
-wanted : (c : tie.Else1 invariant-loop decreases-loop) → let x = c.before.args in bytes_if x.wanted x.from.now ≡ x.from.now
-wanted c = let x = c.before.args in ap (λ (b : Bool). bytes_if b x.from.now) (not-false x.wanted c.if1.false)
+wanted : (c : tie.Else-not-wanted invariant-loop-i decreases-loop-i) → let x = c.args in bytes_if x.wanted x.from.now ≡ x.from.now
+wanted c = let x = c.args in ap (λ (b : Bool). bytes_if b x.from.now) (c.if-not-wanted.false)
 
-fits : (c : tie.Else1 invariant-loop decreases-loop) → let x = c.before.args in x.at + length x.from.now ≤ length x.to.now
-fits c = omega (arith, c.before.requires, ap length (wanted c))
+fits : (c : tie.Else-not-wanted invariant-loop-i decreases-loop-i) → let x = c.args in x.at + length x.from.now ≤ length x.to.now
+fits c = omega (arith, c.requires, ap length (wanted c))
 
-loop-holds : tie.Need-loop-init invariant-loop decreases-loop
-loop-holds c = (omega arith, rw (add-zero c.before.args.at) laid_none)
+loop-i-init : tie.Need-loop-i-init invariant-loop-i decreases-loop-i
+loop-i-init c = (omega arith, rw (add-zero c.args.at) laid_none)
 
-loop-again : tie.Need-loop-preserved invariant-loop decreases-loop
-loop-again c =
-    let x = c.before.before.before.before.args in
-    let l = c.before.before.loop in
+loop-i-preserved : tie.Need-loop-i-preserved invariant-loop-i decreases-loop-i
+loop-i-preserved c =
+    let x = c.args in
+    let l = c.loop-i in
     let bytes = x.from.now in (
       omega arith,
       laid_set l.invariant.1 _ (take_more bytes l.i (omega arith)) (omega (arith, length-take-le (l.i + 1) bytes (omega arith), fits c.before.before.before)) (omega arith),
     )
 
-same_length : tie.Need-same-length invariant-loop decreases-loop
-same_length c = c.before.loop.invariant.1.size
+shape_of-to : tie.Need-shape_of-to invariant-loop-i decreases-loop-i
+shape_of-to c = c.loop-i.invariant.1.size
 
-returns-2 : tie.Need-returns-2 invariant-loop decreases-loop
-returns-2 c =
-    let l = c.before.loop in
-    let e = c.before.before in
-    let x = e.before.args in (
-      omega (arith, ap length (wanted e)),
-      (laid_all l.invariant.1 (take_all l.i x.from.now c.loop-test.false ∙ sym (wanted e))).1,
+returns : tie.Need-returns invariant-loop-i decreases-loop-i
+returns c =
+    let l = c.loop-i in
+    let e = c in
+    let x = e.args in (
+      omega (arith, ap length (wanted c.before.before)),
+      (laid_all l.invariant.1 (take_all l.i x.from.now c.loop-i-test.false ∙ sym (wanted c.before.before))).1,
     )
 
-pub copy-bytes-spec : {M : Type 1} → statement M
-copy-bytes-spec =
+pub copy_bytes_spec : {M : Type 1} → statement M
+copy_bytes_spec =
     tie.close
-    (tie.spec invariant-loop decreases-loop returns loop-holds (λ c. omega arith) (λ c. omega (arith, fits c.before.before.before))
-    (λ c. omega (arith, fits c.before.before.before, c.before.before.loop.invariant.1.size)) (λ c. omega arith) (λ c. omega arith) loop-again
-    (λ c. omega (arith, fits c.before.before)) same_length returns-2)
+    (tie.spec invariant-loop-i decreases-loop-i returns-then-not-wanted loop-i-init (λ c. omega arith) (λ c. omega (arith, fits c.before.before.before))
+    (λ c. omega (arith, fits c.before.before.before, c.loop-i.invariant.1.size)) (λ c. omega arith) (λ c. omega arith) loop-i-preserved
+    (λ c. omega (arith, fits c.before.before)) shape_of-to returns)

@@ -12,19 +12,19 @@ use Rattle.merge_list.proofs.records.copy_record.Statement.{statement}
 use Rattle.merge_list.proofs.records.copy_record.Tie as tie
 
 -- the record, where it is wanted
-same : (c : tie.After-track-record) → let x = c.before.before.before.before.args in
-    bytes_if x.wanted c.track_record_lem.result.now ≡ bytes_if x.wanted (track_record x.list.now x.offsets.now x.i)
-same c = ap (bytes_if c.before.before.before.before.args.wanted) c.track_record_lem.ensures.0
+same : (c : tie.After-track_record) → let x = c.args in
+    bytes_if x.wanted c.track_record.result.now ≡ bytes_if x.wanted (track_record x.list.now x.offsets.now x.i)
+same c = ap (bytes_if c.args.wanted) c.track_record.ensures.0
 
-copy-bytes-requires : tie.Need-copy-bytes-requires
-copy-bytes-requires c κs = omega (arith, c.before.before.before.before.before.requires, ap length (same c.before))
+copy_bytes-requires : tie.Need-copy_bytes-requires
+copy_bytes-requires c κs = omega (arith, c.requires, ap length (same c.before))
 
 returns : tie.Need-returns
 returns c =
-    let e = c.before.before.copy-bytes.ensures in
+    let e = c.copy_bytes.ensures in
     let s = same c.before.before.before.before in
-    let x = c.before.before.before.before.before.before.before.before.args in
+    let x = c.args in
     (e.0 ∙ ap (λ (l : List ℕ). x.at + length l) s, e.1 ∙ ap (over x.out.now x.at) s)
 
-pub copy-record-spec : {M : Type 1} → statement M
-copy-record-spec = tie.close (tie.spec (λ c κs. search rules) copy-bytes-requires (λ c. search rules) returns)
+pub copy_record_spec : {M : Type 1} → statement M
+copy_record_spec = tie.close (tie.spec (λ c κs. search rules) copy_bytes-requires (λ c. search rules) returns)

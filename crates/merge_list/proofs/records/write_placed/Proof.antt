@@ -19,10 +19,10 @@ use Rattle.merge_list.proofs.Taken.{unwanted}
 use Rattle.merge_list.proofs.records.write_placed.Statement.{statement}
 use Rattle.merge_list.proofs.records.write_placed.Tie as tie
 
-returns : tie.Need-returns
-returns c =
-    let x = c.before.before.before.before.args in
-    unwanted x.wanted (placed_record x.list.now x.values.now x.i) x.out.now x.at (not-true x.wanted c.if1.true)
+returns-then-not-wanted : tie.Need-returns-then-not-wanted
+returns-then-not-wanted c =
+    let x = c.args in
+    unwanted x.wanted (placed_record x.list.now x.values.now x.i) x.out.now x.at (c.if-not-wanted.true)
 
 -- the places, each from a later one
 abbrev start_of : tie.After-fields → tie.Start
@@ -31,7 +31,7 @@ start_of c = c.before.before.before.before.before.before
 row-requires : tie.Need-row-requires
 row-requires c κs =
     let s = start_of c in
-    omega (arith, s.pre.1 (not-false s.args.wanted c.before.before.if1.false), ap (λ (f : ℕ). s.args.i * f) c.fields.ensures.0, c.fields.ensures.0)
+    omega (arith, s.requires.1 (not-false s.args.wanted c.if-not-wanted.false), ap (λ (f : ℕ). s.args.i * f) c.fields.ensures.0, c.fields.ensures.0)
 
 -- the record of the fields that are lent is the one that is wanted
 wanted : (c : tie.After-row) → let x = (start_of c.before).args in
@@ -39,23 +39,23 @@ wanted : (c : tie.After-row) → let x = (start_of c.before).args in
 unfolding placed_record
 wanted c =
     let x = (start_of c.before).args in
-    ap (λ (v : List Float). record_of (dimension x.list.now) (track_of_doubles v)) (c.row.ensures.1 ∙ ap (λ (f : ℕ). row_of x.values.now f x.i) c.before.fields.ensures.0)
-    ∙ ap (λ (b : Bool). bytes_if b (placed_record x.list.now x.values.now x.i)) (sym (not-false x.wanted c.before.before.before.if1.false))
+    ap (λ (v : List Float). record_of (dimension x.list.now) (track_of_doubles v)) (c.row.ensures.1 ∙ ap (λ (f : ℕ). row_of x.values.now f x.i) c.fields.ensures.0)
+    ∙ ap (λ (b : Bool). bytes_if b (placed_record x.list.now x.values.now x.i)) (sym (c.if-not-wanted.false))
 
-write-track-requires : tie.Need-write-track-requires
-write-track-requires c κs =
+write_track-requires : tie.Need-write_track-requires
+write_track-requires c κs =
     let s = start_of c.before.before in
-    (s.pre.0.small, omega (arith, s.pre.2, ap length (wanted c.before)))
+    (s.requires.0.small, omega (arith, s.requires.2, ap length (wanted c.before)))
 
-returns-2 : tie.Need-returns-2
-returns-2 c =
-    let w = c.before.before in
-    let r = w.before.before in
-    let x = (start_of r.before).args in
-    let e = w.write-track.ensures in
-    (e.0 ∙ ap (λ (l : List ℕ). x.at + length l) (wanted r), e.1 ∙ ap (over x.out.now x.at) (wanted r))
+returns : tie.Need-returns
+returns c =
+    let w = c in
+    let r = w in
+    let x = (start_of c.before.before.before.before.before).args in
+    let e = w.write_track.ensures in
+    (e.0 ∙ ap (λ (l : List ℕ). x.at + length l) (wanted c.before.before.before.before), e.1 ∙ ap (over x.out.now x.at) (wanted c.before.before.before.before))
 
-pub write-placed-spec : {M : Type 1} → statement M
-write-placed-spec =
+pub write_placed_spec : {M : Type 1} → statement M
+write_placed_spec =
     tie.close
-    (tie.spec returns (λ c. search rules) (λ c. search rules) (λ c κs. search rules) row-requires write-track-requires (λ c. search rules) returns-2)
+    (tie.spec returns-then-not-wanted (λ c. search rules) (λ c. search rules) (λ c κs. search rules) row-requires write_track-requires (λ c. search rules) returns)

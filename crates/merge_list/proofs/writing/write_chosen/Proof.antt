@@ -34,77 +34,77 @@ promised : (c : tie.Start) {o : Outcome (List ℕ)} → defined c ≡ o → {r :
 promised c e p q = (p ∙ ap write_answer (sym e), q ∙ ap (λ (o : Outcome (List ℕ)). write_bytes o c.args.out.now) (sym e))
 
 -- the places, each from a later one
-abbrev start_of : tie.After-with-verdict5 → tie.Start
+abbrev start_of : tie.After-with_verdict-fused → tie.Start
 start_of c = c.before.before.before.before.before.before.before.before.before.before.before
 
-abbrev met : tie.After-put-list → tie.Else1
+abbrev met : tie.After-put_list-length → tie.Else-conflicts-ne0
 met c = c.before.before.before
 
 -- so many rows are conflicts, and so many take a track
-conflicts : (c : tie.After-with-verdict5) → c.before.before.before.before.with-verdict.result ≡ with_verdict conflict (rows_of (start_of c))
-conflicts c = c.before.before.before.before.with-verdict.ensures.0
+conflicts : (c : tie.After-with_verdict-fused) → c.with_verdict-conflicts.result ≡ with_verdict conflict (rows_of (start_of c))
+conflicts c = c.with_verdict-conflicts.ensures.0
 
-counted : (c : tie.After-with-verdict5)
-    → c.before.before.before.with-verdict2.result + c.before.before.with-verdict3.result + c.before.with-verdict4.result + c.with-verdict5.result ≡ takers (rows_of (start_of c))
+counted : (c : tie.After-with_verdict-fused)
+    → c.with_verdict-kept.result + c.with_verdict-from_ours.result + c.with_verdict-from_theirs.result + c.with_verdict-fused.result ≡ takers (rows_of (start_of c))
 counted c =
-    omega (arith, c.before.before.before.with-verdict2.ensures.0, c.before.before.with-verdict3.ensures.0, c.before.with-verdict4.ensures.0, c.with-verdict5.ensures.0)
+    omega (arith, c.with_verdict-kept.ensures.0, c.with_verdict-from_ours.ensures.0, c.with_verdict-from_theirs.ensures.0, c.with_verdict-fused.ensures.0)
+
+returns-then-conflicts-ne0 : tie.Need-returns-then-conflicts-ne0
+returns-then-conflicts-ne0 c =
+    let s = start_of c.before in
+    promised s (asked_21 (length s.args.out.now) (rows_of s) (list_of s) (λ z. c.if-conflicts-ne0.true (conflicts c.before ∙ z))) refl refl
+
+met_21 : (c : tie.Else-conflicts-ne0) → with_verdict conflict (rows_of (start_of c.before)) ≡ 0
+met_21 c = sym (conflicts c.before) ∙ c.if-conflicts-ne0.false
+
+returns-then-count-gt32 : tie.Need-returns-then-count-gt32
+returns-then-count-gt32 c =
+    let e = c in
+    let s = start_of c.before.before in
+    promised s (asked_22 (length s.args.out.now) (rows_of s) (list_of s) (met_21 c.before) (omega (arith, counted c.before.before, c.if-count-gt32.true))) refl refl
+
+few : (c : tie.Else-count-gt32) → takers (rows_of (start_of c.before.before)) ≤ 32
+few c = omega (arith, counted c.before.before, c.if-count-gt32.false)
+
+put_list-length-requires : tie.Need-put_list-length-requires
+put_list-length-requires c κs =
+    let e = c in
+    let p = (start_of c.before.before.before).requires in
+    record { takes = p.takes; counted = counted c.before.before.before; few = e.if-count-gt32.false; room = p.size (few c.before) }
+
+-- the list stands in the local array
+abbrev listed : tie.After-put_list-length → List ℕ
+listed c = list_of (start_of (met c).before)
+
+front : (c : tie.After-put_list-length) → take c.put_list-length.result c.put_list-length.new.list ≡ listed c
+front c = let e = c.put_list-length.ensures.0 in ap (take c.put_list-length.result) e.1 ∙ take-over _ (listed c) c.put_list-length.result (omega (arith, e.0))
+
+returns-then-out-length : tie.Need-returns-then-out-length
+returns-then-out-length c =
+    let p = c in
+    let s = start_of (met c.before.before).before in
+    promised s (asked_20 (length s.args.out.now) (rows_of s) (list_of s) (met_21 (met c.before.before)) (few c.before.before.before.before) (omega (arith, p.put_list-length.ensures.0.0, c.if-out-length.true))) refl refl
+
+slice_bounds-copy_bytes-end : tie.Need-slice_bounds-copy_bytes-end
+slice_bounds-copy_bytes-end c = let p = c in omega (arith, p.put_list-length.ensures.0.0, ap length (front c.before.before.before))
+
+copy_bytes-requires : tie.Need-copy_bytes-requires
+copy_bytes-requires c κs =
+    let p = c in
+    omega (arith, p.put_list-length.ensures.0.0, ap length (front c.before.before.before.before), c.if-out-length.false)
 
 returns : tie.Need-returns
 returns c =
-    let s = start_of c.before in
-    promised s (asked_21 (length s.args.out.now) (rows_of s) (list_of s) (λ z. c.if1.true (conflicts c.before ∙ z))) refl refl
-
-met_21 : (c : tie.Else1) → with_verdict conflict (rows_of (start_of c.before)) ≡ 0
-met_21 c = sym (conflicts c.before) ∙ c.if1.false
-
-returns-2 : tie.Need-returns-2
-returns-2 c =
-    let e = c.before in
-    let s = start_of e.before in
-    promised s (asked_22 (length s.args.out.now) (rows_of s) (list_of s) (met_21 e) (omega (arith, counted e.before, c.if2.true))) refl refl
-
-few : (c : tie.Else2) → takers (rows_of (start_of c.before.before)) ≤ 32
-few c = omega (arith, counted c.before.before, c.if2.false)
-
-put-list-requires : tie.Need-put-list-requires
-put-list-requires c κs =
-    let e = c.before in
-    let p = (start_of e.before.before).requires in
-    record { takes = p.takes; counted = counted e.before.before; few = e.if2.false; room = p.size (few e) }
-
--- the list stands in the local array
-abbrev listed : tie.After-put-list → List ℕ
-listed c = list_of (start_of (met c).before)
-
-front : (c : tie.After-put-list) → take c.put-list.result c.put-list.new.1.1.1.1.1.1.1.0 ≡ listed c
-front c = let e = c.put-list.ensures.0 in ap (take c.put-list.result) e.1 ∙ take-over _ (listed c) c.put-list.result (omega (arith, e.0))
-
-returns-3 : tie.Need-returns-3
-returns-3 c =
-    let p = c.before.before in
-    let s = start_of (met p).before in
-    promised s (asked_20 (length s.args.out.now) (rows_of s) (list_of s) (met_21 (met p)) (few p.before.before) (omega (arith, p.put-list.ensures.0.0, c.if3.true))) refl refl
-
-slice-aggregate-copy-bytes : tie.Need-slice-aggregate-copy-bytes
-slice-aggregate-copy-bytes c = let p = c.before.before.before in omega (arith, p.put-list.ensures.0.0, ap length (front p))
-
-copy-bytes-requires : tie.Need-copy-bytes-requires
-copy-bytes-requires c κs =
-    let p = c.before.before.before.before in
-    omega (arith, p.put-list.ensures.0.0, ap length (front p), c.before.before.if3.false)
-
-returns-4 : tie.Need-returns-4
-returns-4 c =
-    let p = c.before.before.before.before.before.before.before in
-    let s = start_of (met p).before in
+    let p = c in
+    let s = start_of (met c.before.before.before.before.before.before.before).before in
     let out = s.args.out.now in
-    let long : p.put-list.result ≡ length (listed p) = omega (arith, p.put-list.ensures.0.0) in
-    promised s (asked_list (length out) (rows_of s) (list_of s) (met_21 (met p)) (few p.before.before) (omega (arith, long, c.before.before.before.before.before.if3.false))) (ap Length long)
-    (c.before.before.copy-bytes.ensures.1 ∙ ap (over out 0) (front p))
+    let long : p.put_list-length.result ≡ length (listed c.before.before.before.before.before.before.before) = omega (arith, p.put_list-length.ensures.0.0) in
+    promised s (asked_list (length out) (rows_of s) (list_of s) (met_21 (met c.before.before.before.before.before.before.before)) (few c.before.before.before.before.before.before.before.before.before) (omega (arith, long, c.if-out-length.false))) (ap Length long)
+    (c.copy_bytes.ensures.1 ∙ ap (over out 0) (front c.before.before.before.before.before.before.before))
 
-pub write-chosen-spec : {M : Type 1} → statement M
-write-chosen-spec =
+pub write_chosen_spec : {M : Type 1} → statement M
+write_chosen_spec =
     tie.close
     (tie.spec (λ c κs. search rules) (λ c κs. search rules) (λ c κs. search rules) (λ c κs. search rules) (λ c κs. search rules) (λ c. search rules) (λ c. search rules)
-    (λ c. search rules) returns returns-2 (λ c. search rules) put-list-requires
-    returns-3 (λ c. c.before.before.put-list.ensures.1) slice-aggregate-copy-bytes copy-bytes-requires (λ c. search rules) returns-4)
+    (λ c. search rules) returns-then-conflicts-ne0 returns-then-count-gt32 (λ c. search rules) put_list-length-requires
+    returns-then-out-length (λ c. c.put_list-length.ensures.1) slice_bounds-copy_bytes-end copy_bytes-requires (λ c. search rules) returns)

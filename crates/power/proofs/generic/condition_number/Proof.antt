@@ -10,27 +10,27 @@ use Rattle.power.proofs.generic.condition_number.Statement.{statement}
 use Rattle.power.proofs.generic.condition_number.Tie as tie
 
 -- question 1 is met
-sided : (c : tie.Else1) → is_side c.before.before.before.args.n ≡ true
-sided c = met c.before.is-side.ensures c.if1.false
+sided : (c : tie.Else-not-is_side) → is_side c.args.n ≡ true
+sided c = met c.is_side.ensures c.if-not-is_side.false
+
+returns-then-not-is_side : tie.Need-returns-then-not-is_side
+unfolding condition_number
+returns-then-not-is_side c = rw (unmet c.is_side.ensures c.if-not-is_side.true)
+
+returns-then-not-is_matrix : tie.Need-returns-then-not-is_matrix
+unfolding condition_number
+returns-then-not-is_matrix c = rw (sided c.before.before, unmet c.is_matrix.ensures c.if-not-is_matrix.true)
+
+condition-requires : tie.Need-condition-requires
+condition-requires c κs = (sided c.before.before, long-length _ _ (met c.is_matrix.ensures c.if-not-is_matrix.false))
 
 returns : tie.Need-returns
 unfolding condition_number
-returns c = rw (unmet c.before.is-side.ensures c.if1.true)
+returns c =
+    let else2 = c in
+    rw (sided c.before.before.before, met else2.is_matrix.ensures else2.if-not-is_matrix.false) (value c.condition.ensures)
 
-returns-2 : tie.Need-returns-2
-unfolding condition_number
-returns-2 c = rw (sided c.before.before, unmet c.before.is-matrix.ensures c.if2.true)
-
-condition-requires : tie.Need-condition-requires
-condition-requires c κs = (sided c.before.before, long-length _ _ (met c.before.is-matrix.ensures c.if2.false))
-
-returns-3 : tie.Need-returns-3
-unfolding condition_number
-returns-3 c =
-    let else2 = c.before in
-    rw (sided else2.before.before, met else2.before.is-matrix.ensures else2.if2.false) (value c.condition.ensures)
-
-pub condition-number-spec : {M : Type 1} → statement M
-condition-number-spec =
+pub condition_number_spec : {M : Type 1} → statement M
+condition_number_spec =
     tie.close
-    (tie.spec (λ c κs. search rules) returns (λ c κs. square_area c.before.before.before.args.n (sided c)) returns-2 condition-requires returns-3)
+    (tie.spec (λ c κs. search rules) returns-then-not-is_side (λ c κs. square_area c.args.n (sided c)) returns-then-not-is_matrix condition-requires returns)

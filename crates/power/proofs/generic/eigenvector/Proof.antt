@@ -13,12 +13,12 @@ order c = side_high c.args.n c.requires.0
 
 dominant-requires : tie.Need-dominant-requires
 dominant-requires c κs =
-    let start = c.before.before.before.before in
-    let o = order start in
+    let start = c in
+    let o = order c.before.before.before.before in
     record { order = start.requires.0; matrix = start.requires.1; left = start.requires.2; right = length-take-le _ _ (omega arith) }
 
-pub eigenvector-spec : {M : Type 1} → statement M
-eigenvector-spec =
+pub eigenvector_spec : {M : Type 1} → statement M
+eigenvector_spec =
     tie.close
     (tie.spec (λ c. omega (arith, order c.before.before.before)) (λ c. sym (length-take-le _ _ (omega (arith, order c.before.before.before.before))))
-    dominant-requires (λ c. search rules) (λ c. c.before.before.before.dominant.ensures))
+    dominant-requires (λ c. search rules) (λ c. c.dominant.ensures))

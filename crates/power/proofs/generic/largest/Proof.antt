@@ -14,21 +14,21 @@ order c = side_high c.args.n c.requires.0
 size : (c : tie.Start) → c.args.n * c.args.n ≤ 256
 size c = square_area c.args.n c.requires.0
 
-largest-in-requires : tie.Need-largest-in-requires
-largest-in-requires c κs =
-    let start = c.before.before.before.before in
-    let o = order start in
-    let s = size start in
+largest_in-requires : tie.Need-largest_in-requires
+largest_in-requires c κs =
+    let start = c in
+    let o = order c.before.before.before.before in
+    let s = size c.before.before.before.before in
     record {
       matrices = record { order = start.requires.0; matrix = start.requires.1; room = length-take-le _ _ (omega arith) };
       left = length-take-le _ _ (omega arith);
       right = length-take-le _ _ (omega arith);
     }
 
-pub largest-spec : {M : Type 1} → statement M
-largest-spec =
+pub largest_spec : {M : Type 1} → statement M
+largest_spec =
     tie.close
     (tie.spec (λ c. omega (arith, size c.before)) (λ c. omega (arith, size c.before)) (λ c. sym (length-take-le _ _ (omega (arith, size c.before.before))))
     (λ c. omega (arith, order c.before.before)) (λ c. sym (length-take-le _ _ (omega (arith, order c.before.before.before))))
     (λ c. omega (arith, order c.before.before.before)) (λ c. sym (length-take-le _ _ (omega (arith, order c.before.before.before.before))))
-    largest-in-requires (λ c. c.before.before.before.largest-in.ensures))
+    largest_in-requires (λ c. c.largest_in.ensures))

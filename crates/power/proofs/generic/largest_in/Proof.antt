@@ -11,23 +11,23 @@ abbrev entered : tie.After-gram → tie.Start
 entered c = c.before.before.before.before.before.before
 
 abbrev made : tie.After-dominant → tie.After-gram
-made c = c.before.before.before.before.before.before
+made c = c.before.before.before.before.before
 
 dominant-requires : tie.Need-dominant-requires
 dominant-requires c κs =
-    let call = c.before.before.before.before.before in
-    let pre = (entered call).requires in
-    record { order = pre.matrices.order; matrix = call.gram.auto.1.1.0 ∙ pre.matrices.room; left = pre.left; right = pre.right }
+    let call = c in
+    let pre = (entered c.before.before.before.before).requires in
+    record { order = pre.matrices.order; matrix = call.gram.auto.g ∙ pre.matrices.room; left = pre.left; right = pre.right }
 
 returns : tie.Need-returns
 returns c =
-    let call = c.before.before.before.before.before in
-    let x = (entered (made call)).args in
-    c.singular-value.ensures
-    ∙ ap (λ (p : Eigenpair). singular_value p.value) (call.dominant.ensures ∙ ap (λ (g : List _). dominant g x.n x.max-iter x.tol) (made call).gram.ensures)
+    let call = c in
+    let x = (entered (made c.before.before.before.before.before)).args in
+    c.singular_value.ensures
+    ∙ ap (λ (p : Eigenpair). singular_value p.value) (call.dominant.ensures ∙ ap (λ (g : List _). dominant g x.n x.max_iter x.tol) (made c.before.before.before.before.before).gram.ensures)
 
-pub largest-in-spec : {M : Type 1} → statement M
-largest-in-spec =
+pub largest_in_spec : {M : Type 1} → statement M
+largest_in_spec =
     tie.close
-    (tie.spec (λ c κs. c.before.before.before.before.before.requires.matrices) dominant-requires (λ c κs. search rules)
+    (tie.spec (λ c κs. c.requires.matrices) dominant-requires (λ c κs. search rules)
     (λ c. search rules) (λ c. search rules) (λ c. search rules) returns)

@@ -11,41 +11,41 @@ use Rattle.power.proofs.generic.mat_eigenvector_max.Statement.{statement}
 use Rattle.power.proofs.generic.mat_eigenvector_max.Tie as tie
 
 -- the place where the call begins
-abbrev entered : tie.Else1 → tie.Start
+abbrev entered : tie.Else-not-is_side → tie.Start
 entered c = c.before.before.before.before
 
 -- question 1 is met
-sided : (c : tie.Else1) → is_side (entered c).args.n ≡ true
-sided c = met c.before.is-side.ensures c.if1.false
+sided : (c : tie.Else-not-is_side) → is_side (entered c).args.n ≡ true
+sided c = met c.is_side.ensures c.if-not-is_side.false
 
 -- and so is question 2
-shaped : (c : tie.Else2) → let x = (entered c.before.before.before).args in (has_length x.v.now x.n && has_length x.a.now (x.n * x.n)) ≡ true
-shaped c = met c.before.is-form.ensures c.if2.false
+shaped : (c : tie.Else-not-is_form) → let x = (entered c.before.before).args in (has_length x.v.now x.n && has_length x.a.now (x.n * x.n)) ≡ true
+shaped c = met c.is_form.ensures c.if-not-is_form.false
 
-returns : tie.Need-returns
+returns-then-not-is_side : tie.Need-returns-then-not-is_side
 unfolding mat_eigenvector_max
-returns c = rw (unmet c.before.is-side.ensures c.if1.true)
+returns-then-not-is_side c = rw (unmet c.is_side.ensures c.if-not-is_side.true)
 
-returns-2 : tie.Need-returns-2
+returns-then-not-is_form : tie.Need-returns-then-not-is_form
 unfolding mat_eigenvector_max
-returns-2 c = rw (sided c.before.before.before, unmet c.before.is-form.ensures c.if2.true)
+returns-then-not-is_form c = rw (sided c.before.before, unmet c.is_form.ensures c.if-not-is_form.true)
 
 eigenvector-requires : tie.Need-eigenvector-requires
 eigenvector-requires c κs =
-    let else2 = c.before in
-    let else1 = else2.before.before.before in
-    let x = (entered else1).args in
-    let l = two-long x.v.now x.a.now x.n (x.n * x.n) (shaped else2) in
-    (sided else1, l.1, l.0)
+    let else2 = c in
+    let else1 = else2 in
+    let x = (entered c.before.before.before).args in
+    let l = two-long x.v.now x.a.now x.n (x.n * x.n) (shaped c.before) in
+    (sided c.before.before.before, l.1, l.0)
 
-returns-3 : tie.Need-returns-3
+returns : tie.Need-returns
 unfolding mat_eigenvector_max
-returns-3 c =
-    let else2 = c.before.before.before.before in
-    rw (sided else2.before.before.before, shaped else2) (ap (λ (p : Eigenpair). (Value p.value, p.vector)) c.before.before.eigenvector.ensures)
+returns c =
+    let else2 = c in
+    rw (sided c.before.before.before.before.before.before, shaped c.before.before.before.before) (ap (λ (p : Eigenpair). (Value p.value, p.vector)) c.eigenvector.ensures)
 
-pub mat-eigenvector-max-spec : {M : Type 1} → statement M
-mat-eigenvector-max-spec =
+pub mat_eigenvector_max_spec : {M : Type 1} → statement M
+mat_eigenvector_max_spec =
     tie.close
-    (tie.spec (λ c κs. search rules) returns (λ c κs. let else1 = c.before in square_area (entered else1).args.n (sided else1)) (λ c. search rules) returns-2
-    eigenvector-requires (λ c. search rules) returns-3)
+    (tie.spec (λ c κs. search rules) returns-then-not-is_side (λ c κs. let else1 = c in square_area (entered c).args.n (sided c)) (λ c. search rules) returns-then-not-is_form
+    eigenvector-requires (λ c. search rules) returns)

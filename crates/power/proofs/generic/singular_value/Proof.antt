@@ -4,13 +4,13 @@ use Rattle.power.specs.Power.{singular_value}
 use Rattle.power.proofs.generic.singular_value.Statement.{statement}
 use Rattle.power.proofs.generic.singular_value.Tie as tie
 
+returns-then-lambda : tie.Need-returns-then-lambda
+unfolding singular_value
+returns-then-lambda c = rw c.if-lambda.true
+
 returns : tie.Need-returns
 unfolding singular_value
-returns c = rw c.if1.true
+returns c = rw c.if-lambda.false c.sqrt.ensures
 
-returns-2 : tie.Need-returns-2
-unfolding singular_value
-returns-2 c = rw c.before.if1.false c.sqrt.ensures
-
-pub singular-value-spec : {M : Type 1} → statement M
-singular-value-spec = tie.close (tie.spec returns (λ c κs. search rules) returns-2)
+pub singular_value_spec : {M : Type 1} → statement M
+singular_value_spec = tie.close (tie.spec returns-then-lambda (λ c κs. search rules) returns)

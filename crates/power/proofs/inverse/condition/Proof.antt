@@ -15,11 +15,11 @@ order c = side_high c.args.n c.requires.0
 size : (c : tie.Start) → c.args.n * c.args.n ≤ 256
 size c = square_area c.args.n c.requires.0
 
-condition-in-requires : tie.Need-condition-in-requires
-condition-in-requires c κs =
-    let start = c.before.before.before.before.before in
-    let o = order start in
-    let s = size start in (
+condition_in-requires : tie.Need-condition_in-requires
+condition_in-requires c κs =
+    let start = c in
+    let o = order c.before.before.before.before.before in
+    let s = size c.before.before.before.before.before in (
       record {
         matrices = record { order = start.requires.0; matrix = start.requires.1; room = length-take-le _ _ (omega arith) };
         left = length-take-le _ _ (omega arith);
@@ -28,11 +28,11 @@ condition-in-requires c κs =
       length-take-le _ _ (omega arith),
     )
 
-pub condition-spec : {M : Type 1} → statement M
-condition-spec =
+pub condition_spec : {M : Type 1} → statement M
+condition_spec =
     tie.close
     (tie.spec (λ c. omega (arith, size c.before)) (λ c. omega (arith, size c.before)) (λ c. sym (length-take-le _ _ (omega (arith, size c.before.before))))
     (λ c. omega (arith, order c.before.before)) (λ c. sym (length-take-le _ _ (omega (arith, order c.before.before.before))))
     (λ c. omega (arith, order c.before.before.before)) (λ c. sym (length-take-le _ _ (omega (arith, order c.before.before.before.before))))
     (λ c. omega (arith, order c.before.before.before.before)) (λ c. sym (length-take-le _ _ (omega (arith, order c.before.before.before.before.before))))
-    condition-in-requires (λ c. c.before.before.before.before.condition-in.ensures))
+    condition_in-requires (λ c. c.condition_in.ensures))

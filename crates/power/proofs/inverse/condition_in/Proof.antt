@@ -9,38 +9,38 @@ use Rattle.power.proofs.inverse.condition_in.Tie as tie
 abbrev entered : tie.After-gram → tie.Start
 entered c = c.before.before.before.before.before.before.before
 
-abbrev made : tie.After-dominant → tie.After-gram
-made c = c.before.before.before.before.before.before
+abbrev made : tie.After-dominant-lambda → tie.After-gram
+made c = c.before.before.before.before.before
 
-dominant-requires : tie.Need-dominant-requires
-dominant-requires c κs =
-    let call = c.before.before.before.before.before in
-    let pre = (entered call).requires.0 in
-    record { order = pre.matrices.order; matrix = call.gram.auto.1.1.0 ∙ pre.matrices.room; left = pre.left; right = pre.right }
+dominant-lambda-requires : tie.Need-dominant-lambda-requires
+dominant-lambda-requires c κs =
+    let call = c in
+    let pre = (entered c.before.before.before.before).requires.0 in
+    record { order = pre.matrices.order; matrix = call.gram.auto.g ∙ pre.matrices.room; left = pre.left; right = pre.right }
 
-ratio-of-requires : tie.Need-ratio-of-requires
-ratio-of-requires c κs =
-    let call = c.before.before.before.before.before.before.before.before in
-    let start = entered (made call) in
-    let pre = start.pre.0 in (
+ratio_of-requires : tie.Need-ratio_of-requires
+ratio_of-requires c κs =
+    let call = c in
+    let start = entered (made c.before.before.before.before.before.before) in
+    let pre = start.requires.0 in (
       record {
         order = pre.matrices.order;
-        matrix = (made call).gram.auto.1.1.0 ∙ pre.matrices.room;
-        left = start.pre.1;
-        right = call.dominant.auto.1.1.1.1.1.0 ∙ pre.right;
+        matrix = (made c.before.before.before.before.before.before).gram.auto.g ∙ pre.matrices.room;
+        left = start.requires.1;
+        right = call.dominant-lambda.auto.w ∙ pre.right;
       },
-      call.dominant.auto.1.1.1.1.0 ∙ pre.left,
+      call.dominant-lambda.auto.v ∙ pre.left,
     )
 
 returns : tie.Need-returns
 returns c =
-    let last = c.before.before.before.before in
-    let call = last.before.before.before.before.before.before.before.before.before in
-    let x = (entered (made call)).args in
-    conditioned x.a.now x.n (made call).gram.ensures call.dominant.ensures last.ratio-of.ensures
+    let last = c in
+    let call = last in
+    let x = (entered (made c.before.before.before.before.before.before.before.before.before.before.before)).args in
+    conditioned x.a.now x.n (made c.before.before.before.before.before.before.before.before.before.before.before).gram.ensures call.dominant-lambda.ensures last.ratio_of.ensures
 
-pub condition-in-spec : {M : Type 1} → statement M
-condition-in-spec =
+pub condition_in_spec : {M : Type 1} → statement M
+condition_in_spec =
     tie.close
-    (tie.spec (λ c κs. c.before.before.before.before.before.before.requires.0.matrices) dominant-requires ratio-of-requires
+    (tie.spec (λ c κs. c.requires.0.matrices) dominant-lambda-requires ratio_of-requires
     (λ c. search rules) (λ c. search rules) (λ c. search rules) (λ c. search rules) returns)

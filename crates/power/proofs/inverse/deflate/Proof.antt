@@ -6,28 +6,28 @@ use Rattle.power.proofs.inverse.deflate.Statement.{statement}
 use Rattle.power.proofs.inverse.deflate.Tie as tie
 
 -- the places on the way
-abbrev entered : tie.After-unit-vector → tie.Start
+abbrev entered : tie.After-unit_vector → tie.Start
 entered c = c.before.before.before.before
 
-abbrev written : tie.After-dot → tie.After-unit-vector
-written c = c.before.before.before.before
+abbrev written : tie.After-dot-d → tie.After-unit_vector
+written c = c.before.before.before
 
 -- the unit vector has n entries
-wide : (c : tie.After-unit-vector) → length c.unit-vector.new.1.1.0 ≡ (entered c).args.n
-wide c = c.unit-vector.auto.1.1.0 ∙ (entered c).requires.room
+wide : (c : tie.After-unit_vector) → length c.unit_vector.new.y ≡ (entered c).args.n
+wide c = c.unit_vector.auto.y ∙ (entered c).requires.room
 
-same_length : tie.Need-same-length
-same_length c = c.before.before.subtract-scaled.auto.1.1.1.0 ∙ (written c.before.before.before.before).unit-vector.auto.1.1.0
+shape_of-y : tie.Need-shape_of-y
+shape_of-y c = c.subtract_scaled.auto.y ∙ (written c.before.before.before.before).unit_vector.auto.y
 
 returns : tie.Need-returns
 unfolding deflated
 returns c =
-    let after-dot = c.before.before.before.before in
-    c.before.before.subtract-scaled.ensures ∙ rw (after-dot.dot.ensures, (written after-dot).unit-vector.ensures)
+    let after-dot = c in
+    c.subtract_scaled.ensures ∙ rw (after-dot.dot-d.ensures, (written c.before.before.before.before).unit_vector.ensures)
 
-pub deflate-spec : {M : Type 1} → statement M
-deflate-spec =
+pub deflate_spec : {M : Type 1} → statement M
+deflate_spec =
     tie.close
-    (tie.spec (λ c κs. let pre = c.before.before.before.requires in (pre.index, pre.room))
-    (λ c κs. let call = c.before.before.before in (wide call, (entered call).requires.vector))
-    (λ c κs. let call = c.before.before.before.before.before in ((entered call).requires.vector, wide call)) same_length returns)
+    (tie.spec (λ c κs. let pre = c.requires in (pre.index, pre.room))
+    (λ c κs. let call = c in (wide c.before.before, (entered c.before.before).requires.vector))
+    (λ c κs. let call = c in ((entered c.before.before.before.before).requires.vector, wide c.before.before.before.before)) shape_of-y returns)

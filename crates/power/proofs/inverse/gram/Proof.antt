@@ -5,7 +5,7 @@ use Rattle.power.proofs.inverse.gram.Statement.{statement}
 use Rattle.power.proofs.inverse.gram.Tie as tie
 
 returns : tie.Need-returns
-returns c = gram-left c.before.before.before.before.before.before.requires c.before.before.mat-ata.ensures
+returns c = gram-left c.requires c.mat_ata.ensures
 
-pub gram-spec : {M : Type 1} → statement M
-gram-spec = tie.close (tie.spec (λ c κs. search rules) (λ c. search rules) returns)
+pub gram_spec : {M : Type 1} → statement M
+gram_spec = tie.close (tie.spec (λ c κs. search rules) (λ c. search rules) returns)

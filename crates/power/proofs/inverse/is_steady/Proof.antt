@@ -6,7 +6,7 @@ use Rattle.power.proofs.inverse.is_steady.Tie as tie
 
 returns : tie.Need-returns
 unfolding is_steady
-returns c = rw (c.abs2.ensures, c.before.abs.ensures)
+returns c = rw (c.abs-2.ensures, c.abs.ensures)
 
-pub is-steady-spec : {M : Type 1} → statement M
-is-steady-spec = tie.close (tie.spec (λ c κs. search rules) (λ c κs. search rules) returns)
+pub is_steady_spec : {M : Type 1} → statement M
+is_steady_spec = tie.close (tie.spec (λ c κs. search rules) (λ c κs. search rules) returns)

@@ -13,8 +13,8 @@ use Rattle.power.proofs.inverse.normalize.Tie as tie
 returns : tie.Need-returns
 unfolding normalized
 returns c =
-    let start = c.before.before.before.before.before.before in
-    c.before.before.multiply.ensures ∙ ap (λ (s : Float). tabulate start.args.n (λ i. mul (nth start.args.x.now i) (div one s))) start.requires.2
+    let start = c in
+    c.multiply.ensures ∙ ap (λ (s : Float). tabulate start.args.n (λ i. mul (nth start.args.x.now i) (div one s))) start.requires.2
 
-pub normalize-spec : {M : Type 1} → statement M
-normalize-spec = tie.close (tie.spec (λ c κs. search rules) (λ c. search rules) returns)
+pub normalize_spec : {M : Type 1} → statement M
+normalize_spec = tie.close (tie.spec (λ c κs. search rules) (λ c. search rules) returns)

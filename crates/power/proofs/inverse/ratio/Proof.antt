@@ -4,13 +4,13 @@ use Rattle.power.specs.Condition.{ratio}
 use Rattle.power.proofs.inverse.ratio.Statement.{statement}
 use Rattle.power.proofs.inverse.ratio.Tie as tie
 
+returns-then-estimate : tie.Need-returns-then-estimate
+unfolding ratio
+returns-then-estimate c = rw c.if-estimate.true c.infinity.ensures
+
 returns : tie.Need-returns
 unfolding ratio
-returns c = rw c.before.if1.true c.infinity.ensures
+returns c = rw (c.if-estimate.false, c.sqrt.ensures)
 
-returns-2 : tie.Need-returns-2
-unfolding ratio
-returns-2 c = rw (c.before.if1.false, c.sqrt.ensures)
-
-pub ratio-spec : {M : Type 1} → statement M
-ratio-spec = tie.close (tie.spec (λ c κs. search rules) returns (λ c κs. search rules) returns-2)
+pub ratio_spec : {M : Type 1} → statement M
+ratio_spec = tie.close (tie.spec (λ c κs. search rules) returns-then-estimate (λ c κs. search rules) returns)

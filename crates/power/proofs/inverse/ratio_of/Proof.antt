@@ -8,43 +8,43 @@ use Rattle.power.proofs.inverse.ratio_of.Statement.{statement}
 use Rattle.power.proofs.inverse.ratio_of.Tie as tie
 
 -- the places on the way
-abbrev entered : tie.Else1 → tie.Start
+abbrev entered : tie.Else-lambda → tie.Start
 entered c = c.before.before.before.before.before
 
-abbrev high : tie.After-start → tie.Else1
+abbrev high : tie.After-start → tie.Else-lambda
 high c = c.before.before.before.before
 
-returns : tie.Need-returns
-returns c =
-    let x = c.before.before.before.before.before.before.args in
-    ratio-low x.g.now x.n x.lambda x.v.now c.before.if1.true c.infinity.ensures
+returns-then-lambda : tie.Need-returns-then-lambda
+returns-then-lambda c =
+    let x = c.args in
+    ratio-low x.g.now x.n x.lambda x.v.now c.if-lambda.true c.infinity.ensures
 
 start-requires : tie.Need-start-requires
 start-requires c κs = let pre = (entered c.before.before.before).requires in record { vector = pre.1; room = pre.0.right; start = pre.0.left }
 
-returns-2 : tie.Need-returns-2
-returns-2 c =
-    let call = c.before.before.before.before.before.before in
-    let x = (entered (high call)).args in
-    ratio_unstarted x.g.now x.n x.lambda x.v.now (high call).if1.false call.before.before.before.sqrt.ensures
-    (starts_as x.v.now x.n (not-true _ c.before.if2.true) call.start.ensures) c.infinity2.ensures
+returns-then-not-start : tie.Need-returns-then-not-start
+returns-then-not-start c =
+    let call = c in
+    let x = (entered (high c.before.before.before.before.before.before)).args in
+    ratio_unstarted x.g.now x.n x.lambda x.v.now (high c.before.before.before.before.before.before).if-lambda.false call.sqrt-sigma.ensures
+    (starts_as x.v.now x.n c.if-not-start.true call.start.ensures) c.infinity-then-not-start.ensures
 
 rounds-requires : tie.Need-rounds-requires
 rounds-requires c κs =
-    let call = c.before.before.before.before.before.before.before in
-    let room = (entered (high call)).requires.0 in
-    record { order = room.order; matrix = room.matrix; left = call.start.auto.1.1.1.0 ∙ room.left; right = call.start.auto.1.1.0 ∙ room.right }
+    let call = c in
+    let room = (entered (high c.before.before.before.before.before.before.before)).requires.0 in
+    record { order = room.order; matrix = room.matrix; left = call.start.auto.x ∙ room.left; right = call.start.auto.y ∙ room.right }
 
-returns-3 : tie.Need-returns-3
-returns-3 c =
-    let last = c.before.before.before.before in
-    let call = last.before.before.before.before.before.before.before.before in
-    let x = (entered (high call)).args in
-    ratio_started x.g.now x.n x.lambda x.v.now (high call).if1.false call.before.before.before.sqrt.ensures
-    (starts_as x.v.now x.n (not-false _ last.before.before.before.if2.false) call.start.ensures) last.rounds.ensures
+returns : tie.Need-returns
+returns c =
+    let last = c in
+    let call = last in
+    let x = (entered (high c.before.before.before.before.before.before.before.before.before.before.before.before)).args in
+    ratio_started x.g.now x.n x.lambda x.v.now (high c.before.before.before.before.before.before.before.before.before.before.before.before).if-lambda.false call.sqrt-sigma.ensures
+    (starts_as x.v.now x.n last.if-not-start.false call.start.ensures) last.rounds.ensures
 
-pub ratio-of-spec : {M : Type 1} → statement M
-ratio-of-spec =
+pub ratio_of_spec : {M : Type 1} → statement M
+ratio_of_spec =
     tie.close
-    (tie.spec (λ c κs. search rules) returns (λ c κs. search rules) start-requires (λ c κs. search rules) (λ c. search rules) (λ c. search rules) returns-2 rounds-requires
-    (λ c. search rules) (λ c. search rules) returns-3)
+    (tie.spec (λ c κs. search rules) returns-then-lambda (λ c κs. search rules) start-requires (λ c κs. search rules) (λ c. search rules) (λ c. search rules) returns-then-not-start rounds-requires
+    (λ c. search rules) (λ c. search rules) returns)

@@ -5,16 +5,16 @@ use Rattle.power.proofs.inverse.solve.Statement.{statement}
 use Rattle.power.proofs.inverse.solve.Tie as tie
 
 -- the place where the function begins
-abbrev entered : tie.After-mat-solve → tie.Start
+abbrev entered : tie.After-mat_solve → tie.Start
 entered c = c.before.before.before.before.before
 
-returns : tie.Need-returns
-returns c = let call = c.before.before.before.before.before in solve-refused (entered call).requires c.before.q.given.1 call.mat-solve.ensures
+returns-in-Refused : tie.Need-returns-in-Refused
+returns-in-Refused c = let call = c in solve-refused (entered c.before.before.before).requires c.in-Refused.is call.mat_solve.ensures
 
-returns-2 : tie.Need-returns-2
-returns-2 c = let call = c.before.before.before.before in solve-done (entered call).requires c.enum_told.given.1 call.mat-solve.ensures
+returns-in-Done : tie.Need-returns-in-Done
+returns-in-Done c = let call = c in solve-done (entered c.before.before.before).requires c.in-Done.is call.mat_solve.ensures
 
-pub solve-spec : {M : Type 1} → statement M
-solve-spec =
+pub solve_spec : {M : Type 1} → statement M
+solve_spec =
     tie.close
-    (tie.spec (λ c κs. search rules) (λ c. search rules) (λ c. search rules) (λ c. search rules) returns (λ c. search rules) returns-2)
+    (tie.spec (λ c κs. search rules) (λ c. search rules) (λ c. search rules) (λ c. search rules) returns-in-Refused (λ c. search rules) returns-in-Done)

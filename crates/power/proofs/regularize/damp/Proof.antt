@@ -6,8 +6,8 @@ use Rattle.power.proofs.regularize.damp.Tie as tie
 
 returns : tie.Need-returns
 returns c =
-    let start = c.before.before.before.before.before.before in
-    damped-left start.requires start.args.alpha c.before.before.tikhonov.ensures
+    let start = c in
+    damped-left start.requires start.args.alpha c.tikhonov.ensures
 
-pub damp-spec : {M : Type 1} → statement M
-damp-spec = tie.close (tie.spec (λ c κs. search rules) (λ c. search rules) returns)
+pub damp_spec : {M : Type 1} → statement M
+damp_spec = tie.close (tie.spec (λ c κs. search rules) (λ c. search rules) returns)

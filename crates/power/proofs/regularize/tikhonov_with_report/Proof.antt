@@ -16,23 +16,23 @@ use Rattle.power.proofs.regularize.tikhonov_with_report.Statement.{statement}
 use Rattle.power.proofs.regularize.tikhonov_with_report.Tie as tie
 
 -- the places on the way: where the call begins, and where question 1 is met
-abbrev entered : tie.Else1 → tie.Start
+abbrev entered : tie.Else-not-is_side → tie.Start
 entered c = c.before.before.before.before
 
-abbrev first : tie.Else2 → tie.Else1
-first c = c.before.before.before
+abbrev first : tie.Else-not-are_matrices → tie.Else-not-is_side
+first c = c.before.before
 
 -- question 1 is met
-sided : (c : tie.Else1) → is_side (entered c).args.n ≡ true
-sided c = met c.before.is-side.ensures c.if1.false
+sided : (c : tie.Else-not-is_side) → is_side (entered c).args.n ≡ true
+sided c = met c.is_side.ensures c.if-not-is_side.false
 
 -- and so is question 2
-shaped : (c : tie.Else2)
+shaped : (c : tie.Else-not-are_matrices)
     → let x = (entered (first c)).args in (has_length x.cov.now (x.n * x.n) && has_length x.out.now (x.n * x.n)) ≡ true
-shaped c = met c.before.are-matrices.ensures c.if2.false
+shaped c = met c.are_matrices.ensures c.if-not-are_matrices.false
 
 -- the lengths
-lengths : (c : tie.Else2) → let x = (entered (first c)).args in (length x.cov.now ≡ x.n * x.n) × (length x.out.now ≡ x.n * x.n)
+lengths : (c : tie.Else-not-are_matrices) → let x = (entered (first c)).args in (length x.cov.now ≡ x.n * x.n) × (length x.out.now ≡ x.n * x.n)
 lengths c = let x = (entered (first c)).args in two-long x.cov.now x.out.now (x.n * x.n) (x.n * x.n) (shaped c)
 
 -- the report, and the matrix
@@ -43,38 +43,38 @@ reported : (cov : List Float) (alpha : Float) (n : ℕ) {m : List Float} {before
 unfolding damping
 reported cov alpha n eb em ea = rw (eb, ea, em)
 
-returns : tie.Need-returns
+returns-then-not-is_side : tie.Need-returns-then-not-is_side
 unfolding tikhonov_with_report
-returns c = rw (unmet c.before.is-side.ensures c.if1.true)
+returns-then-not-is_side c = rw (unmet c.is_side.ensures c.if-not-is_side.true)
 
-returns-2 : tie.Need-returns-2
+returns-then-not-are_matrices : tie.Need-returns-then-not-are_matrices
 unfolding tikhonov_with_report
-returns-2 c = rw (sided c.before.before.before, unmet c.before.are-matrices.ensures c.if2.true)
+returns-then-not-are_matrices c = rw (sided c.before.before, unmet c.are_matrices.ensures c.if-not-are_matrices.true)
 
-condition-requires : tie.Need-condition-requires
-condition-requires c κs = (sided (first c), (lengths c).0)
+condition-before-requires : tie.Need-condition-before-requires
+condition-before-requires c κs = (sided (first c), (lengths c).0)
 
 damp-requires : tie.Need-damp-requires
-damp-requires c κs = let else2 = c.before.before in record { order = sided (first else2); matrix = (lengths else2).0; room = (lengths else2).1 }
+damp-requires c κs = let else2 = c in record { order = sided (first c.before.before); matrix = (lengths c.before.before).0; room = (lengths c.before.before).1 }
 
-condition-requires-2 : tie.Need-condition-requires-2
-condition-requires-2 c κs =
-    let call = c.before.before.before in
-    let else2 = call.before.before.before in
-    (sided (first else2), call.damp.auto.1.1.1.0 ∙ (lengths else2).1)
+condition-after-requires : tie.Need-condition-after-requires
+condition-after-requires c κs =
+    let call = c in
+    let else2 = call in
+    (sided (first c.before.before.before.before.before), call.damp.auto.out ∙ (lengths c.before.before.before.before.before).1)
 
-returns-3 : tie.Need-returns-3
+returns : tie.Need-returns
 unfolding tikhonov_with_report
-returns-3 c =
-    let call = c.before.before.before.before in
-    let after-condition = call.before.before in
-    let else2 = after-condition.before in
-    let x = (entered (first else2)).args in
-    rw (sided (first else2), shaped else2)
-    (reported x.cov.now x.alpha x.n after-condition.condition.ensures call.damp.ensures c.condition2.ensures)
+returns c =
+    let call = c in
+    let after-condition = call in
+    let else2 = after-condition in
+    let x = (entered (first c.before.before.before.before.before.before)).args in
+    rw (sided (first c.before.before.before.before.before.before), shaped c.before.before.before.before.before.before)
+    (reported x.cov.now x.alpha x.n after-condition.condition-before.ensures call.damp.ensures c.condition-after.ensures)
 
-pub tikhonov-with-report-spec : {M : Type 1} → statement M
-tikhonov-with-report-spec =
+pub tikhonov_with_report_spec : {M : Type 1} → statement M
+tikhonov_with_report_spec =
     tie.close
-    (tie.spec (λ c κs. search rules) returns (λ c κs. let else1 = c.before in two_squares (entered else1).args.n (sided else1)) (λ c. search rules) returns-2
-    condition-requires damp-requires condition-requires-2 (λ c. search rules) returns-3)
+    (tie.spec (λ c κs. search rules) returns-then-not-is_side (λ c κs. let else1 = c in two_squares (entered c).args.n (sided c)) (λ c. search rules) returns-then-not-are_matrices
+    condition-before-requires damp-requires condition-after-requires (λ c. search rules) returns)

@@ -13,15 +13,15 @@ use Rattle.power.specs.Power.{even_vector}
 use Rattle.power.proofs.rounds.begin.Statement.{statement}
 use Rattle.power.proofs.rounds.begin.Tie as tie
 
-int-to-float-sqrt : tie.Need-int-to-float-sqrt
+int_to_float-n : tie.Need-int_to_float-n
 unfolding in_float
-int-to-float-sqrt c = let start = c.before.before in let h = side_high start.args.n start.requires.0 in le→leb start.args.n (2 ^ 53) (omega arith)
+int_to_float-n c = let start = c in let h = side_high start.args.n start.requires.0 in le→leb start.args.n (2 ^ 53) (omega arith)
 
 returns : tie.Need-returns
 unfolding even_vector
 returns c =
-    let start = c.before.before.before.before.before.before.before in
-    c.before.before.fill.ensures ∙ ap (λ (s : Float). tabulate start.args.n (λ i. div one s)) c.before.before.before.before.sqrt.ensures
+    let start = c in
+    c.fill.ensures ∙ ap (λ (s : Float). tabulate start.args.n (λ i. div one s)) c.sqrt-s.ensures
 
-pub begin-spec : {M : Type 1} → statement M
-begin-spec = tie.close (tie.spec int-to-float-sqrt (λ c κs. search rules) (λ c κs. search rules) (λ c. search rules) returns)
+pub begin_spec : {M : Type 1} → statement M
+begin_spec = tie.close (tie.spec int_to_float-n (λ c κs. search rules) (λ c κs. search rules) (λ c. search rules) returns)

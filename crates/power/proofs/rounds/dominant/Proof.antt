@@ -12,46 +12,46 @@ abbrev entered : tie.After-begin → tie.Start
 entered c = c.before.before.before.before.before
 
 abbrev started : tie.After-times → tie.After-begin
-started c = c.before.before.before.before.before
+started c = c.before.before.before.before
 
 abbrev multiplied : tie.After-rounds → tie.After-times
 multiplied c = c.before.before.before.before.before
 
 -- the start has n entries
-wide : (c : tie.After-begin) → length c.begin.new.1.0 ≡ (entered c).args.n
-wide c = c.begin.auto.1.0 ∙ (entered c).requires.left
+wide : (c : tie.After-begin) → length c.begin.new.v ≡ (entered c).args.n
+wide c = c.begin.auto.v ∙ (entered c).requires.left
 
 times-requires : tie.Need-times-requires
 times-requires c κs =
-    let after-begin = c.before.before.before.before in
-    let pre = (entered after-begin).requires in
-    record { order = pre.order; matrix = pre.matrix; left = wide after-begin; right = pre.right }
+    let after-begin = c in
+    let pre = (entered c.before.before.before).requires in
+    record { order = pre.order; matrix = pre.matrix; left = wide c.before.before.before; right = pre.right }
 
 rounds-requires : tie.Need-rounds-requires
 rounds-requires c κs =
-    let after-times = c.before.before.before.before in
-    let pre = (entered (started after-times)).requires in
-    record { order = pre.order; matrix = pre.matrix; vector = wide (started after-times); product = after-times.times.ensures }
+    let after-times = c in
+    let pre = (entered (started c.before.before.before.before)).requires in
+    record { order = pre.order; matrix = pre.matrix; vector = wide (started c.before.before.before.before); product = after-times.times.ensures }
 
-same_length : tie.Need-same-length
-same_length c =
-    let call = c.before.before.before.before in
-    call.rounds.auto.1.1.1.1.0 ∙ (started (multiplied call)).begin.auto.1.0
+shape_of-v : tie.Need-shape_of-v
+shape_of-v c =
+    let call = c in
+    call.rounds.auto.v ∙ (started (multiplied c.before.before.before.before)).begin.auto.v
 
-same-length-2 : tie.Need-same-length-2
-same-length-2 c =
-    let call = c.before.before.before.before in
-    call.rounds.auto.1.1.1.1.1.0 ∙ (multiplied call).times.auto.1.1.1.0
+shape_of-w : tie.Need-shape_of-w
+shape_of-w c =
+    let call = c in
+    call.rounds.auto.w ∙ (multiplied c.before.before.before.before).times.auto.y
 
 returns : tie.Need-returns
 unfolding dominant
 returns c =
-    let call = c.before.before.before.before in
-    let after-begin = started (multiplied call) in
+    let call = c in
+    let after-begin = started (multiplied c.before.before.before.before) in
     let x = (entered after-begin).args in
-    call.rounds.ensures ∙ ap (λ (v : List Float). iterated x.a.now x.n x.max-iter x.tol v) after-begin.begin.ensures
+    call.rounds.ensures ∙ ap (λ (v : List Float). iterated x.a.now x.n x.max_iter x.tol v) after-begin.begin.ensures
 
-pub dominant-spec : {M : Type 1} → statement M
-dominant-spec =
+pub dominant_spec : {M : Type 1} → statement M
+dominant_spec =
     tie.close
-    (tie.spec (λ c κs. let pre = c.before.before.before.before.requires in (pre.order, pre.left)) times-requires rounds-requires same_length same-length-2 returns)
+    (tie.spec (λ c κs. let pre = c.requires in (pre.order, pre.left)) times-requires rounds-requires shape_of-v shape_of-w returns)

@@ -8,13 +8,13 @@ use Rattle.power.specs.Power.{is_small}
 use Rattle.power.proofs.rounds.is_small.Statement.{statement}
 use Rattle.power.proofs.rounds.is_small.Tie as tie
 
+returns-then-not-size : tie.Need-returns-then-not-size
+unfolding is_small
+returns-then-not-size c = rw (sym (ap (lt vanishing) c.abs-size.ensures) ∙ c.if-not-size.true)
+
 returns : tie.Need-returns
 unfolding is_small
-returns c = rw (sym (ap (lt vanishing) c.before.abs.ensures) ∙ not-true _ c.if1.true)
+returns c = rw (sym (ap (lt vanishing) c.abs-size.ensures) ∙ c.if-not-size.false, c.abs-size.ensures)
 
-returns-2 : tie.Need-returns-2
-unfolding is_small
-returns-2 c = rw (sym (ap (lt vanishing) c.before.abs.ensures) ∙ not-false _ c.if1.false, c.before.abs.ensures)
-
-pub is-small-spec : {M : Type 1} → statement M
-is-small-spec = tie.close (tie.spec (λ c κs. search rules) returns returns-2)
+pub is_small_spec : {M : Type 1} → statement M
+is_small_spec = tie.close (tie.spec (λ c κs. search rules) returns-then-not-size returns)

@@ -18,30 +18,30 @@ use Rattle.power.proofs.rounds.residual.Tie as tie
 abbrev entry : List Float → Float → List Float → ℕ → Float
 entry w lambda v i = sub (nth w i) (mul lambda (nth v i))
 
-abbrev invariant-loop : tie.invariant-loop
-invariant-loop w lambda v n s₀ i₀ s i = (i ≤ n) × (s ≡ total i (λ q. mul (entry w lambda v q) (entry w lambda v q)))
+abbrev invariant-loop-i : tie.invariant-loop-i
+invariant-loop-i w lambda v n s₀ i₀ s i = (i ≤ n) × (s ≡ total i (λ q. mul (entry w lambda v q) (entry w lambda v q)))
 
-abbrev decreases-loop : tie.decreases-loop
-decreases-loop w lambda v n s₀ i₀ s i = n - i
+abbrev decreases-loop-i : tie.decreases-loop-i
+decreases-loop-i w lambda v n s₀ i₀ s i = n - i
 
-loop-holds : tie.Need-loop-init invariant-loop decreases-loop
+loop-i-init : tie.Need-loop-i-init invariant-loop-i decreases-loop-i
 unfolding sum_from
-loop-holds c = (omega arith, refl)
+loop-i-init c = (omega arith, refl)
 
-loop-again : tie.Need-loop-preserved invariant-loop decreases-loop
-loop-again c = (omega arith, sum_more nought _ c.before.before.before.loop.i c.before.before.before.loop.invariant.1 refl)
+loop-i-preserved : tie.Need-loop-i-preserved invariant-loop-i decreases-loop-i
+loop-i-preserved c = (omega arith, sum_more nought _ c.loop-i.i c.loop-i.invariant.1 refl)
 
-returns : tie.Need-returns invariant-loop decreases-loop
+returns : tie.Need-returns invariant-loop-i decreases-loop-i
 returns c =
-    let x = c.before.before.before.before.before.args in
+    let x = c.args in
     let f = entry x.w.now x.lambda x.v.now in
     c.sqrt.ensures
     ∙ ap sqrt
-    (at_end_lem (λ (k : ℕ). total k (λ q. mul (f q) (f q))) c.before.before.loop.invariant.0 c.before.loop-test.false c.before.before.loop.invariant.1
+    (at_end_lem (λ (k : ℕ). total k (λ q. mul (f q) (f q))) c.loop-i.invariant.0 c.loop-i-test.false c.loop-i.invariant.1
     ∙ sum_ext nought x.n _ _ (λ i h. let e = nth-tabulate x.n f i h in rw e))
 
-pub residual-spec : {M : Type 1} → statement M
-residual-spec =
+pub residual_spec : {M : Type 1} → statement M
+residual_spec =
     tie.close
-    (tie.spec invariant-loop decreases-loop loop-holds (λ c. omega arith) (λ c. omega arith) (λ c. omega arith) (λ c. omega arith) (λ c. omega arith) (λ c. omega arith)
-    loop-again (λ c κs. search rules) returns)
+    (tie.spec invariant-loop-i decreases-loop-i loop-i-init (λ c. omega arith) (λ c. omega arith) (λ c. omega arith) (λ c. omega arith) (λ c. omega arith) (λ c. omega arith)
+    loop-i-preserved (λ c κs. search rules) returns)

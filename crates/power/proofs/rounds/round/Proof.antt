@@ -8,42 +8,42 @@ use Rattle.power.proofs.rounds.round.Tie as tie
 
 -- the places on the way
 abbrev entered : tie.After-dot → tie.Start
-entered c = c.before.before.before.before.before.before
+entered c = c.before.before.before.before
 
 abbrev summed : tie.After-divide → tie.After-dot
-summed c = c.before.before.before.before
+summed c = c.before.before.before
 
 abbrev divided : tie.After-times → tie.After-divide
-divided c = c.before.before.before.before.before
+divided c = c.before.before.before.before
 
 -- the next vector has n entries
-wide : (c : tie.After-divide) → length c.divide.new.1.1.1.0 ≡ (entered (summed c)).args.n
-wide c = c.divide.auto.1.1.1.0 ∙ (entered (summed c)).requires.multiplied.vector
+wide : (c : tie.After-divide) → length c.divide.new.y ≡ (entered (summed c)).args.n
+wide c = c.divide.auto.y ∙ (entered (summed c)).requires.multiplied.vector
 
 times-requires : tie.Need-times-requires
 times-requires c κs =
-    let after-divide = c.before.before.before.before in
-    let held = (entered (summed after-divide)).requires.multiplied in
-    record { order = held.order; matrix = held.matrix; left = wide after-divide; right = product-size held }
+    let after-divide = c in
+    let held = (entered (summed c.before.before.before)).requires.multiplied in
+    record { order = held.order; matrix = held.matrix; left = wide c.before.before.before; right = product-size held }
 
 residual-requires : tie.Need-residual-requires
 residual-requires c κs =
-    let after-times = c.before.before.before.before in
-    let after-divide = divided after-times in
-    (after-times.times.auto.1.1.1.0 ∙ product-size (entered (summed after-divide)).requires.multiplied, wide after-divide)
+    let after-times = c in
+    let after-divide = divided c.before.before in
+    (after-times.times.auto.y ∙ product-size (entered (summed after-divide)).requires.multiplied, wide after-divide)
 
 returns : tie.Need-returns
 returns c =
-    let after-residual = c.before in
-    let after-times = after-residual.before.before.before.before.before in
-    let after-divide = divided after-times in
+    let after-residual = c in
+    let after-times = after-residual in
+    let after-divide = divided c.before.before.before.before in
     let after-dot = summed after-divide in
-    round_made (entered after-dot).pre after-dot.dot.ensures after-divide.before.before.before.sign_of.ensures after-divide.divide.ensures
-    after-times.times.ensures after-residual.residual.ensures c.is-small.ensures
+    round_made (entered after-dot).requires after-dot.dot.ensures after-divide.sign_of.ensures after-divide.divide.ensures
+    after-times.times.ensures after-residual.residual.ensures c.is_small.ensures
 
-pub round-spec : {M : Type 1} → statement M
-round-spec =
+pub round_spec : {M : Type 1} → statement M
+round_spec =
     tie.close
-    (tie.spec (λ c κs. let held = c.before.before.before.before.before.requires.multiplied in (product-size held, held.vector)) (λ c κs. search rules)
-    (λ c κs. let held = (entered c.before.before.before).requires.multiplied in (product-size held, held.vector)) times-requires residual-requires (λ c κs. search rules)
+    (tie.spec (λ c κs. let held = c.requires.multiplied in (product-size held, held.vector)) (λ c κs. search rules)
+    (λ c κs. let held = (entered c.before.before).requires.multiplied in (product-size held, held.vector)) times-requires residual-requires (λ c κs. search rules)
     (λ c. search rules) (λ c. search rules) returns)

@@ -8,16 +8,16 @@ use Rattle.power.proofs.rounds.sign_of.Statement.{statement}
 use Rattle.power.proofs.rounds.sign_of.Tie as tie
 
 -- no zero has the sign -1.0
-below-nought : (c : tie.Else1) → le nought c.before.args.d ≡ false
-below-nought c = c.if1.false
+below-nought : (c : tie.Else-d) → le nought c.args.d ≡ false
+below-nought c = c.if-d.false
+
+returns-then-d : tie.Need-returns-then-d
+unfolding sign_of
+returns-then-d c = rw c.if-d.true
 
 returns : tie.Need-returns
-unfolding sign_of
-returns c = rw c.if1.true
-
-returns-2 : tie.Need-returns-2
 unfolding sign_of neg of_bits
-returns-2 c = rw (below-nought c)
+returns c = rw (below-nought c)
 
-pub sign-of-spec : {M : Type 1} → statement M
-sign-of-spec = tie.close (tie.spec returns returns-2)
+pub sign_of_spec : {M : Type 1} → statement M
+sign_of_spec = tie.close (tie.spec returns-then-d returns)

@@ -8,20 +8,20 @@ use Rattle.dense.proofs.Entries.{EntryByEntry, no_entry, entry-written, every_en
 use Rattle.power.proofs.vector.multiply.Statement.{statement}
 use Rattle.power.proofs.vector.multiply.Tie as tie
 
-abbrev invariant-loop : tie.invariant-loop
-invariant-loop x s n y₀ i₀ y i = EntryByEntry (λ q. mul (nth x q) s) n y₀ i y
+abbrev invariant-loop-i : tie.invariant-loop-i
+invariant-loop-i x s n y₀ i₀ y i = EntryByEntry (λ q. mul (nth x q) s) n y₀ i y
 
-abbrev decreases-loop : tie.decreases-loop
-decreases-loop x s n y₀ i₀ y i = n - i
+abbrev decreases-loop-i : tie.decreases-loop-i
+decreases-loop-i x s n y₀ i₀ y i = n - i
 
-loop-again : tie.Need-loop-preserved invariant-loop decreases-loop
-loop-again c = entry-written c.before.before.loop.invariant c.before.loop-test.true refl
+loop-i-preserved : tie.Need-loop-i-preserved invariant-loop-i decreases-loop-i
+loop-i-preserved c = entry-written c.loop-i.invariant c.loop-i-test.true refl
 
-returns : tie.Need-returns invariant-loop decreases-loop
-returns c = every_entry c.before.loop.invariant c.loop-test.false
+returns : tie.Need-returns invariant-loop-i decreases-loop-i
+returns c = every_entry c.loop-i.invariant c.loop-i-test.false
 
-pub multiply-spec : {M : Type 1} → statement M
-multiply-spec =
+pub multiply_spec : {M : Type 1} → statement M
+multiply_spec =
     tie.close
-    (tie.spec invariant-loop decreases-loop (λ c. no_entry c.requires.1) (λ c. omega arith) (λ c. omega arith) (λ c. omega arith) (λ c. omega arith) (λ c. omega arith) (λ c. omega arith)
-    loop-again (λ c. c.before.loop.invariant.entries.size) returns)
+    (tie.spec invariant-loop-i decreases-loop-i (λ c. no_entry c.requires.1) (λ c. omega arith) (λ c. omega arith) (λ c. omega arith) (λ c. omega arith) (λ c. omega arith) (λ c. omega arith)
+    loop-i-preserved (λ c. c.loop-i.invariant.entries.size) returns)

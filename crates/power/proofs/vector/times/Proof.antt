@@ -5,7 +5,7 @@ use Rattle.power.proofs.vector.times.Statement.{statement}
 use Rattle.power.proofs.vector.times.Tie as tie
 
 returns : tie.Need-returns
-returns c = times-left c.before.before.before.before.before.before.before.requires c.before.before.mat-vec-mul.ensures
+returns c = times-left c.requires c.mat_vec_mul.ensures
 
-pub times-spec : {M : Type 1} → statement M
-times-spec = tie.close (tie.spec (λ c κs. search rules) (λ c. search rules) returns)
+pub times_spec : {M : Type 1} → statement M
+times_spec = tie.close (tie.spec (λ c κs. search rules) (λ c. search rules) returns)

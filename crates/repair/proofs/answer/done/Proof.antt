@@ -3,5 +3,5 @@ use mathlib.Core.Path.{refl}
 use Rattle.repair.proofs.answer.done.Statement.{statement}
 use Rattle.repair.proofs.answer.done.Tie as tie
 
-pub done-spec : {M : Type 1} → statement M
-done-spec = tie.close (tie.spec (λ c. refl))
+pub done_spec : {M : Type 1} → statement M
+done_spec = tie.close (tie.spec (λ c. refl))

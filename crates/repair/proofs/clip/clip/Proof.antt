@@ -2,11 +2,11 @@
 use Rattle.repair.proofs.clip.clip.Statement.{statement}
 use Rattle.repair.proofs.clip.clip.Tie as tie
 
+returns-then-x-floor : tie.Need-returns-then-x-floor
+returns-then-x-floor c = rw c.if-x-floor.true
+
 returns : tie.Need-returns
-returns c = rw c.if1.true
+returns c = rw c.if-x-floor.false
 
-returns-2 : tie.Need-returns-2
-returns-2 c = rw c.if1.false
-
-pub clip-spec : {M : Type 1} → statement M
-clip-spec = tie.close (tie.spec returns returns-2)
+pub clip_spec : {M : Type 1} → statement M
+clip_spec = tie.close (tie.spec returns-then-x-floor returns)

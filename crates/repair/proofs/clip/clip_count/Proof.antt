@@ -9,33 +9,33 @@ use Rattle.repair.proofs.Clips.{count_more, one_at_most}
 use Rattle.repair.proofs.clip.clip_count.Statement.{statement}
 use Rattle.repair.proofs.clip.clip_count.Tie as tie
 
-abbrev invariant-loop : tie.invariant-loop
-invariant-loop e n floor c₀ i₀ c i = (i ≤ n) × (c ≤ i) × (c ≡ clip_count e floor i)
+abbrev invariant-loop-i : tie.invariant-loop-i
+invariant-loop-i e n floor c₀ i₀ c i = (i ≤ n) × (c ≤ i) × (c ≡ clip_count e floor i)
 
-abbrev decreases-loop : tie.decreases-loop
-decreases-loop e n floor c₀ i₀ c i = n - i
+abbrev decreases-loop-i : tie.decreases-loop-i
+decreases-loop-i e n floor c₀ i₀ c i = n - i
 
-loop-holds : tie.Need-loop-init invariant-loop decreases-loop
+loop-i-init : tie.Need-loop-i-init invariant-loop-i decreases-loop-i
 unfolding clip_count
-loop-holds c = (omega arith, omega arith, refl)
+loop-i-init c = (omega arith, omega arith, refl)
 
 -- one entry counts once at most
-once : (c : tie.After-clip invariant-loop decreases-loop) → c.clip.result ≤ 1
-once c = let x = c.before.before.before.before.before.args in one_at_most x.e.now x.floor c.before.before.before.loop.i c.clip.ensures
+once : (c : tie.After-clip-c invariant-loop-i decreases-loop-i) → c.clip-c.result ≤ 1
+once c = let x = c.args in one_at_most x.e.now x.floor c.loop-i.i c.clip-c.ensures
 
-loop-again : tie.Need-loop-preserved invariant-loop decreases-loop
-loop-again c =
-    let x = c.before.before.before.before.before.args in
-    let turn = c.before.before.before.loop in
-    (omega arith, omega (arith, once c), count_more x.e.now x.floor turn.i turn.invariant.2 c.clip.ensures)
+loop-i-preserved : tie.Need-loop-i-preserved invariant-loop-i decreases-loop-i
+loop-i-preserved c =
+    let x = c.args in
+    let turn = c.loop-i in
+    (omega arith, omega (arith, once c), count_more x.e.now x.floor turn.i turn.invariant.2 c.clip-c.ensures)
 
-returns : tie.Need-returns invariant-loop decreases-loop
+returns : tie.Need-returns invariant-loop-i decreases-loop-i
 returns c =
-    let start = c.before.before.before in
-    let x = start.args in c.before.loop.invariant.2 ∙ ap (clip_count x.e.now x.floor) (le_antisymm c.before.loop.invariant.0 c.loop-test.false)
+    let start = c in
+    let x = start.args in c.loop-i.invariant.2 ∙ ap (clip_count x.e.now x.floor) (le_antisymm c.loop-i.invariant.0 c.loop-i-test.false)
 
-pub clip-count-spec : {M : Type 1} → statement M
-clip-count-spec =
+pub clip_count_spec : {M : Type 1} → statement M
+clip_count_spec =
     tie.close
-    (tie.spec invariant-loop decreases-loop loop-holds (λ c. omega arith) (λ c. omega arith) (λ c κs. search rules) (λ c. omega (arith, once c)) (λ c. omega arith) (λ c. omega arith)
-    loop-again returns)
+    (tie.spec invariant-loop-i decreases-loop-i loop-i-init (λ c. omega arith) (λ c. omega arith) (λ c κs. search rules) (λ c. omega (arith, once c)) (λ c. omega arith) (λ c. omega arith)
+    loop-i-preserved returns)

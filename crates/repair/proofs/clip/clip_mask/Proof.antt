@@ -7,27 +7,27 @@ use Rattle.repair.proofs.Clips.{mask_to, mask_none, mask_more, mask_all}
 use Rattle.repair.proofs.clip.clip_mask.Statement.{statement}
 use Rattle.repair.proofs.clip.clip_mask.Tie as tie
 
-abbrev invariant-loop : tie.invariant-loop
-invariant-loop e n floor mask₀ i₀ mask i = (i ≤ n) × (mask ≡ tabulate 16 (mask_to e floor i))
+abbrev invariant-loop-i : tie.invariant-loop-i
+invariant-loop-i e n floor mask₀ i₀ mask i = (i ≤ n) × (mask ≡ tabulate 16 (mask_to e floor i))
 
-abbrev decreases-loop : tie.decreases-loop
-decreases-loop e n floor mask₀ i₀ mask i = n - i
+abbrev decreases-loop-i : tie.decreases-loop-i
+decreases-loop-i e n floor mask₀ i₀ mask i = n - i
 
-loop-holds : tie.Need-loop-init invariant-loop decreases-loop
+loop-i-init : tie.Need-loop-i-init invariant-loop-i decreases-loop-i
 unfolding tabulate
-loop-holds c = (omega arith, mask_none c.args.e.now c.args.floor)
+loop-i-init c = (omega arith, mask_none c.args.e.now c.args.floor)
 
-loop-again : tie.Need-loop-preserved invariant-loop decreases-loop
-loop-again c =
-    let at-loop = c.before.before in
-    (omega arith, mask_more at-loop.before.args.e.now at-loop.before.args.floor at-loop.loop.i (omega arith) at-loop.loop.invariant.1)
+loop-i-preserved : tie.Need-loop-i-preserved invariant-loop-i decreases-loop-i
+loop-i-preserved c =
+    let at-loop = c in
+    (omega arith, mask_more at-loop.args.e.now at-loop.args.floor at-loop.loop-i.i (omega arith) at-loop.loop-i.invariant.1)
 
-returns : tie.Need-returns invariant-loop decreases-loop
+returns : tie.Need-returns invariant-loop-i decreases-loop-i
 returns c =
-    let start = c.before.before in
-    mask_all start.args.e.now start.args.floor start.args.n c.before.loop.i c.before.loop.invariant.0 c.loop-test.false c.before.loop.invariant.1
+    let start = c in
+    mask_all start.args.e.now start.args.floor start.args.n c.loop-i.i c.loop-i.invariant.0 c.loop-i-test.false c.loop-i.invariant.1
 
-pub clip-mask-spec : {M : Type 1} → statement M
-clip-mask-spec =
+pub clip_mask_spec : {M : Type 1} → statement M
+clip_mask_spec =
     tie.close
-    (tie.spec invariant-loop decreases-loop loop-holds (λ c. omega arith) (λ c. omega arith) (λ c. omega arith) (λ c. omega arith) (λ c. omega arith) loop-again returns)
+    (tie.spec invariant-loop-i decreases-loop-i loop-i-init (λ c. omega arith) (λ c. omega arith) (λ c. omega arith) (λ c. omega arith) (λ c. omega arith) loop-i-preserved returns)

@@ -5,17 +5,17 @@ use Rattle.repair.specs.Repair.{greater_clip}
 use Rattle.repair.proofs.clip.greater_clip.Statement.{statement}
 use Rattle.repair.proofs.clip.greater_clip.Tie as tie
 
+returns-then-not-x-floor : tie.Need-returns-then-not-x-floor
+unfolding greater_clip
+returns-then-not-x-floor c = rw c.if-not-x-floor.true
+
+returns-then-clip-g : tie.Need-returns-then-clip-g
+unfolding greater_clip
+returns-then-clip-g c = rw (c.if-not-x-floor.false, c.if-clip-g.true)
+
 returns : tie.Need-returns
 unfolding greater_clip
-returns c = rw (not-true (lt c.before.args.x c.before.args.floor) c.if1.true)
+returns c = rw (c.if-not-x-floor.false, c.if-clip-g.false)
 
-returns-2 : tie.Need-returns-2
-unfolding greater_clip
-returns-2 c = rw (not-false (lt c.before.before.args.x c.before.before.args.floor) c.before.if1.false, c.if2.true)
-
-returns-3 : tie.Need-returns-3
-unfolding greater_clip
-returns-3 c = rw (not-false (lt c.before.before.args.x c.before.before.args.floor) c.before.if1.false, c.if2.false)
-
-pub greater-clip-spec : {M : Type 1} → statement M
-greater-clip-spec = tie.close (tie.spec returns returns-2 returns-3)
+pub greater_clip_spec : {M : Type 1} → statement M
+greater_clip_spec = tie.close (tie.spec returns-then-not-x-floor returns-then-clip-g returns)

@@ -9,28 +9,28 @@ use Rattle.repair.proofs.Clips.{clip_more}
 use Rattle.repair.proofs.clip.largest_clip.Statement.{statement}
 use Rattle.repair.proofs.clip.largest_clip.Tie as tie
 
-abbrev invariant-loop : tie.invariant-loop
-invariant-loop e n floor g₀ i₀ g i = (i ≤ n) × (g ≡ largest_clip e floor i)
+abbrev invariant-loop-i : tie.invariant-loop-i
+invariant-loop-i e n floor g₀ i₀ g i = (i ≤ n) × (g ≡ largest_clip e floor i)
 
-abbrev decreases-loop : tie.decreases-loop
-decreases-loop e n floor g₀ i₀ g i = n - i
+abbrev decreases-loop-i : tie.decreases-loop-i
+decreases-loop-i e n floor g₀ i₀ g i = n - i
 
-loop-holds : tie.Need-loop-init invariant-loop decreases-loop
+loop-i-init : tie.Need-loop-i-init invariant-loop-i decreases-loop-i
 unfolding largest_clip
-loop-holds c = (omega arith, refl)
+loop-i-init c = (omega arith, refl)
 
-loop-again : tie.Need-loop-preserved invariant-loop decreases-loop
-loop-again c =
-    let at-loop = c.before.before.before in
-    let start = at-loop.before.before in
-    let x = start.args in (omega arith, clip_more x.e.now x.floor at-loop.loop.i at-loop.loop.invariant.1 c.greater-clip.ensures)
+loop-i-preserved : tie.Need-loop-i-preserved invariant-loop-i decreases-loop-i
+loop-i-preserved c =
+    let at-loop = c in
+    let start = at-loop in
+    let x = start.args in (omega arith, clip_more x.e.now x.floor at-loop.loop-i.i at-loop.loop-i.invariant.1 c.greater_clip-g.ensures)
 
-returns : tie.Need-returns invariant-loop decreases-loop
+returns : tie.Need-returns invariant-loop-i decreases-loop-i
 returns c =
-    let start = c.before.before.before in
-    let x = start.args in c.before.loop.invariant.1 ∙ ap (largest_clip x.e.now x.floor) (le_antisymm c.before.loop.invariant.0 c.loop-test.false)
+    let start = c in
+    let x = start.args in c.loop-i.invariant.1 ∙ ap (largest_clip x.e.now x.floor) (le_antisymm c.loop-i.invariant.0 c.loop-i-test.false)
 
-pub largest-clip-spec : {M : Type 1} → statement M
-largest-clip-spec =
+pub largest_clip_spec : {M : Type 1} → statement M
+largest_clip_spec =
     tie.close
-    (tie.spec invariant-loop decreases-loop loop-holds (λ c. omega arith) (λ c. omega arith) (λ c κs. search rules) (λ c. omega arith) (λ c. omega arith) loop-again returns)
+    (tie.spec invariant-loop-i decreases-loop-i loop-i-init (λ c. omega arith) (λ c. omega arith) (λ c κs. search rules) (λ c. omega arith) (λ c. omega arith) loop-i-preserved returns)

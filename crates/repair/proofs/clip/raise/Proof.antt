@@ -9,23 +9,23 @@ use Rattle.repair.specs.Repair.{raised}
 use Rattle.repair.proofs.clip.raise.Statement.{statement}
 use Rattle.repair.proofs.clip.raise.Tie as tie
 
-abbrev invariant-loop : tie.invariant-loop
-invariant-loop e₀ n floor i₀ e i = EntryByEntry (λ k. raised floor (nth e₀ k)) n e₀ i e
+abbrev invariant-loop-i : tie.invariant-loop-i
+invariant-loop-i e₀ n floor i₀ e i = EntryByEntry (λ k. raised floor (nth e₀ k)) n e₀ i e
 
-abbrev decreases-loop : tie.decreases-loop
-decreases-loop e₀ n floor i₀ e i = n - i
+abbrev decreases-loop-i : tie.decreases-loop-i
+decreases-loop-i e₀ n floor i₀ e i = n - i
 
-loop-again : tie.Need-loop-preserved invariant-loop decreases-loop
-loop-again c =
-    let at-loop = c.before.before.before in
-    let w = at-loop.loop.invariant in
-    entry-written w c.before.before.loop-test.true (c.raised.ensures ∙ ap (raised at-loop.before.before.args.floor) (entry_old w))
+loop-i-preserved : tie.Need-loop-i-preserved invariant-loop-i decreases-loop-i
+loop-i-preserved c =
+    let at-loop = c in
+    let w = at-loop.loop-i.invariant in
+    entry-written w c.loop-i-test.true (c.raised.ensures ∙ ap (raised at-loop.args.floor) (entry_old w))
 
-returns : tie.Need-returns invariant-loop decreases-loop
-returns c = every_entry c.before.loop.invariant c.loop-test.false
+returns : tie.Need-returns invariant-loop-i decreases-loop-i
+returns c = every_entry c.loop-i.invariant c.loop-i-test.false
 
-pub raise-spec : {M : Type 1} → statement M
-raise-spec =
+pub raise_spec : {M : Type 1} → statement M
+raise_spec =
     tie.close
-    (tie.spec invariant-loop decreases-loop (λ c. no_entry c.before.requires) (λ c. omega arith) (λ c. omega arith) (λ c κs. search rules) (λ c. omega arith) (λ c. omega arith)
-    (λ c. omega arith) (λ c. omega arith) loop-again (λ c. c.before.loop.invariant.entries.size) returns)
+    (tie.spec invariant-loop-i decreases-loop-i (λ c. no_entry c.requires) (λ c. omega arith) (λ c. omega arith) (λ c κs. search rules) (λ c. omega arith) (λ c. omega arith)
+    (λ c. omega arith) (λ c. omega arith) loop-i-preserved (λ c. c.loop-i.invariant.entries.size) returns)

@@ -3,13 +3,13 @@ use Rattle.repair.specs.Repair.{raised}
 use Rattle.repair.proofs.clip.raised.Statement.{statement}
 use Rattle.repair.proofs.clip.raised.Tie as tie
 
+returns-then-x-floor : tie.Need-returns-then-x-floor
+unfolding raised
+returns-then-x-floor c = rw c.if-x-floor.true
+
 returns : tie.Need-returns
 unfolding raised
-returns c = rw c.if1.true
+returns c = rw c.if-x-floor.false
 
-returns-2 : tie.Need-returns-2
-unfolding raised
-returns-2 c = rw c.if1.false
-
-pub raised-spec : {M : Type 1} → statement M
-raised-spec = tie.close (tie.spec returns returns-2)
+pub raised_spec : {M : Type 1} → statement M
+raised_spec = tie.close (tie.spec returns-then-x-floor returns)

@@ -12,55 +12,55 @@ use Rattle.repair.proofs.direct.plane_repair.Statement.{statement}
 use Rattle.repair.proofs.direct.plane_repair.Tie as tie
 
 -- the places on the way: where the function begins, and where the first eigenvalue is tested
-abbrev entered : tie.After-eigenplane → tie.Start
+abbrev entered : tie.After-eigenplane-p → tie.Start
 entered c = c.before.before.before.before.before.before.before
 
-abbrev first : tie.Else2 → tie.Else1
+abbrev first : tie.Else-not-is_finite-2 → tie.Else-not-is_finite
 first c = c.before.before
 
 -- the plane has the eigenpairs
-paired : (c : tie.After-eigenplane) → plane_pairs c.eigenplane.result ≡ eigenpairs (entered c).args.cov.now 2
+paired : (c : tie.After-eigenplane-p) → plane_pairs c.eigenplane-p.result ≡ eigenpairs (entered c).args.cov.now 2
 paired c =
     let start = entered c in
-    c.eigenplane.ensures.1 ∙ ap (λ (l : List Float). eigenpairs l 2) (sym (four-list start.args.cov.now start.pre.matrix-size))
+    c.eigenplane-p.ensures.1 ∙ ap (λ (l : List Float). eigenpairs l 2) (sym (four-list start.args.cov.now start.requires.matrix-size))
+
+returns-then-not-is_finite : tie.Need-returns-then-not-is_finite
+returns-then-not-is_finite c =
+    let asked = c in
+    rw (plane_repaired _ _ _ (paired c.before.before.before), unmet asked.is_finite.ensures c.if-not-is_finite.true, c.refused.ensures)
+
+returns-then-not-is_finite-2 : tie.Need-returns-then-not-is_finite-2
+returns-then-not-is_finite-2 c =
+    let asked = c in
+    let else1 = asked in
+    rw (
+      plane_repaired _ _ _ (paired c.before.before.before.before.before),
+      met else1.is_finite.ensures else1.if-not-is_finite.false,
+      unmet asked.is_finite-2.ensures c.if-not-is_finite-2.true,
+      c.refused-then-not-is_finite-2.ensures,
+    )
 
 returns : tie.Need-returns
 returns c =
-    let asked = c.before.before in
-    rw (plane_repaired _ _ _ (paired asked.before), unmet asked.is_finite.ensures c.before.if1.true, c.refused.ensures)
-
-returns-2 : tie.Need-returns-2
-returns-2 c =
-    let asked = c.before.before in
-    let else1 = asked.before in
+    let rebuilt = c in
+    let second = rebuilt in
+    let reported = second in
+    let else2 = reported in
+    let else1 = first c.before.before.before.before.before.before.before.before in
     rw (
       plane_repaired _ _ _ (paired else1.before.before),
-      met else1.before.is_finite.ensures else1.if1.false,
-      unmet asked.is-finite2.ensures c.before.if2.true,
-      c.refused2.ensures,
-    )
-
-returns-3 : tie.Need-returns-3
-returns-3 c =
-    let rebuilt = c.before.before.before in
-    let second = rebuilt.before.before in
-    let reported = second.before.before in
-    let else2 = reported.before in
-    let else1 = first else2 in
-    rw (
-      plane_repaired _ _ _ (paired else1.before.before),
-      met else1.before.is_finite.ensures else1.if1.left,
-      met else2.before.is-finite2.ensures else2.if2.false,
+      met else1.is_finite.ensures else1.if-not-is_finite.false,
+      met else2.is_finite-2.ensures else2.if-not-is_finite-2.false,
       c.done.ensures,
-      reported.plane-report.ensures,
-      rebuilt.rebuild-plane.ensures,
-      second.raised2.ensures,
-      second.before.raised.ensures,
+      reported.plane_report-report.ensures,
+      rebuilt.rebuild_plane.ensures,
+      second.raised-f.ensures,
+      second.raised-e.ensures,
     )
 
-pub plane-repair-spec : {M : Type 1} → statement M
-plane-repair-spec =
+pub plane_repair_spec : {M : Type 1} → statement M
+plane_repair_spec =
     tie.close
     (tie.spec (λ c. search rules) (λ c. search rules) (λ c. search rules) (λ c. search rules) (λ c κs. search rules) (λ c κs. search rules) (λ c κs. search rules)
-    returns (λ c κs. search rules) (λ c κs. search rules) returns-2 (λ c κs. search rules) (λ c κs. search rules) (λ c κs. search rules) (λ c κs. search rules)
-    (λ c κs. search rules) (λ c. search rules) returns-3)
+    returns-then-not-is_finite (λ c κs. search rules) (λ c κs. search rules) returns-then-not-is_finite-2 (λ c κs. search rules) (λ c κs. search rules) (λ c κs. search rules) (λ c κs. search rules)
+    (λ c κs. search rules) (λ c. search rules) returns)

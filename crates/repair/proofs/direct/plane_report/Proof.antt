@@ -11,22 +11,22 @@ use Rattle.repair.proofs.SmallOrders.{plane_count, plane_largest}
 use Rattle.repair.proofs.direct.plane_report.Statement.{statement}
 use Rattle.repair.proofs.direct.plane_report.Tie as tie
 
-add-count : tie.Need-overflow-add-count
-add-count c =
-    let x = c.before.before.args in
+overflow_add-count : tie.Need-overflow_add-count
+overflow_add-count c =
+    let x = c.args in
     let e = x.x ∷ x.y ∷ [] in
-    omega (arith, one_at_most e x.floor 0 c.before.clip.ensures, one_at_most e x.floor 1 c.clip2.ensures)
+    omega (arith, one_at_most e x.floor 0 c.clip.ensures, one_at_most e x.floor 1 c.clip-2.ensures)
 
 returns : tie.Need-returns
 unfolding clip_mask tabulate of_bits
 returns c =
-    let second = c.before.before in
-    let first = second.before in
-    let x = first.before.args in
-    report_made (x.x ∷ x.y ∷ []) x.floor 2 (plane_count x.x x.y x.floor first.clip.ensures second.clip2.ensures)
-    (plane_largest x.x x.y x.floor c.before.greater-clip.ensures c.greater-clip2.ensures) refl
+    let second = c in
+    let first = second in
+    let x = first.args in
+    report_made (x.x ∷ x.y ∷ []) x.floor 2 (plane_count x.x x.y x.floor first.clip.ensures second.clip-2.ensures)
+    (plane_largest x.x x.y x.floor c.greater_clip.ensures c.greater_clip-2.ensures) refl
 
-pub plane-report-spec : {M : Type 1} → statement M
-plane-report-spec =
+pub plane_report_spec : {M : Type 1} → statement M
+plane_report_spec =
     tie.close
-    (tie.spec (λ c. search rules) (λ c. search rules) (λ c κs. search rules) (λ c κs. search rules) add-count (λ c κs. search rules) (λ c κs. search rules) returns)
+    (tie.spec (λ c. search rules) (λ c. search rules) (λ c κs. search rules) (λ c κs. search rules) overflow_add-count (λ c κs. search rules) (λ c κs. search rules) returns)

@@ -12,48 +12,48 @@ use Rattle.repair.proofs.direct.single_repair.Statement.{statement}
 use Rattle.repair.proofs.direct.single_repair.Tie as tie
 
 -- the places on the way: where the call begins, and where question 2 is met
-abbrev entered : tie.Else1 → tie.Start
-entered c = c.before.before.before.before.before
+abbrev entered : tie.Else-not-are_matrices → tie.Start
+entered c = c.before.before.before.before
 
-abbrev first : tie.Else2 → tie.Else1
+abbrev first : tie.Else-not-is_finite → tie.Else-not-are_matrices
 first c = c.before.before.before
 
 -- question 2 is met
-shaped : (c : tie.Else1) → let x = (entered c).args in (has_length x.cov.now 1 && has_length x.out.now 1) ≡ true
-shaped c = met c.before.are-matrices.ensures c.if1.false
+shaped : (c : tie.Else-not-are_matrices) → let x = (entered c).args in (has_length x.cov.now 1 && has_length x.out.now 1) ≡ true
+shaped c = met c.are_matrices.ensures c.if-not-are_matrices.false
 
-sizes : (c : tie.Else1) → let x = (entered c).args in (length x.cov.now ≡ 1) × (length x.out.now ≡ 1)
+sizes : (c : tie.Else-not-are_matrices) → let x = (entered c).args in (length x.cov.now ≡ 1) × (length x.out.now ≡ 1)
 sizes c = let x = (entered c).args in two-long x.cov.now x.out.now 1 1 (shaped c)
 
+returns-then-not-are_matrices : tie.Need-returns-then-not-are_matrices
+returns-then-not-are_matrices c = rw (single_asked _ _ _, unmet c.are_matrices.ensures c.if-not-are_matrices.true, c.refused.ensures)
+
+returns-then-not-is_finite : tie.Need-returns-then-not-is_finite
+returns-then-not-is_finite c =
+    let asked = c in
+    rw (single_asked _ _ _, shaped c.before.before.before.before, single-refused _ _ (unmet asked.is_finite.ensures c.if-not-is_finite.true), c.refused-then-not-is_finite.ensures)
+
 returns : tie.Need-returns
-returns c = rw (single_asked _ _ _, unmet c.before.before.are-matrices.ensures c.before.if1.true, c.refused.ensures)
-
-returns-2 : tie.Need-returns-2
-returns-2 c =
-    let asked = c.before.before in
-    rw (single_asked _ _ _, shaped asked.before.before, single-refused _ _ (unmet asked.is_finite.ensures c.before.if2.true), c.refused2.ensures)
-
-returns-3 : tie.Need-returns-3
-returns-3 c =
-    let reported = c.before in
-    let stored = reported.before in
-    let else2 = stored.before in
-    let x = (entered (first else2)).args in
-    let size = sizes (first else2) in
+returns c =
+    let reported = c in
+    let stored = reported in
+    let else2 = stored in
+    let x = (entered (first c.before.before.before)).args in
+    let size = sizes (first c.before.before.before) in
     rw (
       single_asked x.cov.now x.floor x.out.now,
-      shaped (first else2),
-      single_repaired x.cov.now x.floor size.0 (met else2.before.is_finite.ensures else2.if2.false),
+      shaped (first c.before.before.before),
+      single_repaired x.cov.now x.floor size.0 (met else2.is_finite.ensures else2.if-not-is_finite.false),
       single-stored x.out.now _ size.1,
       c.done.ensures,
-      stored.single-rebuilt.ensures,
-      reported.single-report.ensures,
+      stored.single_rebuilt.ensures,
+      reported.single_report.ensures,
       sym (single-list x.cov.now size.0),
     )
 
-pub single-repair-spec : {M : Type 1} → statement M
-single-repair-spec =
+pub single_repair_spec : {M : Type 1} → statement M
+single_repair_spec =
     tie.close
-    (tie.spec (λ c κs. search rules) (λ c κs. search rules) (λ c. search rules) returns (λ c. omega (arith, (sizes c.before).0)) (λ c κs. search rules)
-    (λ c κs. search rules) (λ c. search rules) returns-2 (λ c κs. search rules) (λ c. omega (arith, (sizes (first c.before)).1)) (λ c κs. search rules) (λ c κs. search rules)
-    (λ c. search rules) returns-3)
+    (tie.spec (λ c κs. search rules) (λ c κs. search rules) (λ c. search rules) returns-then-not-are_matrices (λ c. omega (arith, (sizes c.before).0)) (λ c κs. search rules)
+    (λ c κs. search rules) (λ c. search rules) returns-then-not-is_finite (λ c κs. search rules) (λ c. omega (arith, (sizes (first c.before)).1)) (λ c κs. search rules) (λ c κs. search rules)
+    (λ c. search rules) returns)

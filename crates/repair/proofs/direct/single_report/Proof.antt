@@ -13,8 +13,8 @@ use Rattle.repair.proofs.direct.single_report.Tie as tie
 returns : tie.Need-returns
 unfolding clip_mask tabulate of_bits
 returns c =
-    let x = c.before.before.args in
-    report_made (x.x ∷ []) x.floor 1 (single-count x.x x.floor c.before.clip.ensures) (single-largest x.x x.floor c.greater-clip.ensures) refl
+    let x = c.args in
+    report_made (x.x ∷ []) x.floor 1 (single-count x.x x.floor c.clip.ensures) (single-largest x.x x.floor c.greater_clip.ensures) refl
 
-pub single-report-spec : {M : Type 1} → statement M
-single-report-spec = tie.close (tie.spec (λ c. search rules) (λ c κs. search rules) (λ c κs. search rules) returns)
+pub single_report_spec : {M : Type 1} → statement M
+single_report_spec = tie.close (tie.spec (λ c. search rules) (λ c κs. search rules) (λ c κs. search rules) returns)

@@ -16,23 +16,23 @@ order c = side_high c.args.n c.requires.order
 size : (c : tie.Start) → c.args.n * c.args.n ≤ 256
 size c = square-size c.args.n (order c)
 
-repair-in-requires : tie.Need-repair-in-requires
-repair-in-requires c κs =
-    let start = c.before.before.before.before.before.before.before in (
+repair_in-requires : tie.Need-repair_in-requires
+repair_in-requires c κs =
+    let start = c in (
       start.requires,
       record {
-        values-room = length-take-le _ _ (order start);
-        vectors-room = length-take-le _ _ (size start);
-        matrix-room = length-take-le _ _ (size start);
-        rows-room = length-take-le _ _ (size start);
+        values-room = length-take-le _ _ (order c.before.before.before.before.before.before.before);
+        vectors-room = length-take-le _ _ (size c.before.before.before.before.before.before.before);
+        matrix-room = length-take-le _ _ (size c.before.before.before.before.before.before.before);
+        rows-room = length-take-le _ _ (size c.before.before.before.before.before.before.before);
       },
     )
 
-pub large-repair-spec : {M : Type 1} → statement M
-large-repair-spec =
+pub large_repair_spec : {M : Type 1} → statement M
+large_repair_spec =
     tie.close
     (tie.spec (λ c. omega (arith, size c.before.before)) (λ c. order c.before.before)
     (λ c. sym (length-take-le _ _ (order c.before.before.before))) (λ c. size c.before.before.before)
     (λ c. sym (length-take-le _ _ (size c.before.before.before.before))) (λ c. size c.before.before.before.before)
     (λ c. sym (length-take-le _ _ (size c.before.before.before.before.before))) (λ c. size c.before.before.before.before.before)
-    (λ c. sym (length-take-le _ _ (size c.before.before.before.before.before.before))) repair-in-requires (λ c. search rules) (λ c. search rules))
+    (λ c. sym (length-take-le _ _ (size c.before.before.before.before.before.before))) repair_in-requires (λ c. search rules) (λ c. search rules))

@@ -11,39 +11,39 @@ use Rattle.repair.proofs.inside.repair.Statement.{statement}
 use Rattle.repair.proofs.inside.repair.Tie as tie
 
 -- where the call begins
-abbrev entered : tie.Else1 → tie.Start
+abbrev entered : tie.Else-not-are_finite → tie.Start
 entered c = c.before.before.before.before
 
 -- question 3 is met
-bounded : (c : tie.Else1) → let x = (entered c).args in finite_entries x.cov.now (x.n * x.n) ≡ true
-bounded c = met c.before.are-finite.ensures c.if1.false
+bounded : (c : tie.Else-not-are_finite) → let x = (entered c).args in finite_entries x.cov.now (x.n * x.n) ≡ true
+bounded c = met c.are_finite.ensures c.if-not-are_finite.false
+
+returns-then-not-are_finite : tie.Need-returns-then-not-are_finite
+unfolding repair
+returns-then-not-are_finite c = rw (unmet c.are_finite.ensures c.if-not-are_finite.true, c.refused.ensures)
+
+plane_repair-requires : tie.Need-plane_repair-requires
+plane_repair-requires c κs =
+    let start = entered c.before.before in
+    subst (λ (n : ℕ). Mending n start.args.cov.now start.args.out.now) c.if-n-eq2.true start.requires
+
+returns-then-n-eq2 : tie.Need-returns-then-n-eq2
+unfolding repair
+returns-then-n-eq2 c =
+    let called = c in
+    let two = called in
+    rw (bounded c.before.before.before.before.before, two.if-n-eq2.true) called.plane_repair.ensures
+
+returns-then-n-le4 : tie.Need-returns-then-n-le4
+unfolding repair
+returns-then-n-le4 c = let called = c in rw (bounded c.before.before.before.before.before.before) called.small_repair.ensures
 
 returns : tie.Need-returns
 unfolding repair
-returns c = rw (unmet c.before.before.are-finite.ensures c.before.if1.true, c.refused.ensures)
+returns c = let called = c in rw (bounded c.before.before.before.before.before.before) called.large_repair.ensures
 
-plane-repair-requires : tie.Need-plane-repair-requires
-plane-repair-requires c κs =
-    let start = entered c.before.before in
-    subst (λ (n : ℕ). Mending n start.args.cov.now start.args.out.now) c.before.if2.true start.pre
-
-returns-2 : tie.Need-returns-2
-unfolding repair
-returns-2 c =
-    let called = c.before.before in
-    let two = called.before.before in
-    rw (bounded two.before, two.if2.true) called.plane-repair.ensures
-
-returns-3 : tie.Need-returns-3
-unfolding repair
-returns-3 c = let called = c.before.before in rw (bounded called.before.before.before.before) called.small-repair.ensures
-
-returns-4 : tie.Need-returns-4
-unfolding repair
-returns-4 c = let called = c.before.before in rw (bounded called.before.before.before.before) called.large-repair.ensures
-
-pub repair-spec : {M : Type 1} → statement M
-repair-spec =
+pub repair_spec : {M : Type 1} → statement M
+repair_spec =
     tie.close
-    (tie.spec (λ c. search rules) (λ c κs. search rules) (λ c κs. search rules) returns plane-repair-requires (λ c. search rules) returns-2 (λ c κs. search rules)
-    (λ c. search rules) returns-3 (λ c κs. search rules) (λ c. search rules) returns-4)
+    (tie.spec (λ c. search rules) (λ c κs. search rules) (λ c κs. search rules) returns-then-not-are_finite plane_repair-requires (λ c. search rules) returns-then-n-eq2 (λ c κs. search rules)
+    (λ c. search rules) returns-then-n-le4 (λ c κs. search rules) (λ c. search rules) returns)

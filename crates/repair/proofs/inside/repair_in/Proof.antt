@@ -8,15 +8,15 @@ use Rattle.repair.proofs.inside.repair_in.Statement.{statement}
 use Rattle.repair.proofs.inside.repair_in.Tie as tie
 
 -- the places on the way
-abbrev entered : tie.After-eigenpairs-in → tie.Start
+abbrev entered : tie.After-eigenpairs_in → tie.Start
 entered c = c.before.before.before.before.before.before.before.before.before.before.before
 
-abbrev paired : tie.After-enum-told → tie.After-eigenpairs-in
-paired c = c.before.before.before.before.before.before.before.before.before.before
+abbrev paired : tie.In-Done → tie.After-eigenpairs_in
+paired c = c.before.before.before.before.before.before.before.before.before
 
-eigenpairs-in-requires : tie.Need-eigenpairs-in-requires
-eigenpairs-in-requires c κs =
-    let start = c.before.before.before.before.before.before.before.before.before.before in
+eigenpairs_in-requires : tie.Need-eigenpairs_in-requires
+eigenpairs_in-requires c κs =
+    let start = c in
     let room = start.requires.1 in (
       side_high start.args.n start.requires.0.order,
       room.matrix-room,
@@ -25,43 +25,43 @@ eigenpairs-in-requires c κs =
     )
 
 -- the eigenvalues keep their length
-values-long : (c : tie.After-eigenpairs-in) → length c.eigenpairs-in.new.1.1.1.1.0 ≡ (entered c).args.n
-values-long c = c.eigenpairs-in.auto.1.1.1.1.0 ∙ (entered c).requires.1.values-room
+values-long : (c : tie.After-eigenpairs_in) → length c.eigenpairs_in.new.values ≡ (entered c).args.n
+values-long c = c.eigenpairs_in.auto.values ∙ (entered c).requires.1.values-room
 
-report-requires : tie.Need-report-requires
-report-requires c κs =
-    let call = paired c.before in
-    (side_high (entered call).args.n (entered call).pre.0.order, values-long call)
+report-report-requires : tie.Need-report-report-requires
+report-report-requires c κs =
+    let call = paired c in
+    (side_high (entered call).args.n (entered call).requires.0.order, values-long call)
 
 rebuild-requires : tie.Need-rebuild-requires
 rebuild-requires c κs =
-    let after-raise = c.before.before.before.before.before in
-    let call = paired after-raise.before.before.before.before in
-    let pre = (entered call).pre in
-    (call.eigenpairs-in.kept.1.1.1.1.1.0 ∙ pre.1.vectors-room, after-raise.raise.auto.0 ∙ values-long call, pre.0.out_size)
+    let after-raise = c in
+    let call = paired c.before.before.before.before.before.before in
+    let pre = (entered call).requires in
+    (call.eigenpairs_in.auto.vectors ∙ pre.1.vectors-room, after-raise.raise.auto.e ∙ values-long call, pre.0.out_size)
 
-returns : tie.Need-returns
-returns c =
-    let after-q = c.before.before in
-    let call = after-q.before.before.before.before.before.before.before.before.before.before in
-    let x = (entered call).args in
-    repair-refused x.cov.now x.floor x.n x.e.now x.v.now x.out.now after-q.q.given.1 call.eigenpairs-in.ensures.0
+returns-in-Refused : tie.Need-returns-in-Refused
+returns-in-Refused c =
+    let after-q = c in
+    let call = after-q in
+    let x = (entered c.before.before.before.before.before.before.before.before.before.before).args in
+    repair-refused x.cov.now x.floor x.n x.e.now x.v.now x.out.now after-q.in-Refused.is call.eigenpairs_in.ensures.0
     c.refused.ensures
 
-returns-2 : tie.Need-returns-2
-returns-2 c =
-    let after-rebuild = c.before.before.before in
-    let after-raise = after-rebuild.before.before.before.before.before.before in
-    let after-report = after-raise.before.before in
-    let done = after-report.before.before in
-    let call = paired done in
+returns-in-Done : tie.Need-returns-in-Done
+returns-in-Done c =
+    let after-rebuild = c in
+    let after-raise = after-rebuild in
+    let after-report = after-raise in
+    let done = after-report in
+    let call = paired c.before.before.before.before.before.before.before.before.before.before in
     let x = (entered call).args in
-    repair-done x.cov.now x.floor x.n x.e.now x.v.now x.out.now done.enum_told.given.1 call.eigenpairs-in.ensures.0
-    after-report.report.ensures after-raise.raise.ensures after-rebuild.rebuild.ensures c.done.ensures
+    repair-done x.cov.now x.floor x.n x.e.now x.v.now x.out.now done.in-Done.is call.eigenpairs_in.ensures.0
+    after-report.report-report.ensures after-raise.raise.ensures after-rebuild.rebuild.ensures c.done.ensures
 
-pub repair-in-spec : {M : Type 1} → statement M
-repair-in-spec =
+pub repair_in_spec : {M : Type 1} → statement M
+repair_in_spec =
     tie.close
-    (tie.spec eigenpairs-in-requires (λ c. search rules) (λ c κs. search rules) (λ c. search rules) report-requires (λ c κs. search rules)
-    rebuild-requires (λ c κs. search rules) (λ c. search rules) (λ c. search rules) (λ c. search rules) (λ c. search rules) returns (λ c. search rules)
-    (λ c. search rules) (λ c. search rules) (λ c. search rules) (λ c. search rules) returns-2)
+    (tie.spec eigenpairs_in-requires (λ c. search rules) (λ c κs. search rules) (λ c. search rules) report-report-requires (λ c κs. search rules)
+    rebuild-requires (λ c κs. search rules) (λ c. search rules) (λ c. search rules) (λ c. search rules) (λ c. search rules) returns-in-Refused (λ c. search rules)
+    (λ c. search rules) (λ c. search rules) (λ c. search rules) (λ c. search rules) returns-in-Done)

@@ -7,18 +7,18 @@ use Rattle.repair.proofs.SmallOrders.{single-refused, single_repaired}
 use Rattle.repair.proofs.inside.single_answer.Statement.{statement}
 use Rattle.repair.proofs.inside.single_answer.Tie as tie
 
+returns-then-not-is_finite : tie.Need-returns-then-not-is_finite
+returns-then-not-is_finite c =
+    let asked = c in
+    let x = asked.args in
+    rw (single-refused (x.x ∷ []) x.floor (unmet asked.is_finite.ensures c.if-not-is_finite.true), c.refused.ensures)
+
 returns : tie.Need-returns
 returns c =
-    let asked = c.before.before in
-    let x = asked.before.args in
-    rw (single-refused (x.x ∷ []) x.floor (unmet asked.is_finite.ensures c.before.if1.true), c.refused.ensures)
+    let else1 = c in
+    let x = else1.args in
+    rw (single_repaired (x.x ∷ []) x.floor refl (met else1.is_finite.ensures else1.if-not-is_finite.false), c.done.ensures, c.single_report.ensures)
 
-returns-2 : tie.Need-returns-2
-returns-2 c =
-    let else1 = c.before.before in
-    let x = else1.before.before.args in
-    rw (single_repaired (x.x ∷ []) x.floor refl (met else1.before.is_finite.ensures else1.if1.false), c.done.ensures, c.before.single-report.ensures)
-
-pub single-answer-spec : {M : Type 1} → statement M
-single-answer-spec =
-    tie.close (tie.spec (λ c κs. search rules) (λ c κs. search rules) returns (λ c κs. search rules) (λ c κs. search rules) returns-2)
+pub single_answer_spec : {M : Type 1} → statement M
+single_answer_spec =
+    tie.close (tie.spec (λ c κs. search rules) (λ c κs. search rules) returns-then-not-is_finite (λ c κs. search rules) (λ c κs. search rules) returns)

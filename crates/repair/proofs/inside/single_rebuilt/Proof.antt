@@ -7,7 +7,7 @@ use Rattle.repair.proofs.inside.single_rebuilt.Tie as tie
 
 returns : tie.Need-returns
 unfolding of_bits
-returns c = rw (c.share.ensures, c.before.raised.ensures)
+returns c = rw (c.share.ensures, c.raised.ensures)
 
-pub single-rebuilt-spec : {M : Type 1} → statement M
-single-rebuilt-spec = tie.close (tie.spec (λ c κs. search rules) (λ c κs. search rules) returns)
+pub single_rebuilt_spec : {M : Type 1} → statement M
+single_rebuilt_spec = tie.close (tie.spec (λ c κs. search rules) (λ c κs. search rules) returns)

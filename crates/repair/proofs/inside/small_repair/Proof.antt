@@ -15,23 +15,23 @@ order c = c.requires.1
 size : (c : tie.Start) → c.args.n * c.args.n ≤ 16
 size c = small_size c.args.n (order c)
 
-repair-in-requires : tie.Need-repair-in-requires
-repair-in-requires c κs =
-    let start = c.before.before.before.before.before.before.before in (
+repair_in-requires : tie.Need-repair_in-requires
+repair_in-requires c κs =
+    let start = c in (
       start.requires.0,
       record {
-        values-room = length-take-le _ _ (order start);
-        vectors-room = length-take-le _ _ (size start);
-        matrix-room = length-take-le _ _ (size start);
-        rows-room = length-take-le _ _ (size start);
+        values-room = length-take-le _ _ (order c.before.before.before.before.before.before.before);
+        vectors-room = length-take-le _ _ (size c.before.before.before.before.before.before.before);
+        matrix-room = length-take-le _ _ (size c.before.before.before.before.before.before.before);
+        rows-room = length-take-le _ _ (size c.before.before.before.before.before.before.before);
       },
     )
 
-pub small-repair-spec : {M : Type 1} → statement M
-small-repair-spec =
+pub small_repair_spec : {M : Type 1} → statement M
+small_repair_spec =
     tie.close
     (tie.spec (λ c. omega (arith, size c.before.before)) (λ c. order c.before.before)
     (λ c. sym (length-take-le _ _ (order c.before.before.before))) (λ c. size c.before.before.before)
     (λ c. sym (length-take-le _ _ (size c.before.before.before.before))) (λ c. size c.before.before.before.before)
     (λ c. sym (length-take-le _ _ (size c.before.before.before.before.before))) (λ c. size c.before.before.before.before.before)
-    (λ c. sym (length-take-le _ _ (size c.before.before.before.before.before.before))) repair-in-requires (λ c. search rules) (λ c. search rules))
+    (λ c. sym (length-take-le _ _ (size c.before.before.before.before.before.before))) repair_in-requires (λ c. search rules) (λ c. search rules))

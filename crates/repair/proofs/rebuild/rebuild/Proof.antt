@@ -6,30 +6,30 @@ use Rattle.repair.specs.Repair.{rebuilt_entry}
 use Rattle.repair.proofs.rebuild.rebuild.Statement.{statement}
 use Rattle.repair.proofs.rebuild.rebuild.Tie as tie
 
-abbrev invariant-loop : tie.invariant-loop
-invariant-loop v e n out₀ i₀ out i = RowByRow (rebuilt_entry v e n) n n out₀ i out
+abbrev invariant-loop-i : tie.invariant-loop-i
+invariant-loop-i v e n out₀ i₀ out i = RowByRow (rebuilt_entry v e n) n n out₀ i out
 
-abbrev decreases-loop : tie.decreases-loop
-decreases-loop v e n out₀ i₀ out i = n - i
+abbrev decreases-loop-i : tie.decreases-loop-i
+decreases-loop-i v e n out₀ i₀ out i = n - i
 
-fits : (c : tie.In-loop invariant-loop decreases-loop) → RowFits c.before.loop.invariant
-fits c = row_fits c.before.loop.invariant c.loop-test.true
+fits : (c : tie.In-loop-i invariant-loop-i decreases-loop-i) → RowFits c.loop-i.invariant
+fits c = row_fits c.loop-i.invariant c.loop-i-test.true
 
-rebuilt-row-requires : tie.Need-rebuilt-row-requires invariant-loop decreases-loop
-rebuilt-row-requires c κs =
-    let at-loop = c.before.before in
-    let pre = at-loop.before.before.before.before.requires in
-    (c.before.loop-test.true, pre.0, pre.1, row-lent at-loop.loop.invariant c.before.loop-test.true)
+rebuilt_row-requires : tie.Need-rebuilt_row-requires invariant-loop-i decreases-loop-i
+rebuilt_row-requires c κs =
+    let at-loop = c in
+    let pre = at-loop.requires in
+    (c.loop-i-test.true, pre.0, pre.1, row-lent at-loop.loop-i.invariant c.loop-i-test.true)
 
-loop-again : tie.Need-loop-preserved invariant-loop decreases-loop
-loop-again c = let turn = c.before.before.before.before in row_written turn.before.loop.invariant turn.loop-test.true c.before.before.rebuilt-row.ensures
+loop-i-preserved : tie.Need-loop-i-preserved invariant-loop-i decreases-loop-i
+loop-i-preserved c = let turn = c in row_written turn.loop-i.invariant turn.loop-i-test.true c.rebuilt_row.ensures
 
-returns : tie.Need-returns invariant-loop decreases-loop
-returns c = every_row c.before.loop.invariant c.loop-test.false
+returns : tie.Need-returns invariant-loop-i decreases-loop-i
+returns c = every_row c.loop-i.invariant c.loop-i-test.false
 
-pub rebuild-spec : {M : Type 1} → statement M
-rebuild-spec =
+pub rebuild_spec : {M : Type 1} → statement M
+rebuild_spec =
     tie.close
-    (tie.spec invariant-loop decreases-loop (λ c. no_row c.before.before.before.requires.2) (λ c. omega (arith, fits c)) (λ c. omega (arith, fits c)) (λ c. omega (arith, fits c))
-    (λ c. omega arith) (λ c. omega arith) (λ c. omega (arith, fits c)) rebuilt-row-requires (λ c. omega arith) (λ c. omega arith) loop-again
-    (λ c. c.before.loop.invariant.rows.size) returns)
+    (tie.spec invariant-loop-i decreases-loop-i (λ c. no_row c.requires.2) (λ c. omega (arith, fits c)) (λ c. omega (arith, fits c)) (λ c. omega (arith, fits c))
+    (λ c. omega arith) (λ c. omega arith) (λ c. omega (arith, fits c)) rebuilt_row-requires (λ c. omega arith) (λ c. omega arith) loop-i-preserved
+    (λ c. c.loop-i.invariant.rows.size) returns)

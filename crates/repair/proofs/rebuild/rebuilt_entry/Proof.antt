@@ -18,41 +18,41 @@ use Rattle.repair.proofs.rebuild.rebuilt_entry.Tie as tie
 abbrev sum_of : List Float → List Float → ℕ → ℕ → ℕ → ℕ → Float
 sum_of v e n i j k = total k (λ q. mul (mul (at v n i q) (nth e q)) (at v n j q))
 
-abbrev invariant-loop : tie.invariant-loop
-invariant-loop v e n i j s₀ k₀ s k = (k ≤ n) × (s ≡ sum_of v e n i j k)
+abbrev invariant-loop-k : tie.invariant-loop-k
+invariant-loop-k v e n i j s₀ k₀ s k = (k ≤ n) × (s ≡ sum_of v e n i j k)
 
-abbrev decreases-loop : tie.decreases-loop
-decreases-loop v e n i j s₀ k₀ s k = n - k
+abbrev decreases-loop-k : tie.decreases-loop-k
+decreases-loop-k v e n i j s₀ k₀ s k = n - k
 
-loop-holds : tie.Need-loop-init invariant-loop decreases-loop
+loop-k-init : tie.Need-loop-k-init invariant-loop-k decreases-loop-k
 unfolding sum_from
-loop-holds c = (omega arith, refl)
+loop-k-init c = (omega arith, refl)
 
-entry-requires : tie.Need-entry-requires invariant-loop decreases-loop
-entry-requires c κs = let x = c.before.before.before.before.args in omega (arith, cell x.n x.n {i = x.i} {j = c.before.loop.k} (omega arith) (omega arith))
+entry-x-requires : tie.Need-entry-x-requires invariant-loop-k decreases-loop-k
+entry-x-requires c κs = let x = c.args in omega (arith, cell x.n x.n {i = x.i} {j = c.loop-k.k} (omega arith) (omega arith))
 
-entry-requires-2 : tie.Need-entry-requires-2 invariant-loop decreases-loop
-entry-requires-2 c κs =
-    let x = c.before.before.before.before.before.args in
-    omega (arith, cell x.n x.n {i = x.j} {j = c.before.before.loop.k} (omega arith) (omega arith))
+entry-y-requires : tie.Need-entry-y-requires invariant-loop-k decreases-loop-k
+entry-y-requires c κs =
+    let x = c.args in
+    omega (arith, cell x.n x.n {i = x.j} {j = c.loop-k.k} (omega arith) (omega arith))
 
-loop-again : tie.Need-loop-preserved invariant-loop decreases-loop
-loop-again c =
-    let second = c.before.before in
-    let first = second.before in
-    let turn = first.before.before.loop in
-    let e = first.before.before.before.before.before.args.e.now in
-    let term = c.share.ensures ∙ ap₂ (λ (x y : Float). mul (mul x (nth e turn.k)) y) first.entry.ensures second.entry2.ensures in
+loop-k-preserved : tie.Need-loop-k-preserved invariant-loop-k decreases-loop-k
+loop-k-preserved c =
+    let second = c in
+    let first = second in
+    let turn = first.loop-k in
+    let e = first.args.e.now in
+    let term = c.share-s.ensures ∙ ap₂ (λ (x y : Float). mul (mul x (nth e turn.k)) y) first.entry-x.ensures second.entry-y.ensures in
     (omega arith, sum_more nought _ turn.k turn.invariant.1 term)
 
-returns : tie.Need-returns invariant-loop decreases-loop
+returns : tie.Need-returns invariant-loop-k decreases-loop-k
 unfolding rebuilt_entry
 returns c =
-    let x = c.before.before.before.before.args in
-    at_end_lem (sum_of x.v.now x.e.now x.n x.i x.j) c.before.loop.invariant.0 c.loop-test.false c.before.loop.invariant.1
+    let x = c.args in
+    at_end_lem (sum_of x.v.now x.e.now x.n x.i x.j) c.loop-k.invariant.0 c.loop-k-test.false c.loop-k.invariant.1
 
-pub rebuilt-entry-spec : {M : Type 1} → statement M
-rebuilt-entry-spec =
+pub rebuilt_entry_spec : {M : Type 1} → statement M
+rebuilt_entry_spec =
     tie.close
-    (tie.spec invariant-loop decreases-loop loop-holds entry-requires entry-requires-2 (λ c. omega arith) (λ c. omega arith) (λ c κs. search rules) (λ c. omega arith)
-    (λ c. omega arith) loop-again returns)
+    (tie.spec invariant-loop-k decreases-loop-k loop-k-init entry-x-requires entry-y-requires (λ c. omega arith) (λ c. omega arith) (λ c κs. search rules) (λ c. omega arith)
+    (λ c. omega arith) loop-k-preserved returns)

@@ -6,5 +6,5 @@ use Rattle.repair.proofs.rebuild.share.Tie as tie
 returns : tie.Need-returns
 returns c = refl
 
-pub share-spec : {M : Type 1} → statement M
-share-spec = tie.close (tie.spec returns)
+pub share_spec : {M : Type 1} → statement M
+share_spec = tie.close (tie.spec returns)

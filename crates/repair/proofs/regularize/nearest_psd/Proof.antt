@@ -3,8 +3,8 @@ use borrow.Author.Rules.{rules}
 use Rattle.repair.proofs.regularize.nearest_psd.Statement.{statement}
 use Rattle.repair.proofs.regularize.nearest_psd.Tie as tie
 
-returns : tie.Need-returns
-returns c = let called = c.before.before in rw called.before.before.if1.true called.single-repair.ensures
+returns-then-n-eq1 : tie.Need-returns-then-n-eq1
+returns-then-n-eq1 c = let called = c in rw called.if-n-eq1.true called.single_repair.ensures
 
-pub nearest-psd-spec : {M : Type 1} → statement M
-nearest-psd-spec = tie.close (tie.spec (λ c κs. search rules) (λ c. search rules) returns (λ c κs. search rules) (λ c. search rules) (λ c. search rules))
+pub nearest_psd_spec : {M : Type 1} → statement M
+nearest_psd_spec = tie.close (tie.spec (λ c κs. search rules) (λ c. search rules) returns-then-n-eq1 (λ c κs. search rules) (λ c. search rules) (λ c. search rules))
