@@ -16,7 +16,6 @@ use Rattle.tracks.specs.Read.{TrackList, contents}
 use Rattle.tracks.specs.Record.{offset, record_at, next_offset, placing}
 use Rattle.tracks.specs.Calls.{read_answer, offsets_left, track_offsets}
 use Rattle.tracks.specs.declared.read.ReadList.{ReadList}
-use Rattle.tracks.specs.declared.read.ReadList.TheVariants as ReadList
 use Rattle.tracks.proofs.Reading.Accepted.{contents_met}
 use Rattle.tracks.proofs.Reading.Known.{read_accepted, read_refused}
 use Rattle.tracks.proofs.Reading.Offsets.{placing-fits, placing-refused}

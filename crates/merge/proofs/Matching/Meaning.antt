@@ -15,7 +15,7 @@ use Rattle.pairing.proofs.Tests.{both, left, right, or_left, or_right, or_cases,
 use Rattle.pairing.proofs.Ordering.Keys.{of_index, to_index}
 use Rattle.pairing.proofs.Stability.Stable.{paired_stable, others_blocked}
 use Rattle.merge.specs.Tracks.{track_count, track_at, equal_tracks}
-use Rattle.merge.specs.Candidates.{comparison, candidacy_of, candidacy, is_candidate, rank, by_rank, candidates_of, CandidatePair, EarlierPair}
+use Rattle.merge.specs.Candidates.{comparison, candidacy_of, candidacy, is_candidate, by_rank, candidates_of, CandidatePair, EarlierPair}
 use Rattle.merge.specs.Demand3.{OnlyUnblocked}
 
 pub equal-fields : (c d : TrackList) (i j : ℕ) → T (equal_tracks c i d j) ↔ (track_at c i ≡ track_at d j)

@@ -14,8 +14,7 @@ use Rattle.tracks.proofs.Reading.Accepted.{contents_met, dimension-small}
 use Rattle.merge.specs.Tracks.{ThreeLists, track_count}
 use Rattle.merge.specs.Rows.{rows_of}
 use Rattle.merge.specs.Merge.{pairings_of}
-use Rattle.merge.specs.Private.{held, held_three, AllLocated, SizesOf, terms_of, Compares, Values, ThreeValues, paired_values, Paired, rows_by}
-use Rattle.merge.specs.declared.keys.Terms.{Terms}
+use Rattle.merge.specs.Private.{held, held_three, AllLocated, SizesOf, terms_of, Values, ThreeValues, paired_values, Paired, rows_by}
 use Rattle.merge.specs.declared.questions.Sizes.{Sizes}
 use Rattle.merge.specs.declared.verdict.Offsets.{Offsets}
 use Rattle.merge.specs.declared.pairings.Pairings as TablesOf

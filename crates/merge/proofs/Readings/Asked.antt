@@ -2,7 +2,7 @@
 -- `counts_written`: rows in a buffer are counted; `rows_fit`: there are no more rows than tracks.
 use Prim.Native.Nat.{ℕ, ◌+◌, ◌*◌, ◌<◌, ◌≤◌}
 use native.Mathlib.Omega.{arith}
-use mathlib.Core.Path.{◌≡◌, refl, sym, ap, ◌∙◌}
+use mathlib.Core.Path.{◌≡◌, refl, sym, ◌∙◌}
 use mathlib.Core.Bool.{true, false}
 use mathlib.Core.List.{List}
 use lib.Dec.{eqb}
@@ -18,7 +18,6 @@ use Rattle.merge.specs.Buffer.{tracks_in, how_many}
 use Rattle.merge.specs.Private.{Appended, counts_in}
 use Rattle.merge.specs.declared.Counts.{Counts}
 use Rattle.merge.specs.declared.Merged.{Merged}
-use Rattle.merge.specs.declared.Merged.TheVariants as Merged
 use Rattle.merge.proofs.Buffers.Bytes.{rows-length}
 use Rattle.merge.proofs.Buffers.Appending.{appended_length}
 use Rattle.merge.proofs.Buffers.Totals.{rows_with_lem}

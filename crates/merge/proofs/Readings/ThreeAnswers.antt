@@ -19,13 +19,12 @@ use Rattle.tracks.specs.Read.{TrackList, contents}
 use Rattle.tracks.specs.Record.{offset}
 use Rattle.tracks.specs.Calls.{doubles, joined, read_answer, placed_left, reading_placed, read_with_offsets}
 use Rattle.tracks.specs.declared.read.ReadList.{ReadList}
-use Rattle.tracks.specs.declared.read.ReadList.TheVariants as ReadList
 use Rattle.tracks.proofs.Numbers.Fields.{most_fields}
 use Rattle.tracks.proofs.Reading.Accepted.{contents_met, dimension-small}
 use Rattle.tracks.proofs.Reading.Known.{read_accepted, read_refused}
 use Rattle.tracks.proofs.Reading.Offsets.{placed_fits, placed_refused}
 use Rattle.tracks.proofs.RoundTrip.BothWays.{accepted_fit, joined_fit}
-use Rattle.merge.specs.Tracks.{ThreeLists, track_count, track_at}
+use Rattle.merge.specs.Tracks.{track_count, track_at}
 use Rattle.merge.specs.Merge.{one_dimension, accepted_lists}
 use Rattle.merge.specs.Private.{held_in, held, held_three, Located, three_of}
 use Rattle.merge.specs.declared.questions.Accepted.{Accepted}

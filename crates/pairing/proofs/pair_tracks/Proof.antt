@@ -49,10 +49,10 @@ best c =
 
 first_of : (c : tie.Else-not-best invariant-loop-best decreases-loop-best) → let a = (entered (this-turn (one_found c))).args in let r = (one_found c).search-best.result in
     IsFirst a.keys.now a.m a.n (Left (this-turn (one_found c))) (pair r.first r.second)
-first_of c = something_first _ _ _ _ (one_found c).search-best.result (best (one_found c)) c.if-not-best.false
+first_of c = something_first _ _ _ _ (one_found c).search-best.result (best (one_found c)) (not-false _ c.if-not-best.false)
 
 none_left : (c : tie.Then-not-best invariant-loop-best decreases-loop-best) → (p : Pair) → Left (this-turn (none_found c)) p → ⊥
-none_left c = nothing_left _ _ _ _ (none_found c).search-best.result (best (none_found c)) c.if-not-best.true
+none_left c = nothing_left _ _ _ _ (none_found c).search-best.result (best (none_found c)) (not-true _ c.if-not-best.true)
 
 loop-best-init : tie.Need-loop-best-init invariant-loop-best decreases-loop-best
 loop-best-init c =

@@ -19,9 +19,7 @@ entry-requires c κs = let x = c.args in omega (arith, cell x.n x.n {i = x.j} {j
 
 returns : tie.Need-returns
 returns c =
-    let else1 = c in
-    let read = else1 in
-    let x = read.args in mean_of x.a.now x.n x.i x.j else1.if-i-j.false read.entry-x.ensures c.entry-x.ensures
+    let x = c.args in mean_of x.a.now x.n x.i x.j c.if-i-j.false c.entry-x.ensures c.entry.ensures
 
 pub mean_spec : {M : Type 1} → statement M
 mean_spec = tie.close (tie.spec entry-x-requires returns-then-i-j entry-requires returns)

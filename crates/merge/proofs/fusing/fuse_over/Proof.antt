@@ -3,7 +3,6 @@ use native.Mathlib.Omega.{arith}
 use mathlib.Core.Path.{◌≡◌, sym, ◌∙◌}
 use mathlib.Core.Bool.{true}
 use borrow.Author.Rules.{rules}
-use borrow.Author.Tests.{not-true, not-false}
 use lib.ListN.{length}
 use lib.Seq.{length-take-le, length_front, take_at}
 use Rattle.fusion.specs.Fusion.{Fusing, fused}
@@ -46,9 +45,8 @@ slice_bounds-out-end-2 c =
 
 copy-requires : tie.Need-copy-requires
 copy-requires c κs =
-    let e = c in
     let k = lent c.before.before in
-    (length-take-le _ _ (slice_bounds-out-end-2 e), (entered k).requires.0.of_base.long ∙ sym k.fields-f.ensures.0)
+    (length-take-le _ _ (slice_bounds-out-end-2 c.before.before), (entered k).requires.0.of_base.long ∙ sym k.fields-f.ensures.0)
 
 returns : tie.Need-returns
 returns c =

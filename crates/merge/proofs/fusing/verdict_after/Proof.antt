@@ -9,7 +9,6 @@ use lib.Dec.{eqb}
 use lib.Ieee.{Float}
 use lib.ListN.{length}
 use Rattle.dense.specs.Matrix.{row_of}
-use Rattle.tracks.specs.Layout.{fields}
 use Rattle.fusion.specs.Fusion.{Fusing, fused}
 use Rattle.fusion.specs.Private.{HasFields, left_by}
 use Rattle.merge.specs.Rows.{is_track}

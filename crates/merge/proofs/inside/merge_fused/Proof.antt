@@ -5,7 +5,6 @@ use native.Mathlib.Omega.{arith}
 use mathlib.Core.Bool.{true}
 use mathlib.Core.List.{List}
 use borrow.Author.Rules.{rules}
-use borrow.Author.Tests.{not-true, not-false}
 use lib.Ieee.{Float}
 use lib.ListN.{length}
 use lib.Seq.{length-take-le, length_front}
@@ -92,11 +91,11 @@ refusing c values e = (e, λ counts t. absurd (let z : ◌≡◌ {A = ℕ} 0 1 =
 -- what is known of an answer to the three lists
 abbrev ThreeAnswered-at : tie.After-three_of-c → Accepted → Type 0
 ThreeAnswered-at c =
-    let t = (third c).read_with_offsets-t.new in
-    let o = (second (third c)).read_with_offsets-o.new in
-    let b = (first (second (third c))).read_with_offsets-b.new in
+    let t = c.read_with_offsets-t.new in
+    let o = c.read_with_offsets-o.new in
+    let b = c.read_with_offsets-b.new in
     let x = (start_of c).args in
-    ThreeAnswered x.base.now x.ours.now x.theirs.now b.1.1.0 o.1.1.0 t.1.1.0 b.1.0 o.1.0 t.1.0
+    ThreeAnswered x.base.now x.ours.now x.theirs.now b.offsets o.offsets t.offsets b.values o.values t.values
 
 three-at : (c : tie.After-three_of-c) → ThreeAnswered-at c c.three_of-c.result
 three-at c =
@@ -271,6 +270,6 @@ merge_fused_spec =
     (λ c. omega (arith, few_of (read (accepted-at c.before.before)))) (λ c. search rules) returns-then-rows-sizes (λ c. search rules) (λ c. search rules)
     pair_all-pairings-requires write_merge-counts-requires (λ c κs. few c.before.before)
     (λ c. omega (arith, fits c, values-kept (read_at (written c)), (entered (read_at (written c))).requires)) fits (λ c. sym (length-take-le _ _ (fits c.before)))
-    (λ c. sym (second (third (answered-at (read_at (written c.before.before))))).read-with-offsets2.auto.1.0)
-    (λ c. sym (third (answered-at (read_at (written c.before.before.before)))).read-with-offsets3.auto.1.0)
+    (λ c. sym (second (third (answered-at (read_at (written c.before.before))))).read_with_offsets-o.auto.values)
+    (λ c. sym (third (answered-at (read_at (written c.before.before.before)))).read_with_offsets-t.auto.values)
     fuse_rows-requires (λ c. search rules) (λ c. search rules) shape_of-values-else-rows-sizes returns-else-rows-sizes (λ c. search rules) returns-in-Refused)

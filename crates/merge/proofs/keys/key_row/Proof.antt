@@ -42,9 +42,9 @@ left c = c.track_covariance.ensures
 
 slice_bounds-p-end-2 : tie.Need-slice_bounds-p-end-2
 slice_bounds-p-end-2 c =
-    let d = (start_of (written c)).args.terms.d in
-    let whole = (written c).track_covariance in
-    omega (arith, size (start_of (written c)), length_front _ whole.new.out (d * d) whole.auto.out)
+    let d = (start_of c.before).args.terms.d in
+    let whole = c.track_covariance in
+    omega (arith, size (start_of c.before), length_front _ whole.new.out (d * d) whole.auto.out)
 
 track_covariance-requires : tie.Need-track_covariance-requires
 track_covariance-requires c κs =
@@ -84,5 +84,5 @@ pub key_row_spec : {M : Type 1} → statement M
 key_row_spec =
     tie.close
     (tie.spec (λ c. omega (arith, size (entered c))) (λ c. size (entered c)) (λ c. sym (length-take-le _ _ (size (entered c.before)))) track_covariance-requires
-    (λ c. sym (state (start_of (written c)))) slice_bounds-p-end-2 (λ c. sym (length_in_front (written c.before) _)) (λ c. size (start_of (written c.before)))
-    (λ c. sym (length-take-le _ _ (size (start_of (written c.before.before))))) put_keys-requires (λ c. search rules) returns)
+    (λ c. sym (state (start_of c.before))) slice_bounds-p-end-2 (λ c. sym (length_in_front c.before.before _)) (λ c. size (start_of c.before.before))
+    (λ c. sym (length-take-le _ _ (size (start_of c.before.before.before)))) put_keys-requires (λ c. search rules) returns)

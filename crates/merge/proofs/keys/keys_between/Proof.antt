@@ -43,7 +43,7 @@ within c = let v = c.loop-i.invariant in omega (arith, few c, v.long, v.rows.siz
 abbrev key-at : tie.Start invariant-loop-i decreases-loop-i → List Float → ℕ → ℕ → Float
 key-at s u i j =
     let x = s.args in
-    key_among x.terms (is_free x.t2 i) (is_free x.vs_partners j) u (row_of x.vs.now x.terms.f j)
+    key_among x.terms (is_free x.us_partners i) (is_free x.vs_partners j) u (row_of x.vs.now x.terms.f j)
 
 loop-i-init : tie.Need-loop-i-init invariant-loop-i decreases-loop-i
 loop-i-init c = record { turns = omega arith; long = c.requires.1; rows = rows_none _ _ _ }

@@ -3,7 +3,6 @@ use Prim.Native.Nat.{ℕ, ◌+◌, ◌*◌, ◌-◌, ◌<◌}
 use native.Mathlib.Omega.{arith}
 use mathlib.Core.Bool.{Bool, true, false, ◌&&◌, cond}
 use mathlib.Core.List.{List}
-use mathlib.Core.Logic.{⊎_elim}
 use mathlib.Core.Path.{◌≡◌, refl, sym, ap, subst, ◌∙◌}
 use borrow.Author.Rules.{rules}
 use lib.Dec.{eqb}
@@ -14,6 +13,7 @@ use Rattle.kernel.proofs.Lists.{row_within}
 use Rattle.dense.proofs.Entries.{EntryByEntry, no_entry, entry-written, every_entry}
 use Rattle.pairing.specs.Keys.{nobody, is_free}
 use Rattle.merge.specs.Private.{key_from}
+use Rattle.merge.proofs.keys.put_keys.Lts.{then-both_free, else-both_free}
 use Rattle.merge.proofs.keys.put_keys.Statement.{statement}
 use Rattle.merge.proofs.keys.put_keys.Tie as tie
 
@@ -68,13 +68,13 @@ loop-j-preserved c =
     let v = in-loop.loop-j.invariant in
     let h = in-loop.loop-j-test.true in
     let e = free.both_free.ensures in
-    ⊎_elim
-    (λ w. record {
-      room = ap length w.6 ∙ w.3.kept.1.1.1.1.0 ∙ v.room;
-      keys = stored v.keys h w.7 (of_free e w.0.taken (w.3.ensures ∙ ap (key_from x.terms x.mu.now x.p.now) w.1.ensures.1));
-    })
-    (λ w. record { room = ap length w.2 ∙ v.room; keys = stored v.keys h w.3 (of_others _ e w.0.left w.1.ensures) })
-    c.if-both_free.branch
+    elim c.if-both_free.branch [
+      | then-both_free w ↦ record {
+        room = ap length w.q-is ∙ w.key.auto.q ∙ v.room;
+        keys = stored v.keys h w.keys-is (of_free e w.if-both_free.true (w.key.ensures ∙ ap (key_from x.terms x.mu.now x.p.now) w.row-v.ensures.1));
+      }
+      | else-both_free w ↦ record { room = ap length w.q-is ∙ v.room; keys = stored v.keys h w.keys-is (of_others _ e w.if-both_free.false w.no_key.ensures) }
+    ]
 
 returns : tie.Need-returns invariant-loop-j decreases-loop-j
 returns c = every_entry c.loop-j.invariant.keys c.loop-j-test.false

@@ -1,7 +1,6 @@
 -- `rank` meets its contract: each way out is one case of the definition.
 use mathlib.Core.Path.{◌≡◌, sym, ap, ◌∙◌}
 use borrow.Author.Rules.{rules}
-use lib.Ieee.{Float}
 use Rattle.compare.specs.declared.Comparison.{Comparison}
 use Rattle.merge.specs.Candidates.{candidacy_of, rank}
 use Rattle.merge.proofs.keys.rank.Statement.{statement}

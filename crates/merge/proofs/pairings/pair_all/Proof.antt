@@ -44,5 +44,5 @@ pub pair_all_spec : {M : Type 1} → statement M
 pair_all_spec =
     tie.close
     (tie.spec (λ c κs. c.requires.compares.few) (λ c κs. let p = (start_of c).requires in two c p.of_base p.of_ours)
-    (λ c κs. let f = c in let p = (start_of c.before).requires in two c.before p.of_base p.of_theirs)
-    (λ c κs. let f = (third c).before.before in let p = (start_of f.before.before).requires in two f.before.before p.of_ours p.of_theirs) returns)
+    (λ c κs. let p = (start_of c.before).requires in two c.before p.of_base p.of_theirs)
+    (λ c κs. let f = (third c).before.before in let p = (start_of f).requires in two f p.of_ours p.of_theirs) returns)

@@ -4,10 +4,6 @@ use borrow.Author.Rules.{rules}
 use Rattle.merge.proofs.questions.three_of.Statement.{statement}
 use Rattle.merge.proofs.questions.three_of.Tie as tie
 
--- the place where theirs is looked at, from the places after it
-abbrev of_ours : tie.In-Read-ours → tie.In-Read-2
-of_ours c = c.before.before.before.before
-
 returns-in-Refused : tie.Need-returns-in-Refused
 returns-in-Refused c = rw c.in-Refused.is refl
 
@@ -15,12 +11,11 @@ returns-in-Refused-ours : tie.Need-returns-in-Refused-ours
 returns-in-Refused-ours c = rw (c.in-Read.is, c.in-Refused-ours.is) refl
 
 returns-in-Refused-theirs : tie.Need-returns-in-Refused-theirs
-returns-in-Refused-theirs c = let k = c in rw ((of_ours c.before).in-Read.is, k.in-Read-ours.is, c.in-Refused-theirs.is) refl
+returns-in-Refused-theirs c = rw (c.in-Read.is, c.in-Read-ours.is, c.in-Refused-theirs.is) refl
 
 returns-in-Read-theirs : tie.Need-returns-in-Read-theirs
 returns-in-Read-theirs c =
-    let k = c in
-    rw ((of_ours c.before.before).in-Read.is, k.in-Read-ours.is, c.in-Read-theirs.is) c.one_dimension.ensures
+    rw (c.in-Read.is, c.in-Read-ours.is, c.in-Read-theirs.is) c.one_dimension.ensures
 
 pub three_of_spec : {M : Type 1} → statement M
 three_of_spec =

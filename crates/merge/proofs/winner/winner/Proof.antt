@@ -23,16 +23,16 @@ abbrev asked_2 : tie.In-Theirs → tie.After-winning-w
 asked_2 c = c.before
 
 -- what the answer says, and where the record stands
-is_ours : (c : tie.In-Ours) → let v = c.w-1.given.0 in winner-of (start_of (asked c)) ≡ Ours v.0 v.1.0
+is_ours : (c : tie.In-Ours) → winner-of (start_of (asked c)) ≡ Ours c.in-Ours.start c.in-Ours.length
 is_ours c = sym (asked c).winning-w.ensures ∙ c.in-Ours.is
 
-is_theirs : (c : tie.In-Theirs) → let v = c.w-in-Theirs-1.given.0 in winner-of (start_of (asked_2 c)) ≡ Theirs v.0 v.1.0
+is_theirs : (c : tie.In-Theirs) → winner-of (start_of (asked_2 c)) ≡ Theirs c.in-Theirs.start c.in-Theirs.length
 is_theirs c = sym (asked_2 c).winning-w.ensures ∙ c.in-Theirs.is
 
-in_ours_lem : (c : tie.In-Ours) → let v = c.w-1.given.0 in Stands (start_of (asked c)).args.ours.now v.0 v.1.0
+in_ours_lem : (c : tie.In-Ours) → Stands (start_of (asked c)).args.ours.now c.in-Ours.start c.in-Ours.length
 in_ours_lem c = let x = (start_of (asked c)).args in ours-stands x.ours.now x.theirs.now x.row (is_ours c)
 
-in_theirs_lem : (c : tie.In-Theirs) → let v = c.w-in-Theirs-1.given.0 in Stands (start_of (asked_2 c)).args.theirs.now v.0 v.1.0
+in_theirs_lem : (c : tie.In-Theirs) → Stands (start_of (asked_2 c)).args.theirs.now c.in-Theirs.start c.in-Theirs.length
 in_theirs_lem c = let x = (start_of (asked_2 c)).args in theirs-stands x.ours.now x.theirs.now x.row (is_theirs c)
 
 overflow_add-result : tie.Need-overflow_add-result

@@ -8,7 +8,7 @@ use Rattle.merge.proofs.winner.winning.Tie as tie
 
 returns-then-row-eq-TAKE_OURS : tie.Need-returns-then-row-eq-TAKE_OURS
 unfolding winning
-returns-then-row-eq-TAKE_OURS c = rw (eq-eqb _ 1 c.if-row-eq-TAKE_OURS.true) (c.in_ours.ensures ∙ ap in_ours c.before.IsPlace-in.ensures)
+returns-then-row-eq-TAKE_OURS c = rw (eq-eqb _ 1 c.if-row-eq-TAKE_OURS.true) (c.in_ours.ensures ∙ ap in_ours c.place_in.ensures)
 
 returns-then-row-eq-TAKE_THEIRS : tie.Need-returns-then-row-eq-TAKE_THEIRS
 unfolding winning

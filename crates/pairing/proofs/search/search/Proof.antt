@@ -2,12 +2,12 @@
 use Prim.Native.Nat.{◌-◌}
 use native.Mathlib.Omega.{arith}
 use mathlib.Core.Path.{refl, ◌∙◌}
-use mathlib.Core.Logic.{⊎_elim}
 use Rattle.kernel.proofs.Loops.{AfterTurns, turns_none, turns_more, turns_all}
 use Rattle.pairing.specs.Private.{search}
 use Rattle.kernel.proofs.Lists.{row_within}
 use Rattle.pairing.proofs.Choosing.Searches.{rows_taken, rows_passed}
 use Rattle.pairing.proofs.search.search.Statement.{statement}
+use Rattle.pairing.proofs.search.search.Lts.{then-firsts-i, else-firsts-i}
 use Rattle.pairing.proofs.search.search.Tie as tie
 
 abbrev invariant-loop-i : tie.invariant-loop-i
@@ -27,13 +27,12 @@ search_row-best-requires c κs =
 
 loop-i-preserved : tie.Need-loop-i-preserved invariant-loop-i decreases-loop-i
 loop-i-preserved c =
-    let turn = c in
-    let best = turn.loop-i.best in
-    turns_more turn.loop-i.invariant turn.loop-i-test.true (λ e.
-    ⊎_elim
-    (λ w. rows_taken _ _ _ _ _ best c.if-firsts-i.best w.0.taken e (w.2 ∙ w.1.ensures))
-    (λ w. w.1 ∙ rows_passed _ _ _ _ _ best w.0.left e)
-    c.if-firsts-i.branch)
+    let best = c.loop-i.best in
+    turns_more c.loop-i.invariant c.loop-i-test.true (λ e.
+    elim c.if-firsts-i.branch [
+      | then-firsts-i w ↦ rows_taken _ _ _ _ _ best c.if-firsts-i.best w.if-firsts-i.true e (w.best-is ∙ w.search_row-best.ensures)
+      | else-firsts-i w ↦ w.best-is ∙ rows_passed _ _ _ _ _ best w.if-firsts-i.false e
+    ])
 
 returns : tie.Need-returns invariant-loop-i decreases-loop-i
 returns c = turns_all c.loop-i.invariant c.loop-i-test.false

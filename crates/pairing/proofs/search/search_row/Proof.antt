@@ -3,11 +3,11 @@ use Prim.Native.Nat.{◌-◌}
 use native.Mathlib.Omega.{arith}
 use borrow.Author.Rules.{rules}
 use mathlib.Core.Path.{refl, ◌∙◌}
-use mathlib.Core.Logic.{⊎_elim}
 use Rattle.kernel.proofs.Loops.{AfterTurns, turns_none, turns_more, turns_all}
 use Rattle.pairing.specs.Private.{search_row}
 use Rattle.pairing.proofs.Choosing.Searches.{row-taken, row_passed}
 use Rattle.pairing.proofs.search.search_row.Statement.{statement}
+use Rattle.pairing.proofs.search.search_row.Lts.{then-seconds-j, else-seconds-j}
 use Rattle.pairing.proofs.search.search_row.Tie as tie
 
 abbrev invariant-loop-j : tie.invariant-loop-j
@@ -22,13 +22,12 @@ loop-j-init c = turns_none refl
 
 loop-j-preserved : tie.Need-loop-j-preserved invariant-loop-j decreases-loop-j
 loop-j-preserved c =
-    let turn = c in
-    let best = turn.loop-j.best in
-    turns_more turn.loop-j.invariant turn.loop-j-test.true (λ e.
-    ⊎_elim
-    (λ w. row-taken _ _ _ _ _ _ best c.if-seconds-j.best w.0.taken e (w.3 ∙ w.2.ensures))
-    (λ w. w.1 ∙ row_passed _ _ _ _ _ _ best w.0.left e)
-    c.if-seconds-j.branch)
+    let best = c.loop-j.best in
+    turns_more c.loop-j.invariant c.loop-j-test.true (λ e.
+    elim c.if-seconds-j.branch [
+      | then-seconds-j w ↦ row-taken _ _ _ _ _ _ best c.if-seconds-j.best w.if-seconds-j.true e (w.best-is ∙ w.look_at-best.ensures)
+      | else-seconds-j w ↦ w.best-is ∙ row_passed _ _ _ _ _ _ best w.if-seconds-j.false e
+    ])
 
 returns : tie.Need-returns invariant-loop-j decreases-loop-j
 returns c = turns_all c.loop-j.invariant c.loop-j-test.false

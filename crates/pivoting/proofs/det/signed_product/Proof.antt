@@ -84,7 +84,7 @@ loop-k-preserved c =
       reduced =
           record {
             columns = columns_more inv.reduced.columns (turn b).loop-k-test.true (decided c.before.before.before.before.before.before.before.before.before.before.before.before.before.before) flipped.if-not-is_taken.false next;
-            lengths = lengths_kept inv.reduced.lengths kept.0 swapped.swap_norms.auto.s kept.1.0;
+            lengths = lengths_kept inv.reduced.lengths kept.m swapped.swap_norms.auto.s kept.x;
           };
       sign = sign_more _ f l.k here b.choose-best.ensures inv.sign flipped.flipped-sign.ensures;
       product = product_more _ f l.k here b.choose-best.ensures inv.product entry.entry-det.ensures;

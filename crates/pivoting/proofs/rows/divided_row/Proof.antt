@@ -35,9 +35,8 @@ entry-requires c κs =
 
 loop-j-preserved : tie.Need-loop-j-preserved invariant-loop-j decreases-loop-j
 loop-j-preserved c =
-    let turn = c in
-    let inv = turn.loop-j.invariant in
-    record { divisor = inv.divisor; entries = entry-written inv.entries turn.loop-j-test.true (rw (inv.divisor, c.entry-d.ensures)) }
+    let inv = c.loop-j.invariant in
+    record { divisor = inv.divisor; entries = entry-written inv.entries c.loop-j-test.true (rw (inv.divisor, c.entry.ensures)) }
 
 returns : tie.Need-returns invariant-loop-j decreases-loop-j
 returns c = every_entry c.loop-j.invariant.entries c.loop-j-test.false

@@ -93,8 +93,8 @@ overflow_add-count c = omega (arith, (list_known (sized c).before).few)
 copy_offsets-requires : tie.Need-copy_offsets-requires
 copy_offsets-requires c κs =
     let t = (sized c.before).before in
-    let a = list_known t.before in
-    (omega (arith, a.few, offsets-long (list_of t.before) _ _ (checked t.before).check_offsets-c.ensures.1 a.accepted refl), omega arith)
+    let a = list_known t in
+    (omega (arith, a.few, offsets-long (list_of t) _ _ (checked t).check_offsets-c.ensures.1 a.accepted refl), omega arith)
 
 returns-else-offsets-count : tie.Need-returns-else-offsets-count
 returns-else-offsets-count c =

@@ -1,7 +1,6 @@
 -- `map_byte` meets its contract: before turn i the byte has the first i bits, and the weight is that of bit i.
 use mathlib.Core.Path.{◌≡◌, refl, sym, ap, ◌∙◌}
 use mathlib.Core.Bool.{Bool, true, false}
-use mathlib.Core.Logic.{⊎_elim}
 use Prim.Native.Nat.{ℕ, ◌+◌, ◌*◌, ◌^◌, ◌-◌, ◌≤◌, ◌<◌}
 use native.Mathlib.Nat.{pow-suc}
 use native.Mathlib.Numerals.{add-one}
@@ -14,6 +13,7 @@ use Rattle.tracks.specs.Write.{nonzero, packed, map_byte}
 use Rattle.tracks.specs.Calls.{patterns}
 use Rattle.tracks.proofs.Numbers.Bits.{packed_more, packed_lt}
 use Rattle.tracks.proofs.write.map_byte.Statement.{statement}
+use Rattle.tracks.proofs.write.map_byte.Lts.{then-is_stored, else-is_stored}
 use Rattle.tracks.proofs.write.map_byte.Tie as tie
 
 abbrev test : List ℕ → ℕ → ℕ → Bool
@@ -52,10 +52,10 @@ loop-i-preserved c =
       turns = omega arith;
       weighs = omega (arith, i.invariant.weighs, ap (λ (n : ℕ). 2 ^ n) (add-one i.i), pow-suc 2 i.i);
       bits =
-          ⊎_elim
-          (λ w. omega (arith, w.1, i.invariant, packed_more t i.i {b = true} (s ∙ w.0.taken)))
-          (λ w. omega (arith, w.1, i.invariant, packed_more t i.i {b = false} (s ∙ w.0.left)))
-          c.if-is_stored.branch;
+          elim c.if-is_stored.branch [
+            | then-is_stored w ↦ omega (arith, w.byte-is, i.invariant, packed_more t i.i {b = true} (s ∙ w.if-is_stored.true))
+            | else-is_stored w ↦ omega (arith, w.byte-is, i.invariant, packed_more t i.i {b = false} (s ∙ w.if-is_stored.false))
+          ];
     }
 
 returns : tie.Need-returns invariant-loop-i decreases-loop-i

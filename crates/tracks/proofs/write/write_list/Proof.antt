@@ -52,7 +52,7 @@ shape c =
     (listed c).same ∙ ap (λ (k : ℕ). k ∷ s.args.d ∷ records-of s) (length-tabulate s.args.n _)
 
 room : (c : tie.In-Length) → let s = start_of c in 2 + length (records-of s) ≤ length s.args.out.now
-room c = omega (arith, (listed c).ranges, ap length (shape c))
+room c = omega (arith, (listed c).fits, ap length (shape c))
 
 -- the two bytes and the records are the list, in front of what the buffer held
 left : (c : tie.In-Length) {new : List ℕ} → let s = start_of c in let x = s.args in

@@ -34,8 +34,8 @@ loop-k-preserved c =
     let at-loop = c.before.before.loop-k in
     let next : Digits c.before.before.before.args.w c.if-step-rest.root c.if-step-rest.rest (at-loop.t / 2) (at-loop.k - 1) =
     elim c.if-step-rest.branch [
-      then-step-rest w ↦ digits_same (taken at-loop.invariant.0 (omega arith) w.if-step-rest.true) (sym w.root-is) (sym w.rest-is) refl refl
-    | else-step-rest w ↦ digits_same (passed at-loop.invariant.0 (omega arith) w.if-step-rest.false) (sym w.root-is) (sym w.rest-is) refl refl
+      | then-step-rest w ↦ digits_same (taken at-loop.invariant.0 (omega arith) w.if-step-rest.true) (sym w.root-is) (sym w.rest-is) refl refl
+      | else-step-rest w ↦ digits_same (passed at-loop.invariant.0 (omega arith) w.if-step-rest.false) (sym w.root-is) (sym w.rest-is) refl refl
     ] in
     (next, sizes c.before.before.before.requires.1 next)
 
