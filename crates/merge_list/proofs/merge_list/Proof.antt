@@ -112,7 +112,7 @@ front_long c = (demanded c (counts_of c) refl).of_buffer.same_length ∙ lent (m
 array_long : (c : tie.In-Counts) → length (array c) ≡ 384
 array_long c =
     let r = (merged-at c).before.before.before in
-    omega (arith, length-append (new (merged-at c)) (rest (merged-at c)), length-drop r.row_room-room.result zeros, front_long c, (room_most r.before.before.before).0)
+    omega (arith, length-append (new (merged-at c)) (rest (merged-at c)), length-drop r.row_room-room.result zeros, front_long c, (room_most r).0)
 
 merged_is : (c : tie.In-Counts) → let x = (start_of (merged-at c)).args in
     merging x.base.now x.ours.now x.theirs.now x.floor x.gate (length x.rows.now) ≡ answered (found_at c)

@@ -1,7 +1,6 @@
 -- `both` meets its contract: where ours and theirs tell something, the sums are left.
 use mathlib.Core.Path.{◌≡◌, refl, ap, ◌∙◌}
 use borrow.Author.Rules.{rules}
-use borrow.Author.Tests.{not-true, not-false}
 use Rattle.kernel.specs.Answer.{answered}
 use Rattle.fusion.specs.Fusion.{information_of}
 use Rattle.fusion.specs.Private.{information}
@@ -22,8 +21,8 @@ second c = c.before.before.before.before.before.before
 abbrev told : tie.After-slice_known-11-1 → tie.Else-not-information
 told c = (second c).before.before.before.before
 
-abbrev both_told : tie.After-add-arg4 → tie.Else-not-information-2
-both_told c = c.before.before.before.before.before.before.before
+abbrev both_told : tie.After-add-arg-2-1 → tie.Else-not-information-2
+both_told c = c.before.before.before.before.before
 
 -- what ours tells
 of_ours : (c : tie.Else-not-information)
@@ -41,17 +40,15 @@ returns-then-not-information-2 c = let none = (second c.before).information-2.en
 add-requires-2 : tie.Need-add-requires-2
 add-requires-2 c κs =
     let theirs = (both_told c).before in
-    let ours = first (told theirs.before).before in
+    let ours = first (told theirs).before in
     let pre = (entered ours).requires in
-    ((second theirs.before).information-2.auto.y ∙ pre.2.one.vector, ours.information.auto.y ∙ pre.2.together.vector)
+    ((second theirs).information-2.auto.y ∙ pre.2.one.vector, ours.information.auto.y ∙ pre.2.together.vector)
 
 returns : tie.Need-returns
 returns c =
-    let summed = c in
-    let told-both = both_told summed.before in
-    let theirs = told-both in
+    let told-both = both_told c.before.before.before in
     rw (of_ours (told told-both.before), (second told-both.before).information-2.ensures.one told-both.if-not-information-2.false)
-    (gives_one (ap answered (informed summed.add.ensures summed.add-2.ensures)))
+    (gives_one (ap answered (informed c.add.ensures c.add-2.ensures)))
 
 pub both_spec : {M : Type 1} → statement M
 both_spec =

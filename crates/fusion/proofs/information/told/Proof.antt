@@ -3,7 +3,6 @@ use Prim.Native.Nat.{ℕ, ◌*◌, ◌≤◌}
 use native.Mathlib.Omega.{arith}
 use mathlib.Core.Path.{refl, sym, ◌∙◌}
 use borrow.Author.Rules.{rules}
-use borrow.Author.Tests.{not-true, not-false}
 use lib.Seq.{length-take-le, length_front}
 use Rattle.dense.proofs.Tests.{side_high, square_area}
 use Rattle.fusion.proofs.Calls.{gives_none}
@@ -64,24 +63,19 @@ slice_bounds-z-end-2 c =
 
 without_base-requires : tie.Need-without_base-requires
 without_base-requires c κs =
-    let z = c in
-    let p = z in
     let call = first c.before.before.before.before.before.before in
-    let kept = call.both.kept in
     let pre = (entered (lent call)).requires in (
       pre.0,
       record {
-        covariance = length-take-le _ _ (slice_bounds-p-end-2 p);
-        one = record { matrix = length-take-le _ _ (slice_bounds-n-end-2 z.before); vector = length-take-le _ _ (slice_bounds-z-end-2 z) };
-        together = record { matrix = kept.1.1.1.1.1.1.0 ∙ pre.3.matrix; vector = kept.1.1.1.1.1.1.1.0 ∙ pre.3.vector };
+        covariance = length-take-le _ _ (slice_bounds-p-end-2 c.before.before.before.before.before);
+        one = record { matrix = length-take-le _ _ (slice_bounds-n-end-2 c.before.before.before.before); vector = length-take-le _ _ (slice_bounds-z-end-2 c.before.before.before) };
+        together = record { matrix = call.both.auto.m ∙ pre.3.matrix; vector = call.both.auto.y ∙ pre.3.vector };
       },
     )
 
 returns : tie.Need-returns
 returns c =
-    let call = c in
-    let e = call in
-    rw ((first c.before.before.before.before.before.before.before.before.before.before.before.before.before.before).both.ensures.one e.if-not-both.false) call.without_base.ensures
+    rw ((first c.before.before.before.before.before.before.before.before.before.before.before.before.before.before).both.ensures.one c.if-not-both.false) c.without_base.ensures
 
 pub told_spec : {M : Type 1} → statement M
 told_spec =

@@ -1,7 +1,6 @@
 -- `without_base` meets its contract: where base tells something, the differences are left.
 use mathlib.Core.Path.{refl, ap}
 use borrow.Author.Rules.{rules}
-use borrow.Author.Tests.{not-true, not-false}
 use Rattle.kernel.specs.Answer.{answered}
 use Rattle.fusion.proofs.Calls.{gives_none, gives_one, informed}
 use Rattle.fusion.proofs.information.without_base.Statement.{statement}

@@ -3,7 +3,6 @@ use Prim.Native.Nat.{ℕ, ◌*◌, ◌≤◌}
 use native.Mathlib.Omega.{arith}
 use mathlib.Core.Path.{refl, sym, ◌∙◌}
 use borrow.Author.Rules.{rules}
-use borrow.Author.Tests.{not-true, not-false}
 use lib.Seq.{length-take-le, length_front, take_at}
 use Rattle.dense.proofs.Tests.{side_high, square_area}
 use Rattle.fusion.specs.Fusion.{estimate_from, step, if_finite}
@@ -56,8 +55,7 @@ slice_bounds-y-end-2 c =
 
 write_told-requires : tie.Need-write_told-requires
 write_told-requires c κs =
-    let y = c in
-    ((entered (lent (first c.before.before.before.before))).requires.room, record { matrix = length-take-le _ _ (slice_bounds-m-end-2 y.before); vector = length-take-le _ _ (slice_bounds-y-end-2 y) })
+    ((entered (lent (first c.before.before.before.before))).requires.room, record { matrix = length-take-le _ _ (slice_bounds-m-end-2 c.before.before.before); vector = length-take-le _ _ (slice_bounds-y-end-2 c.before.before) })
 
 returns : tie.Need-returns
 returns c =

@@ -2,7 +2,6 @@
 use mathlib.Core.List.{List}
 use mathlib.Core.Path.{refl, sym, ap, ◌∙◌}
 use borrow.Author.Rules.{rules}
-use borrow.Author.Tests.{not-true, not-false}
 use lib.Ieee.{Float}
 use Rattle.kernel.specs.Answer.{Outcome}
 use Rattle.linalg.specs.Products.{mat_symmetrize, symmetric_part}

@@ -3,7 +3,6 @@ use Prim.Native.Nat.{ℕ, ◌*◌, ◌≤◌}
 use native.Mathlib.Omega.{arith}
 use mathlib.Core.Path.{refl, sym, ◌∙◌}
 use borrow.Author.Rules.{rules}
-use borrow.Author.Tests.{not-true, not-false}
 use lib.Seq.{length-take-le, length_front, take_at}
 use Rattle.dense.proofs.Tests.{side_high, square_area}
 use Rattle.fusion.specs.Fusion.{if_finite}
@@ -52,8 +51,7 @@ slice_bounds-p-end-2 c =
 
 write_finite-requires : tie.Need-write_finite-requires
 write_finite-requires c κs =
-    let p = c in
-    ((entered (lent (first c.before.before.before.before))).requires.0, record { matrix = length-take-le _ _ (slice_bounds-p-end-2 p); vector = length-take-le _ _ (slice_bounds-x-end-2 p.before) })
+    ((entered (lent (first c.before.before.before.before))).requires.0, record { matrix = length-take-le _ _ (slice_bounds-p-end-2 c.before.before); vector = length-take-le _ _ (slice_bounds-x-end-2 c.before.before.before) })
 
 returns : tie.Need-returns
 returns c =

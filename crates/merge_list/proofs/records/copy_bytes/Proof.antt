@@ -1,5 +1,4 @@
 -- `copy_bytes` meets its contract: before turn i the first i bytes are copied.
-use borrow.Author.Tests.{not-true, not-false}
 use mathlib.Core.Path.{◌≡◌, sym, ap, ◌∙◌}
 use mathlib.Core.Bool.{Bool}
 use Prim.Native.Nat.{◌+◌, ◌-◌, ◌≤◌}

@@ -1,6 +1,5 @@
 -- `write_placed` meets its contract: the fields in the track's place are lent, and their record written.
 use borrow.Author.Rules.{rules}
-use borrow.Author.Tests.{not-true, not-false}
 use Prim.Native.Nat.{ℕ, ◌+◌, ◌*◌}
 use native.Mathlib.Omega.{arith}
 use mathlib.Core.Path.{◌≡◌, sym, ap, ◌∙◌}
@@ -10,7 +9,6 @@ use lib.Ieee.{Float}
 use lib.ListN.{length}
 use Rattle.kernel.specs.Lists.{over}
 use Rattle.dense.specs.Matrix.{row_of}
-use Rattle.tracks.specs.Layout.{fields}
 use Rattle.tracks.specs.Read.{dimension}
 use Rattle.tracks.specs.Write.{record_of}
 use Rattle.tracks.specs.Private.{track_of_doubles}
@@ -31,7 +29,7 @@ start_of c = c.before.before.before.before.before.before
 row-requires : tie.Need-row-requires
 row-requires c κs =
     let s = start_of c in
-    omega (arith, s.requires.1 (not-false s.args.wanted c.if-not-wanted.false), ap (λ (f : ℕ). s.args.i * f) c.fields.ensures.0, c.fields.ensures.0)
+    omega (arith, s.requires.1 c.if-not-wanted.false, ap (λ (f : ℕ). s.args.i * f) c.fields.ensures.0, c.fields.ensures.0)
 
 -- the record of the fields that are lent is the one that is wanted
 wanted : (c : tie.After-row) → let x = (start_of c.before).args in

@@ -58,7 +58,7 @@ laid_base c =
     laid_more t.loop-r.invariant.laid (from-base (lists t) (rows_of t) t.loop-r.r) refl
     (fits-base (lists t) (rows_of t) (start_of t).args.out.now (start_of t).requires.1 (inside c.before)) e.0 e.1
 
-laid_ours : (c : tie.After-copy_record-at-in-loop-r invariant-loop-r decreases-loop-r) → let t = turn (first c.before).before in let s = lists t in let r = t.loop.r in
+laid_ours : (c : tie.After-copy_record-at-in-loop-r invariant-loop-r decreases-loop-r) → let t = turn (first c.before).before in let s = lists t in let r = t.loop-r.r in
     Laid (start_of t).args.out.now 2 ((before s (rows_of t) r ++ from-base s (rows_of t) r) ++ from-ours s (rows_of t) r) c.copy_record-at-in-loop-r.result c.copy_record-at-in-loop-r.new.out
 laid_ours c =
     let b = first c.before in
@@ -66,7 +66,7 @@ laid_ours c =
     let e = c.copy_record-at-in-loop-r.ensures in
     laid_more (laid_base b) (from-ours (lists t) (rows_of t) t.loop-r.r) refl (fits-ours (lists t) (rows_of t) (start_of t).args.out.now (start_of t).requires.1 (inside b.before)) e.0 e.1
 
-laid_theirs : (c : tie.After-copy_record-at-in-loop-r-2 invariant-loop-r decreases-loop-r) → let t = turn (first (second c.before).before).before in let s = lists t in let r = t.loop.r in
+laid_theirs : (c : tie.After-copy_record-at-in-loop-r-2 invariant-loop-r decreases-loop-r) → let t = turn (first (second c.before).before).before in let s = lists t in let r = t.loop-r.r in
     Laid (start_of t).args.out.now 2 (((before s (rows_of t) r ++ from-base s (rows_of t) r) ++ from-ours s (rows_of t) r) ++ from-theirs s (rows_of t) r)
     c.copy_record-at-in-loop-r-2.result c.copy_record-at-in-loop-r-2.new.out
 laid_theirs c =

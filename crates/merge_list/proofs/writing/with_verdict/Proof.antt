@@ -1,7 +1,6 @@
 -- `with_verdict` meets its contract: before turn r the first r rows are counted.
 use mathlib.Core.Path.{◌≡◌, refl, ap, ◌∙◌}
 use mathlib.Core.Bool.{Bool, cond}
-use mathlib.Core.Logic.{⊎_elim}
 use Prim.Native.Nat.{ℕ, ◌-◌, ◌≤◌}
 use native.Mathlib.Omega.{arith}
 use borrow.Author.Tests.{eq-eqb, ne_eqb}
@@ -12,6 +11,7 @@ use Rattle.merge_list.specs.MergeList.{with_verdict}
 use Rattle.merge_list.specs.Private.{row_in, rows_in}
 use Rattle.merge_list.proofs.Verdicts.{with_more, with_few}
 use Rattle.merge_list.proofs.writing.with_verdict.Statement.{statement}
+use Rattle.merge_list.proofs.writing.with_verdict.Lts.{then-rows-r, else-rows-r}
 use Rattle.merge_list.proofs.writing.with_verdict.Tie as tie
 
 abbrev invariant-loop-r : tie.invariant-loop-r
@@ -49,10 +49,10 @@ loop-r-preserved c =
     record {
       turns = omega arith;
       state =
-          ⊎_elim
-          (λ t. omega (arith, t.1, l.invariant.state, more, one (eq-eqb w.verdict x.verdict t.0.taken)))
-          (λ t. omega (arith, t.1, l.invariant.state, more, one (ne_eqb w.verdict x.verdict t.0.left)))
-          c.if-rows-r.branch;
+          elim c.if-rows-r.branch [
+            | then-rows-r t ↦ omega (arith, t.count-is, l.invariant.state, more, one (eq-eqb w.verdict x.verdict t.if-rows-r.true))
+            | else-rows-r t ↦ omega (arith, t.count-is, l.invariant.state, more, one (ne_eqb w.verdict x.verdict t.if-rows-r.false))
+          ];
     }
 
 returns : tie.Need-returns invariant-loop-r decreases-loop-r
