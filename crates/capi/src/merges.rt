@@ -90,13 +90,13 @@ pub extern "C" fn pel_merge_list(
 ) -> u32
     ensures length_after { (result, (full.new, (half.new, (single.new, length.new))))
         ≡ told_merged_list
-        (MergeList.afterMergeList
-        (MergeList.mergingList base.now ours.now theirs.now floor gate (ListN.length rows.old) (ListN.length out.old))
+        (MergeList.after_merge_list
+        (MergeList.merging_list base.now ours.now theirs.now floor gate (ListN.length rows.old) (ListN.length out.old))
         rows.old out.old).0
         full.old half.old single.old length.old }
     ensures out_after { (rows.new, out.new)
         ≡ (MergeList.after_merge_list
-        (MergeList.mergingList base.now ours.now theirs.now floor gate (ListN.length rows.old) (ListN.length out.old))
+        (MergeList.merging_list base.now ours.now theirs.now floor gate (ListN.length rows.old) (ListN.length out.old))
         rows.old out.old).1 }
 {
     enter_merged_list(

@@ -1,4 +1,4 @@
-// Constants that several crates use, each once: the limits in the source's tests, which specs/Constants spells relTol, minScale and so
+// Constants that several crates use, each once: the limits in the source's tests, which specs/Constants spells rel_tol, min_scale and so
 // on, and bit patterns.
 ghost use Rattle.std.specs.Prelude.{◌≡◌};
 ghost use Rattle.kernel.specs.Constants.{infinity};

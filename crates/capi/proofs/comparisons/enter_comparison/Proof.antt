@@ -12,13 +12,13 @@ use Rattle.capi.proofs.comparisons.enter_comparison.Tie as tie
 abbrev entered : tie.Start → Compared → ℕ × (ℕ × Float)
 entered c a = told_comparison a c.args.kind.now c.args.d2.now
 
-returns : tie.Need-returns
-returns c =
-    let known = c.before.before.before.before in
-    ap (λ (z : ℕ × Float). (0, z)) c.enter-kind.ensures ∙ ap (entered known.before.before) (sym known.answer.given.1)
+returns-in-Answered : tie.Need-returns-in-Answered
+returns-in-Answered c =
+    let known = c in
+    ap (λ (z : ℕ × Float). (0, z)) c.enter_kind.ensures ∙ ap (entered c.before.before.before.before) (sym known.in-Answered.is)
 
-returns-2 : tie.Need-returns-2
-returns-2 c = ap (entered c.before.before.before) (sym c.before.answer2.given.1)
+returns-in-Refused : tie.Need-returns-in-Refused
+returns-in-Refused c = ap (entered c.before) (sym c.in-Refused.is)
 
-pub enter-comparison-spec : {M : Type 1} → statement M
-enter-comparison-spec = tie.close (tie.spec (λ c. search rules) (λ c κs. search rules) (λ c. search rules) (λ c. search rules) returns returns-2)
+pub enter_comparison_spec : {M : Type 1} → statement M
+enter_comparison_spec = tie.close (tie.spec (λ c. search rules) (λ c κs. search rules) (λ c. search rules) (λ c. search rules) returns-in-Answered returns-in-Refused)

@@ -6,8 +6,8 @@ use Rattle.capi.specs.Comparisons.{kind_and_distance}
 use Rattle.capi.proofs.comparisons.enter_kind.Statement.{statement}
 use Rattle.capi.proofs.comparisons.enter_kind.Tie as tie
 
-returns-3 : tie.Need-returns-3
-returns-3 c = ap (λ (k : Comparison). kind_and_distance k c.before.before.args.d2.now) (sym c.enum_told.given.1)
+returns-in-NoDistance : tie.Need-returns-in-NoDistance
+returns-in-NoDistance c = ap (λ (k : Comparison). kind_and_distance k c.args.d2.now) (sym c.in-NoDistance.is)
 
-pub enter-kind-spec : {M : Type 1} → statement M
-enter-kind-spec = tie.close (tie.spec (λ c. search rules) (λ c. search rules) (λ c. search rules) (λ c. search rules) (λ c. search rules) returns-3)
+pub enter_kind_spec : {M : Type 1} → statement M
+enter_kind_spec = tie.close (tie.spec (λ c. search rules) (λ c. search rules) (λ c. search rules) (λ c. search rules) (λ c. search rules) returns-in-NoDistance)

@@ -8,9 +8,9 @@ use Rattle.capi.proofs.comparisons.pel_compare.Tie as tie
 
 returns : tie.Need-returns
 returns c =
-    let call = c.before.before.before in
-    let x = call.before.before.before.before.before.args in
-    c.enter-comparison.ensures ∙ ap (λ (a : Compared). told_comparison a x.kind.now x.d2.now) call.compare.ensures
+    let call = c in
+    let x = call.args in
+    c.enter_comparison.ensures ∙ ap (λ (a : Compared). told_comparison a x.kind.now x.d2.now) call.compare.ensures
 
-pub pel-compare-spec : {M : Type 1} → statement M
-pel-compare-spec = tie.close (tie.spec (λ c κs. search rules) (λ c κs. search rules) returns)
+pub pel_compare_spec : {M : Type 1} → statement M
+pel_compare_spec = tie.close (tie.spec (λ c κs. search rules) (λ c κs. search rules) returns)

@@ -5,7 +5,7 @@ use Rattle.capi.proofs.eigenpairs.pel_mat_symmetric_eigen.Statement.{statement}
 use Rattle.capi.proofs.eigenpairs.pel_mat_symmetric_eigen.Tie as tie
 
 returns : tie.Need-returns
-returns c = pairs-tell _ _ _ _ _ _ _ c.code.ensures c.before.before.before.before.before.mat-symmetric-eigen.ensures
+returns c = pairs-tell _ _ _ _ _ _ _ c.code.ensures c.mat_symmetric_eigen.ensures
 
-pub pel-mat-symmetric-eigen-spec : {M : Type 1} → statement M
-pel-mat-symmetric-eigen-spec = tie.close (tie.spec (λ c κs. search rules) (λ c κs. search rules) (λ c. search rules) (λ c. search rules) returns)
+pub pel_mat_symmetric_eigen_spec : {M : Type 1} → statement M
+pel_mat_symmetric_eigen_spec = tie.close (tie.spec (λ c κs. search rules) (λ c κs. search rules) (λ c. search rules) (λ c. search rules) returns)

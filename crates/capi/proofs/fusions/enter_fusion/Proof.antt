@@ -6,9 +6,9 @@ use Rattle.capi.specs.Fusions.{told_fusion}
 use Rattle.capi.proofs.fusions.enter_fusion.Statement.{statement}
 use Rattle.capi.proofs.fusions.enter_fusion.Tie as tie
 
-returns-3 : tie.Need-returns-3
-returns-3 c = ap (λ (a : Fusion). told_fusion a c.before.before.before.args.fused.now) (sym c.before.answer.given.1)
+returns-in-Refused : tie.Need-returns-in-Refused
+returns-in-Refused c = ap (λ (a : Fusion). told_fusion a c.args.fused.now) (sym c.in-Refused.is)
 
-pub enter-fusion-spec : {M : Type 1} → statement M
-enter-fusion-spec =
-    tie.close (tie.spec (λ c. search rules) (λ c. search rules) (λ c. search rules) (λ c. search rules) (λ c. search rules) (λ c. search rules) returns-3)
+pub enter_fusion_spec : {M : Type 1} → statement M
+enter_fusion_spec =
+    tie.close (tie.spec (λ c. search rules) (λ c. search rules) (λ c. search rules) (λ c. search rules) (λ c. search rules) (λ c. search rules) returns-in-Refused)

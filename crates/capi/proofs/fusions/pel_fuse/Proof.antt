@@ -10,11 +10,11 @@ use Rattle.capi.proofs.fusions.pel_fuse.Tie as tie
 
 returns : tie.Need-returns
 returns c =
-    let call = c.before.before.before.before in
-    let x = call.before.before.before.before.before.before.args in (
-      c.enter-fusion.ensures ∙ ap (λ (a : Fusion × List Float). told_fusion a.0 x.fused.now) call.fuse.ensures,
-      ap (λ (a : Fusion × List Float). a.1) call.fuse.ensures,
+    let call = c in
+    let x = call.args in (
+      c.enter_fusion.ensures ∙ ap (λ (a : Fusion × List Float). told_fusion a.0 x.fused.now) call.fuse-answer.ensures,
+      ap (λ (a : Fusion × List Float). a.1) call.fuse-answer.ensures,
     )
 
-pub pel-fuse-spec : {M : Type 1} → statement M
-pel-fuse-spec = tie.close (tie.spec (λ c κs. search rules) (λ c κs. search rules) (λ c. search rules) returns)
+pub pel_fuse_spec : {M : Type 1} → statement M
+pel_fuse_spec = tie.close (tie.spec (λ c κs. search rules) (λ c κs. search rules) (λ c. search rules) returns)

@@ -8,10 +8,10 @@ use Rattle.capi.proofs.lists.pel_read_list.Tie as tie
 
 returns : tie.Need-returns
 returns c =
-    let call = c.before.before.before.before.before in
-    let x = call.before.before.before.before.args in
-    let e = call.read-list.ensures in
-    (c.enter-read.ensures ∙ ap (λ (a : ReadList). told_read a x.count.now x.dimension.now) e.0, e.1)
+    let call = c in
+    let x = call.args in
+    let e = call.read_list.ensures in
+    (c.enter_read.ensures ∙ ap (λ (a : ReadList). told_read a x.count.now x.dimension.now) e.0, e.1)
 
-pub pel-read-list-spec : {M : Type 1} → statement M
-pel-read-list-spec = tie.close (tie.spec (λ c κs. search rules) (λ c κs. search rules) (λ c. search rules) returns)
+pub pel_read_list_spec : {M : Type 1} → statement M
+pel_read_list_spec = tie.close (tie.spec (λ c κs. search rules) (λ c κs. search rules) (λ c. search rules) returns)

@@ -6,7 +6,7 @@ use Rattle.capi.proofs.lists.pel_record.Statement.{statement}
 use Rattle.capi.proofs.lists.pel_record.Tie as tie
 
 returns : tie.Need-returns
-returns c = (refl, ap length c.«record».ensures.0)
+returns c = (refl, ap length c.record.ensures.0)
 
-pub pel-record-spec : {M : Type 1} → statement M
-pel-record-spec = tie.close (tie.spec (λ c κs. search rules) returns)
+pub pel_record_spec : {M : Type 1} → statement M
+pel_record_spec = tie.close (tie.spec (λ c κs. search rules) returns)

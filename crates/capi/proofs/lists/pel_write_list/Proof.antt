@@ -8,10 +8,10 @@ use Rattle.capi.proofs.lists.pel_write_list.Tie as tie
 
 returns : tie.Need-returns
 returns c =
-    let call = c.before.before.before.before in
-    let x = call.before.before.before.before.args in
-    let e = call.write-list.ensures in
-    (c.enter-length.ensures ∙ ap (λ (a : WrittenList). told_written a x.length.now) e.0, e.1)
+    let call = c in
+    let x = call.args in
+    let e = call.write_list.ensures in
+    (c.enter_length.ensures ∙ ap (λ (a : WrittenList). told_written a x.length.now) e.0, e.1)
 
-pub pel-write-list-spec : {M : Type 1} → statement M
-pel-write-list-spec = tie.close (tie.spec (λ c κs. search rules) (λ c κs. search rules) (λ c. search rules) returns)
+pub pel_write_list_spec : {M : Type 1} → statement M
+pel_write_list_spec = tie.close (tie.spec (λ c κs. search rules) (λ c κs. search rules) (λ c. search rules) returns)

@@ -5,7 +5,7 @@ use Rattle.capi.proofs.matrices.pel_mahalanobis_distance_squared_with_inv.Statem
 use Rattle.capi.proofs.matrices.pel_mahalanobis_distance_squared_with_inv.Tie as tie
 
 returns : tie.Need-returns
-returns c = gives_tells _ _ _ _ _ c.enter.ensures c.before.before.mahalanobis-distance-squared-with-inv.ensures
+returns c = gives_tells _ _ _ _ _ c.enter.ensures c.mahalanobis_distance_squared_with_inv.ensures
 
-pub pel-mahalanobis-distance-squared-with-inv-spec : {M : Type 1} → statement M
-pel-mahalanobis-distance-squared-with-inv-spec = tie.close (tie.spec (λ c κs. search rules) (λ c κs. search rules) returns)
+pub pel_mahalanobis_distance_squared_with_inv_spec : {M : Type 1} → statement M
+pel_mahalanobis_distance_squared_with_inv_spec = tie.close (tie.spec (λ c κs. search rules) (λ c κs. search rules) returns)

@@ -5,7 +5,7 @@ use Rattle.capi.proofs.matrices.pel_mat3_inv.Statement.{statement}
 use Rattle.capi.proofs.matrices.pel_mat3_inv.Tie as tie
 
 returns : tie.Need-returns
-returns c = leaves_tells _ _ _ _ _ c.code.ensures c.before.before.before.mat3-inv.ensures
+returns c = leaves_tells _ _ _ _ _ c.code.ensures c.mat3_inv.ensures
 
-pub pel-mat3-inv-spec : {M : Type 1} → statement M
-pel-mat3-inv-spec = tie.close (tie.spec (λ c κs. search rules) (λ c κs. search rules) (λ c. search rules) returns)
+pub pel_mat3_inv_spec : {M : Type 1} → statement M
+pel_mat3_inv_spec = tie.close (tie.spec (λ c κs. search rules) (λ c κs. search rules) (λ c. search rules) returns)

@@ -5,7 +5,7 @@ use Rattle.capi.proofs.matrices.pel_mat_ata.Statement.{statement}
 use Rattle.capi.proofs.matrices.pel_mat_ata.Tie as tie
 
 returns : tie.Need-returns
-returns c = leaves_tells _ _ _ _ _ c.code.ensures c.before.before.before.mat-ata.ensures
+returns c = leaves_tells _ _ _ _ _ c.code.ensures c.mat_ata.ensures
 
-pub pel-mat-ata-spec : {M : Type 1} → statement M
-pel-mat-ata-spec = tie.close (tie.spec (λ c κs. search rules) (λ c κs. search rules) (λ c. search rules) returns)
+pub pel_mat_ata_spec : {M : Type 1} → statement M
+pel_mat_ata_spec = tie.close (tie.spec (λ c κs. search rules) (λ c κs. search rules) (λ c. search rules) returns)

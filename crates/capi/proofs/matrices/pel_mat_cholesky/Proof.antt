@@ -5,7 +5,7 @@ use Rattle.capi.proofs.matrices.pel_mat_cholesky.Statement.{statement}
 use Rattle.capi.proofs.matrices.pel_mat_cholesky.Tie as tie
 
 returns : tie.Need-returns
-returns c = leaves_tells _ _ _ _ _ c.code.ensures c.before.before.before.mat-cholesky.ensures
+returns c = leaves_tells _ _ _ _ _ c.code.ensures c.mat_cholesky.ensures
 
-pub pel-mat-cholesky-spec : {M : Type 1} → statement M
-pel-mat-cholesky-spec = tie.close (tie.spec (λ c κs. search rules) (λ c κs. search rules) (λ c. search rules) returns)
+pub pel_mat_cholesky_spec : {M : Type 1} → statement M
+pel_mat_cholesky_spec = tie.close (tie.spec (λ c κs. search rules) (λ c κs. search rules) (λ c. search rules) returns)

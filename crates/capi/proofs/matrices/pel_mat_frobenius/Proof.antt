@@ -5,7 +5,7 @@ use Rattle.capi.proofs.matrices.pel_mat_frobenius.Statement.{statement}
 use Rattle.capi.proofs.matrices.pel_mat_frobenius.Tie as tie
 
 returns : tie.Need-returns
-returns c = gives_tells _ _ _ _ _ c.enter.ensures c.before.before.mat-frobenius.ensures
+returns c = gives_tells _ _ _ _ _ c.enter.ensures c.mat_frobenius.ensures
 
-pub pel-mat-frobenius-spec : {M : Type 1} → statement M
-pel-mat-frobenius-spec = tie.close (tie.spec (λ c κs. search rules) (λ c κs. search rules) returns)
+pub pel_mat_frobenius_spec : {M : Type 1} → statement M
+pel_mat_frobenius_spec = tie.close (tie.spec (λ c κs. search rules) (λ c κs. search rules) returns)

@@ -5,7 +5,7 @@ use Rattle.capi.proofs.matrices.pel_mat_quadratic_form.Statement.{statement}
 use Rattle.capi.proofs.matrices.pel_mat_quadratic_form.Tie as tie
 
 returns : tie.Need-returns
-returns c = gives_tells _ _ _ _ _ c.enter.ensures c.before.before.mat-quadratic-form.ensures
+returns c = gives_tells _ _ _ _ _ c.enter.ensures c.mat_quadratic_form.ensures
 
-pub pel-mat-quadratic-form-spec : {M : Type 1} → statement M
-pel-mat-quadratic-form-spec = tie.close (tie.spec (λ c κs. search rules) (λ c κs. search rules) returns)
+pub pel_mat_quadratic_form_spec : {M : Type 1} → statement M
+pel_mat_quadratic_form_spec = tie.close (tie.spec (λ c κs. search rules) (λ c κs. search rules) returns)

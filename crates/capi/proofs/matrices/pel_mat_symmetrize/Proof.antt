@@ -5,7 +5,7 @@ use Rattle.capi.proofs.matrices.pel_mat_symmetrize.Statement.{statement}
 use Rattle.capi.proofs.matrices.pel_mat_symmetrize.Tie as tie
 
 returns : tie.Need-returns
-returns c = leaves_tells _ _ _ _ _ c.code.ensures c.before.before.before.mat-symmetrize.ensures
+returns c = leaves_tells _ _ _ _ _ c.code.ensures c.mat_symmetrize.ensures
 
-pub pel-mat-symmetrize-spec : {M : Type 1} → statement M
-pel-mat-symmetrize-spec = tie.close (tie.spec (λ c κs. search rules) (λ c κs. search rules) (λ c. search rules) returns)
+pub pel_mat_symmetrize_spec : {M : Type 1} → statement M
+pel_mat_symmetrize_spec = tie.close (tie.spec (λ c κs. search rules) (λ c κs. search rules) (λ c. search rules) returns)

@@ -5,7 +5,7 @@ use Rattle.capi.proofs.matrices.pel_mat_trace_cube.Statement.{statement}
 use Rattle.capi.proofs.matrices.pel_mat_trace_cube.Tie as tie
 
 returns : tie.Need-returns
-returns c = gives_tells _ _ _ _ _ c.enter.ensures c.before.before.mat-trace-cube.ensures
+returns c = gives_tells _ _ _ _ _ c.enter.ensures c.mat_trace_cube.ensures
 
-pub pel-mat-trace-cube-spec : {M : Type 1} → statement M
-pel-mat-trace-cube-spec = tie.close (tie.spec (λ c κs. search rules) (λ c κs. search rules) returns)
+pub pel_mat_trace_cube_spec : {M : Type 1} → statement M
+pel_mat_trace_cube_spec = tie.close (tie.spec (λ c κs. search rules) (λ c κs. search rules) returns)

@@ -5,7 +5,7 @@ use Rattle.capi.proofs.matrices.pel_mat_transpose.Statement.{statement}
 use Rattle.capi.proofs.matrices.pel_mat_transpose.Tie as tie
 
 returns : tie.Need-returns
-returns c = leaves_tells _ _ _ _ _ c.code.ensures c.before.before.before.mat-transpose.ensures
+returns c = leaves_tells _ _ _ _ _ c.code.ensures c.mat_transpose.ensures
 
-pub pel-mat-transpose-spec : {M : Type 1} → statement M
-pel-mat-transpose-spec = tie.close (tie.spec (λ c κs. search rules) (λ c κs. search rules) (λ c. search rules) returns)
+pub pel_mat_transpose_spec : {M : Type 1} → statement M
+pel_mat_transpose_spec = tie.close (tie.spec (λ c κs. search rules) (λ c κs. search rules) (λ c. search rules) returns)

@@ -5,7 +5,7 @@ use Rattle.capi.proofs.matrices.pel_mat_vec_mul.Statement.{statement}
 use Rattle.capi.proofs.matrices.pel_mat_vec_mul.Tie as tie
 
 returns : tie.Need-returns
-returns c = leaves_tells _ _ _ _ _ c.code.ensures c.before.before.before.mat-vec-mul.ensures
+returns c = leaves_tells _ _ _ _ _ c.code.ensures c.mat_vec_mul.ensures
 
-pub pel-mat-vec-mul-spec : {M : Type 1} → statement M
-pel-mat-vec-mul-spec = tie.close (tie.spec (λ c κs. search rules) (λ c κs. search rules) (λ c. search rules) returns)
+pub pel_mat_vec_mul_spec : {M : Type 1} → statement M
+pel_mat_vec_mul_spec = tie.close (tie.spec (λ c κs. search rules) (λ c κs. search rules) (λ c. search rules) returns)

@@ -6,10 +6,10 @@ use Rattle.capi.specs.Merges.{told_merge}
 use Rattle.capi.proofs.merges.enter_counts.Statement.{statement}
 use Rattle.capi.proofs.merges.enter_counts.Tie as tie
 
-returns-2 : tie.Need-returns-2
-returns-2 c =
-    let x = c.before.before.before.args in
-    ap (λ (a : Merged). told_merge a x.full.now x.half.now x.single.now) (sym c.before.answer2.given.1)
+returns-in-Refused : tie.Need-returns-in-Refused
+returns-in-Refused c =
+    let x = c.args in
+    ap (λ (a : Merged). told_merge a x.full.now x.half.now x.single.now) (sym c.in-Refused.is)
 
-pub enter-counts-spec : {M : Type 1} → statement M
-enter-counts-spec = tie.close (tie.spec (λ c. search rules) (λ c. search rules) (λ c. search rules) (λ c. search rules) returns-2)
+pub enter_counts_spec : {M : Type 1} → statement M
+enter_counts_spec = tie.close (tie.spec (λ c. search rules) (λ c. search rules) (λ c. search rules) (λ c. search rules) returns-in-Refused)

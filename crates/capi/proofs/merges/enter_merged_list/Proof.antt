@@ -7,18 +7,18 @@ use Rattle.capi.specs.Merges.{told_merged_list}
 use Rattle.capi.proofs.merges.enter_merged_list.Statement.{statement}
 use Rattle.capi.proofs.merges.enter_merged_list.Tie as tie
 
-returns : tie.Need-returns
-returns c =
-    let matched = c.before.before.before.before.before in
-    let x = matched.before.before.args in
-    let n = matched.answer.given.0.1.0 in
-    ap (λ (p : ℕ × (ℕ × (ℕ × ℕ))). (p.0, (p.1.0, (p.1.1.0, (p.1.1.1, n))))) c.enter-counts.ensures
-    ∙ ap (λ (a : MergedList). told_merged_list a x.full.now x.half.now x.single.now x.length.now) (sym matched.answer.given.1)
+returns-in-Written : tie.Need-returns-in-Written
+returns-in-Written c =
+    let matched = c in
+    let x = matched.args in
+    let n = matched.in-Written.n in
+    ap (λ (p : ℕ × (ℕ × (ℕ × ℕ))). (p.0, (p.1.0, (p.1.1.0, (p.1.1.1, n))))) c.enter_counts.ensures
+    ∙ ap (λ (a : MergedList). told_merged_list a x.full.now x.half.now x.single.now x.length.now) (sym matched.in-Written.is)
 
-returns-2 : tie.Need-returns-2
-returns-2 c =
-    let x = c.before.before.before.args in
-    ap (λ (a : MergedList). told_merged_list a x.full.now x.half.now x.single.now x.length.now) (sym c.before.answer2.given.1)
+returns-in-Refused : tie.Need-returns-in-Refused
+returns-in-Refused c =
+    let x = c.args in
+    ap (λ (a : MergedList). told_merged_list a x.full.now x.half.now x.single.now x.length.now) (sym c.in-Refused.is)
 
-pub enter-merged-list-spec : {M : Type 1} → statement M
-enter-merged-list-spec = tie.close (tie.spec (λ c. search rules) (λ c κs. search rules) (λ c. search rules) (λ c. search rules) returns returns-2)
+pub enter_merged_list_spec : {M : Type 1} → statement M
+enter_merged_list_spec = tie.close (tie.spec (λ c. search rules) (λ c κs. search rules) (λ c. search rules) (λ c. search rules) returns-in-Written returns-in-Refused)

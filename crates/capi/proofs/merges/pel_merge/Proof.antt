@@ -10,12 +10,12 @@ use Rattle.capi.proofs.merges.pel_merge.Tie as tie
 
 returns : tie.Need-returns
 returns c =
-    let merged = c.before.before.before.before.before.before in
-    let x = merged.before.before.before.before.before.before.args in
+    let merged = c in
+    let x = merged.args in
     let e = merged.merge.ensures.0 in (
-      c.enter-counts.ensures ∙ ap (λ (p : Merged × List ℕ). told_merge p.0 x.full.now x.half.now x.single.now) e,
+      c.enter_counts.ensures ∙ ap (λ (p : Merged × List ℕ). told_merge p.0 x.full.now x.half.now x.single.now) e,
       ap (λ (p : Merged × List ℕ). p.1) e,
     )
 
-pub pel-merge-spec : {M : Type 1} → statement M
-pel-merge-spec = tie.close (tie.spec (λ c κs. search rules) (λ c κs. search rules) (λ c. search rules) returns)
+pub pel_merge_spec : {M : Type 1} → statement M
+pel_merge_spec = tie.close (tie.spec (λ c κs. search rules) (λ c κs. search rules) (λ c. search rules) returns)

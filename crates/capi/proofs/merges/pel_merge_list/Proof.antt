@@ -10,13 +10,13 @@ use Rattle.capi.proofs.merges.pel_merge_list.Tie as tie
 
 returns : tie.Need-returns
 returns c =
-    let merged = c.before.before.before.before.before.before.before.before.before in
-    let x = merged.before.before.before.before.before.before.before.before.args in
-    let e = merged.merge-list.ensures in (
-      c.enter-merged-list.ensures
+    let merged = c in
+    let x = merged.args in
+    let e = merged.merge_list.ensures in (
+      c.enter_merged_list.ensures
           ∙ ap (λ (p : MergedList × (List ℕ × List ℕ)). told_merged_list p.0 x.full.now x.half.now x.single.now x.length.now) e,
       ap (λ (p : MergedList × (List ℕ × List ℕ)). p.1) e,
     )
 
-pub pel-merge-list-spec : {M : Type 1} → statement M
-pel-merge-list-spec = tie.close (tie.spec (λ c κs. search rules) (λ c κs. search rules) (λ c. search rules) (λ c. search rules) returns)
+pub pel_merge_list_spec : {M : Type 1} → statement M
+pel_merge_list_spec = tie.close (tie.spec (λ c κs. search rules) (λ c κs. search rules) (λ c. search rules) (λ c. search rules) returns)

@@ -7,18 +7,18 @@ use Rattle.capi.specs.Merges.{in_numbers, told_winner}
 use Rattle.capi.proofs.merges.pel_winner.Statement.{statement}
 use Rattle.capi.proofs.merges.pel_winner.Tie as tie
 
-returns : tie.Need-returns
+returns-then-row-ne4 : tie.Need-returns-then-row-ne4
 unfolding told_winner
-returns c = rw (ne_eqb _ 4 c.before.before.before.before.if1.true) c.enter-winner.ensures
+returns-then-row-ne4 c = rw (ne_eqb _ 4 c.if-row-ne4.true) c.enter_winner.ensures
 
-returns-2 : tie.Need-returns-2
+returns : tie.Need-returns
 unfolding told_winner winning
-returns-2 c =
-    let t = c.before.before.before.before in
-    rw (eq-eqb _ 4 t.before.before.before.before.before.if1.false) (c.enter-winner2.ensures ∙ ap in_numbers t.winning.ensures)
+returns c =
+    let t = c in
+    rw (eq-eqb _ 4 t.if-row-ne4.false) (c.enter_winner-2.ensures ∙ ap in_numbers t.winning-w.ensures)
 
-pub pel-winner-spec : {M : Type 1} → statement M
-pel-winner-spec =
+pub pel_winner_spec : {M : Type 1} → statement M
+pel_winner_spec =
     tie.close
-    (tie.spec (λ c κs. search rules) returns (λ c. search rules) (λ c. search rules) (λ c. search rules) (λ c. search rules) (λ c κs. search rules)
-    (λ c κs. search rules) returns-2)
+    (tie.spec (λ c κs. search rules) returns-then-row-ne4 (λ c. search rules) (λ c. search rules) (λ c. search rules) (λ c. search rules) (λ c κs. search rules)
+    (λ c κs. search rules) returns)

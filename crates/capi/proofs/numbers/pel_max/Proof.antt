@@ -6,5 +6,5 @@ use Rattle.capi.proofs.numbers.pel_max.Tie as tie
 returns : tie.Need-returns
 returns c = c.max.ensures
 
-pub pel-max-spec : {M : Type 1} → statement M
-pel-max-spec = tie.close (tie.spec (λ c κs. search rules) returns)
+pub pel_max_spec : {M : Type 1} → statement M
+pel_max_spec = tie.close (tie.spec (λ c κs. search rules) returns)

@@ -12,11 +12,11 @@ use Rattle.capi.proofs.powers.enter_damping.Tie as tie
 abbrev entered : tie.Start → Damped → ℕ × (Float × Float)
 entered c a = told_damping a c.args.before.now c.args.after.now
 
-returns : tie.Need-returns
-returns c = ap (entered c.before.before.before) (sym c.before.answer.given.1)
+returns-in-Report : tie.Need-returns-in-Report
+returns-in-Report c = ap (entered c.before) (sym c.in-Report.is)
 
-returns-2 : tie.Need-returns-2
-returns-2 c = ap (entered c.before.before.before) (sym c.before.answer2.given.1)
+returns-in-Refused : tie.Need-returns-in-Refused
+returns-in-Refused c = ap (entered c.before) (sym c.in-Refused.is)
 
-pub enter-damping-spec : {M : Type 1} → statement M
-enter-damping-spec = tie.close (tie.spec (λ c. search rules) (λ c. search rules) (λ c. search rules) returns returns-2)
+pub enter_damping_spec : {M : Type 1} → statement M
+enter_damping_spec = tie.close (tie.spec (λ c. search rules) (λ c. search rules) (λ c. search rules) returns-in-Report returns-in-Refused)

@@ -5,7 +5,7 @@ use Rattle.capi.proofs.powers.pel_condition_number.Statement.{statement}
 use Rattle.capi.proofs.powers.pel_condition_number.Tie as tie
 
 returns : tie.Need-returns
-returns c = gives_tells _ _ _ _ _ c.enter.ensures c.before.before.condition-number.ensures
+returns c = gives_tells _ _ _ _ _ c.enter.ensures c.condition_number.ensures
 
-pub pel-condition-number-spec : {M : Type 1} → statement M
-pel-condition-number-spec = tie.close (tie.spec (λ c κs. search rules) (λ c κs. search rules) returns)
+pub pel_condition_number_spec : {M : Type 1} → statement M
+pel_condition_number_spec = tie.close (tie.spec (λ c κs. search rules) (λ c κs. search rules) returns)

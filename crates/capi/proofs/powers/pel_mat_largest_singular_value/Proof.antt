@@ -5,7 +5,7 @@ use Rattle.capi.proofs.powers.pel_mat_largest_singular_value.Statement.{statemen
 use Rattle.capi.proofs.powers.pel_mat_largest_singular_value.Tie as tie
 
 returns : tie.Need-returns
-returns c = gives_tells _ _ _ _ _ c.enter.ensures c.before.before.mat-largest-singular-value.ensures
+returns c = gives_tells _ _ _ _ _ c.enter.ensures c.mat_largest_singular_value.ensures
 
-pub pel-mat-largest-singular-value-spec : {M : Type 1} → statement M
-pel-mat-largest-singular-value-spec = tie.close (tie.spec (λ c κs. search rules) (λ c κs. search rules) returns)
+pub pel_mat_largest_singular_value_spec : {M : Type 1} → statement M
+pel_mat_largest_singular_value_spec = tie.close (tie.spec (λ c κs. search rules) (λ c κs. search rules) returns)

@@ -10,12 +10,12 @@ use Rattle.capi.proofs.powers.pel_tikhonov_with_report.Tie as tie
 
 returns : tie.Need-returns
 returns c =
-    let call = c.before.before.before.before.before in
-    let x = call.before.before.before.before.args in
-    let e = call.tikhonov-with-report.ensures in (
-      c.enter-damping.ensures ∙ ap (λ (p : Damped × List Float). told_damping p.0 x.before.now x.after.now) e,
+    let call = c in
+    let x = call.args in
+    let e = call.tikhonov_with_report.ensures in (
+      c.enter_damping.ensures ∙ ap (λ (p : Damped × List Float). told_damping p.0 x.before.now x.after.now) e,
       ap (λ (p : Damped × List Float). p.1) e,
     )
 
-pub pel-tikhonov-with-report-spec : {M : Type 1} → statement M
-pel-tikhonov-with-report-spec = tie.close (tie.spec (λ c κs. search rules) (λ c κs. search rules) (λ c. search rules) returns)
+pub pel_tikhonov_with_report_spec : {M : Type 1} → statement M
+pel_tikhonov_with_report_spec = tie.close (tie.spec (λ c κs. search rules) (λ c κs. search rules) (λ c. search rules) returns)

@@ -10,17 +10,17 @@ use Rattle.capi.proofs.repairs.enter_report.Tie as tie
 
 -- what the places hold for an answer
 abbrev entered : tie.Start → Written → ℕ × (ℕ × (Float × ℕ))
-entered c a = let x = c.args in told_as a x.repaired.report x.n-clipped.now x.max-clip-magnitude.now x.clipped-indices.now
+entered c a = let x = c.args in told_as a x.repaired.report x.n_clipped.now x.max_clip_magnitude.now x.clipped_indices.now
 
-returns : tie.Need-returns
-returns c =
-    let start = c.before.before.before.before.before in
+returns-in-Done : tie.Need-returns-in-Done
+returns-in-Done c =
+    let start = c in
     let report = start.args.repaired.report in
-    ap (λ (bits : ℕ). (0, (report.n_clipped, (report.max_clip_magnitude, bits)))) c.mask-bits.ensures
-    ∙ ap (entered start) (sym c.before.before.before.enum_told.given.1)
+    ap (λ (bits : ℕ). (0, (report.n_clipped, (report.max_clip_magnitude, bits)))) c.mask_bits.ensures
+    ∙ ap (entered c.before.before.before.before) (sym c.in-Done.is)
 
-returns-2 : tie.Need-returns-2
-returns-2 c = ap (entered c.before.before.before) (sym c.before.answer.given.1)
+returns-in-Refused : tie.Need-returns-in-Refused
+returns-in-Refused c = ap (entered c.before) (sym c.in-Refused.is)
 
-pub enter-report-spec : {M : Type 1} → statement M
-enter-report-spec = tie.close (tie.spec (λ c. search rules) (λ c κs. search rules) (λ c. search rules) (λ c. search rules) returns returns-2)
+pub enter_report_spec : {M : Type 1} → statement M
+enter_report_spec = tie.close (tie.spec (λ c. search rules) (λ c κs. search rules) (λ c. search rules) (λ c. search rules) returns-in-Done returns-in-Refused)

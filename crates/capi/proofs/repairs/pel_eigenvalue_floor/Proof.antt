@@ -4,19 +4,19 @@ use Rattle.capi.proofs.Laws.{repair_tells}
 use Rattle.capi.proofs.repairs.pel_eigenvalue_floor.Statement.{statement}
 use Rattle.capi.proofs.repairs.pel_eigenvalue_floor.Tie as tie
 
+returns-then-n-eq1 : tie.Need-returns-then-n-eq1
+returns-then-n-eq1 c =
+    let call = c in
+    let x = call.args in
+    repair_tells x.n_clipped.now x.max_clip_magnitude.now x.clipped_indices.now _ c.enter_report.ensures call.eigenvalue_floor-single.ensures
+
 returns : tie.Need-returns
 returns c =
-    let call = c.before.before.before.before.before.before in
-    let x = call.before.before.before.before.before.args in
-    repair_tells x.n-clipped.now x.max-clip-magnitude.now x.clipped-indices.now _ c.enter-report.ensures call.eigenvalue-floor.ensures
+    let call = c in
+    let x = call.args in
+    repair_tells x.n_clipped.now x.max_clip_magnitude.now x.clipped_indices.now _ c.enter_report-2.ensures call.eigenvalue_floor-repaired.ensures
 
-returns-2 : tie.Need-returns-2
-returns-2 c =
-    let call = c.before.before.before.before.before.before in
-    let x = call.before.before.before.before.before.args in
-    repair_tells x.n-clipped.now x.max-clip-magnitude.now x.clipped-indices.now _ c.enter-report2.ensures call.eigenvalue-floor2.ensures
-
-pub pel-eigenvalue-floor-spec : {M : Type 1} → statement M
-pel-eigenvalue-floor-spec =
+pub pel_eigenvalue_floor_spec : {M : Type 1} → statement M
+pel_eigenvalue_floor_spec =
     tie.close
-    (tie.spec (λ c κs. search rules) (λ c κs. search rules) (λ c. search rules) returns (λ c κs. search rules) (λ c κs. search rules) (λ c. search rules) returns-2)
+    (tie.spec (λ c κs. search rules) (λ c κs. search rules) (λ c. search rules) returns-then-n-eq1 (λ c κs. search rules) (λ c κs. search rules) (λ c. search rules) returns)

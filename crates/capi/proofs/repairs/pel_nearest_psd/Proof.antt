@@ -4,19 +4,19 @@ use Rattle.capi.proofs.Laws.{repair_tells}
 use Rattle.capi.proofs.repairs.pel_nearest_psd.Statement.{statement}
 use Rattle.capi.proofs.repairs.pel_nearest_psd.Tie as tie
 
+returns-then-n-eq1 : tie.Need-returns-then-n-eq1
+returns-then-n-eq1 c =
+    let call = c in
+    let x = call.args in
+    repair_tells x.n_clipped.now x.max_clip_magnitude.now x.clipped_indices.now _ c.enter_report.ensures call.nearest_psd-single.ensures
+
 returns : tie.Need-returns
 returns c =
-    let call = c.before.before.before.before.before.before in
-    let x = call.before.before.before.before.before.args in
-    repair_tells x.n-clipped.now x.max-clip-magnitude.now x.clipped-indices.now _ c.enter-report.ensures call.nearest-psd.ensures
+    let call = c in
+    let x = call.args in
+    repair_tells x.n_clipped.now x.max_clip_magnitude.now x.clipped_indices.now _ c.enter_report-2.ensures call.nearest_psd-repaired.ensures
 
-returns-2 : tie.Need-returns-2
-returns-2 c =
-    let call = c.before.before.before.before.before.before in
-    let x = call.before.before.before.before.before.args in
-    repair_tells x.n-clipped.now x.max-clip-magnitude.now x.clipped-indices.now _ c.enter-report2.ensures call.nearest-psd2.ensures
-
-pub pel-nearest-psd-spec : {M : Type 1} → statement M
-pel-nearest-psd-spec =
+pub pel_nearest_psd_spec : {M : Type 1} → statement M
+pel_nearest_psd_spec =
     tie.close
-    (tie.spec (λ c κs. search rules) (λ c κs. search rules) (λ c. search rules) returns (λ c κs. search rules) (λ c κs. search rules) (λ c. search rules) returns-2)
+    (tie.spec (λ c κs. search rules) (λ c κs. search rules) (λ c. search rules) returns-then-n-eq1 (λ c κs. search rules) (λ c κs. search rules) (λ c. search rules) returns)

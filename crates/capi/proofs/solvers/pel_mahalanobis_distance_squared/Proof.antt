@@ -5,7 +5,7 @@ use Rattle.capi.proofs.solvers.pel_mahalanobis_distance_squared.Statement.{state
 use Rattle.capi.proofs.solvers.pel_mahalanobis_distance_squared.Tie as tie
 
 returns : tie.Need-returns
-returns c = gives_tells _ _ _ _ _ c.enter.ensures c.before.before.mahalanobis-distance-squared.ensures
+returns c = gives_tells _ _ _ _ _ c.enter.ensures c.mahalanobis_distance_squared.ensures
 
-pub pel-mahalanobis-distance-squared-spec : {M : Type 1} → statement M
-pel-mahalanobis-distance-squared-spec = tie.close (tie.spec (λ c κs. search rules) (λ c κs. search rules) returns)
+pub pel_mahalanobis_distance_squared_spec : {M : Type 1} → statement M
+pel_mahalanobis_distance_squared_spec = tie.close (tie.spec (λ c κs. search rules) (λ c κs. search rules) returns)

@@ -5,7 +5,7 @@ use Rattle.capi.proofs.solvers.pel_mat_inv.Statement.{statement}
 use Rattle.capi.proofs.solvers.pel_mat_inv.Tie as tie
 
 returns : tie.Need-returns
-returns c = leaves_tells _ _ _ _ _ c.code.ensures c.before.before.before.mat-inv.ensures
+returns c = leaves_tells _ _ _ _ _ c.code.ensures c.mat_inv.ensures
 
-pub pel-mat-inv-spec : {M : Type 1} → statement M
-pel-mat-inv-spec = tie.close (tie.spec (λ c κs. search rules) (λ c κs. search rules) (λ c. search rules) returns)
+pub pel_mat_inv_spec : {M : Type 1} → statement M
+pel_mat_inv_spec = tie.close (tie.spec (λ c κs. search rules) (λ c κs. search rules) (λ c. search rules) returns)

@@ -5,7 +5,7 @@ use Rattle.capi.proofs.solvers.pel_mat_solve.Statement.{statement}
 use Rattle.capi.proofs.solvers.pel_mat_solve.Tie as tie
 
 returns : tie.Need-returns
-returns c = leaves_tells _ _ _ _ _ c.code.ensures c.before.before.before.mat-solve.ensures
+returns c = leaves_tells _ _ _ _ _ c.code.ensures c.mat_solve.ensures
 
-pub pel-mat-solve-spec : {M : Type 1} → statement M
-pel-mat-solve-spec = tie.close (tie.spec (λ c κs. search rules) (λ c κs. search rules) (λ c. search rules) returns)
+pub pel_mat_solve_spec : {M : Type 1} → statement M
+pel_mat_solve_spec = tie.close (tie.spec (λ c κs. search rules) (λ c κs. search rules) (λ c. search rules) returns)

@@ -5,7 +5,7 @@ use Rattle.capi.proofs.solvers.pel_row_inf_norms.Statement.{statement}
 use Rattle.capi.proofs.solvers.pel_row_inf_norms.Tie as tie
 
 returns : tie.Need-returns
-returns c = leaves_tells _ _ _ _ _ c.code.ensures c.before.before.before.row-inf-norms.ensures
+returns c = leaves_tells _ _ _ _ _ c.code.ensures c.row_inf_norms.ensures
 
-pub pel-row-inf-norms-spec : {M : Type 1} → statement M
-pel-row-inf-norms-spec = tie.close (tie.spec (λ c κs. search rules) (λ c κs. search rules) (λ c. search rules) returns)
+pub pel_row_inf_norms_spec : {M : Type 1} → statement M
+pel_row_inf_norms_spec = tie.close (tie.spec (λ c κs. search rules) (λ c κs. search rules) (λ c. search rules) returns)

@@ -6,8 +6,8 @@ use Rattle.capi.specs.Told.{told_written}
 use Rattle.capi.proofs.told.enter_length.Statement.{statement}
 use Rattle.capi.proofs.told.enter_length.Tie as tie
 
-returns-2 : tie.Need-returns-2
-returns-2 c = ap (λ (a : WrittenList). told_written a c.before.before.before.args.length.now) (sym c.before.answer2.given.1)
+returns-in-Refused : tie.Need-returns-in-Refused
+returns-in-Refused c = ap (λ (a : WrittenList). told_written a c.args.length.now) (sym c.in-Refused.is)
 
-pub enter-length-spec : {M : Type 1} → statement M
-enter-length-spec = tie.close (tie.spec (λ c. search rules) (λ c. search rules) (λ c. search rules) (λ c. search rules) returns-2)
+pub enter_length_spec : {M : Type 1} → statement M
+enter_length_spec = tie.close (tie.spec (λ c. search rules) (λ c. search rules) (λ c. search rules) (λ c. search rules) returns-in-Refused)

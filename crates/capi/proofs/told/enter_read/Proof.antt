@@ -6,10 +6,10 @@ use Rattle.capi.specs.Told.{told_read}
 use Rattle.capi.proofs.told.enter_read.Statement.{statement}
 use Rattle.capi.proofs.told.enter_read.Tie as tie
 
-returns-2 : tie.Need-returns-2
-returns-2 c =
-    let start = c.before.before.before in
-    ap (λ (a : ReadList). told_read a start.args.count.now start.args.dimension.now) (sym c.before.answer2.given.1)
+returns-in-Refused : tie.Need-returns-in-Refused
+returns-in-Refused c =
+    let start = c in
+    ap (λ (a : ReadList). told_read a start.args.count.now start.args.dimension.now) (sym c.in-Refused.is)
 
-pub enter-read-spec : {M : Type 1} → statement M
-enter-read-spec = tie.close (tie.spec (λ c. search rules) (λ c. search rules) (λ c. search rules) (λ c. search rules) returns-2)
+pub enter_read_spec : {M : Type 1} → statement M
+enter_read_spec = tie.close (tie.spec (λ c. search rules) (λ c. search rules) (λ c. search rules) (λ c. search rules) returns-in-Refused)
