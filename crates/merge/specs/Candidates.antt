@@ -1,6 +1,6 @@
 -- The candidates of a pairing: which pairs of tracks may be paired, and which of two such pairs comes earlier. Both follow from what two tracks are to each other, which
 -- stands in this file only (`candidacy`), and so from the two lists, the floor and the gate alone.
-use Rattle.std.specs.Prelude.{ℕ, ◌<◌, ◌≡◌, ◌⊎◌, Bool, true, false, ◌&&◌, ◌||◌, List, T, ltb, Float}
+use Rattle.std.specs.Prelude.{ℕ, ◌<◌, ◌≡◌, ◌⊎◌, Bool, true, false, ◌&&◌, ◌||◌, T, ltb, Float}
 use Rattle.std.specs.Float.{nan}
 use Rattle.std.specs.Float.Ieee.{lt, eq}
 use Rattle.tracks.specs.Read.{TrackList}

@@ -16,7 +16,7 @@ use Rattle.pairing.specs.Pairing.{by_index}
 use Rattle.pairing.specs.Keys.{first_partners, second_partners}
 use Rattle.merge.specs.Tracks.{equal_tracks}
 use Rattle.merge.specs.Candidates.{comparison, candidacy, by_rank}
-use Rattle.merge.specs.Rows.{Row, rows_with, verdict, verdict_on, tracks_among, selected, rows_of}
+use Rattle.merge.specs.Rows.{rows_with, verdict, verdict_on, tracks_among, selected, rows_of}
 use Rattle.merge.specs.Fused.{merged_verdict}
 use Rattle.merge.specs.Merge.{partners_in, pairings_of, merged_rows, accepted_lists, merged_lists, MergedLists, merging, after_merge}
 use Rattle.merge.specs.Winner.{place_in, winning, winner_bytes}

@@ -9,14 +9,13 @@ use Rattle.fusion.specs.Fusion.{Fusing, none, track, fused}
 use Rattle.tracks.specs.Layout.{fields}
 use Rattle.tracks.specs.Read.{TrackList, contents}
 use Rattle.tracks.specs.Record.{offset}
-use Rattle.tracks.specs.Calls.{doubles}
 use Rattle.tracks.specs.declared.read.ReadList.{ReadList}
 use Rattle.tracks.specs.declared.read.ReadList.TheVariants as reading
 use Rattle.compare.specs.Distance.{compared}
 use Rattle.compare.specs.Fields.{track_state, track_covariance}
 use Rattle.pairing.specs.Keys.{nobody, from_keys, is_free}
 use Rattle.pairing.specs.Private.{nobodies}
-use Rattle.merge.specs.Tracks.{ThreeLists, track_count, track_at}
+use Rattle.merge.specs.Tracks.{ThreeLists, track_count}
 use Rattle.merge.specs.Candidates.{candidacy_of, rank}
 use Rattle.merge.specs.Rows.{Row, row_bytes, row_at, is_track, keep, conflict, verdict_on, rows_of, selected, Partners, Pairings}
 use Rattle.merge.specs.Fused.{fuse, fusion}

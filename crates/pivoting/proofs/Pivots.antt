@@ -6,7 +6,6 @@ use native.Mathlib.Nat.{sub_self}
 use mathlib.Core.Bool.{Bool, true, false, cond}
 use mathlib.Core.List.{List}
 use mathlib.Core.Path.{◌≡◌, refl, sym, ap, ◌∙◌, subst}
-use lib.Ieee as Ieee
 use lib.Ieee.{Float, lt, of_bits}
 use Rattle.kernel.specs.Number.{abs, div}
 use Rattle.kernel.specs.Constants.{nought, min_scale}

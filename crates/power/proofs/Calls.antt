@@ -6,7 +6,6 @@ use mathlib.Core.Bool.{Bool, true, false, not}
 use mathlib.Core.List.{List}
 use mathlib.Core.Path.{◌≡◌, refl, sym, ap, ◌∙◌}
 use lib.Ieee.{Float}
-use lib.ListN.{length}
 use Rattle.kernel.specs.Answer.{Outcome, refused, answered, ask}
 use Rattle.kernel.proofs.Answers.{answered_inj, ask_met, never}
 use Rattle.dense.specs.declared.Written.{Written}

@@ -4,183 +4,222 @@
 #![tactic(auto)]
 
 ghost use Rattle.std.specs.Prelude.{◌≤◌};
+ghost use Rattle.std.specs.Io.{ReadsAtMost};
 
 mod number;
 mod shortest;
 mod whole;
 
 use kernel::question;
+use std::fs::File;
+use std::io::Read;
+use std::rt::Files;
+use std::{env, io};
 use tracks::read::ReadList;
 use tracks::{inside, read};
 
 // The values of the largest list: 32 tracks of 54 fields.
 const VALUES: usize = 1728;
 
-fn print_value(values: &[f64], i: usize) {
+fn print_value(rt: &impl Print, values: &[f64], i: usize) -> io::Result<()> {
     if i < values.len() {
-        io::write_all(1, b" ");
-        number::print_number(values[i]);
+        print!(rt; " ")?;
+        number::print_number(rt, values[i])?;
     }
+    Ok(())
 }
 
-fn print_values(values: &[f64]) {
+fn print_values(rt: &impl Print, values: &[f64]) -> io::Result<()> {
     for i in 0..values.len() {
-        print_value(values, i);
+        print_value(rt, values, i)?;
     }
+    Ok(())
 }
 
 // The last value of each row of a triangle, which has at most nine.
-fn print_variances(triangle: &[f64]) {
+fn print_variances(rt: &impl Print, triangle: &[f64]) -> io::Result<()> {
     let mut at = 0;
     for i in 0..9 {
         at += i;
-        print_value(triangle, at);
+        print_value(rt, triangle, at)?;
         at += 1;
     }
+    Ok(())
 }
 
 // A track's fields: d values of the state, then the triangle.
-fn print_track(fields: &[f64], d: usize, whole: bool) {
+fn print_track(rt: &impl Print, fields: &[f64], d: usize, whole: bool) -> io::Result<()> {
     if fields.len() < d {
-        return;
+        return Ok(());
     }
-    io::write_all(1, b" state");
-    print_values(&fields[..d]);
+    print!(rt; " state")?;
+    print_values(rt, &fields[..d])?;
     if whole {
-        io::write_all(1, b" triangle");
-        print_values(&fields[d..]);
+        print!(rt; " triangle")?;
+        print_values(rt, &fields[d..])?;
     } else {
-        io::write_all(1, b" variances");
-        print_variances(&fields[d..]);
+        print!(rt; " variances")?;
+        print_variances(rt, &fields[d..])?;
     }
-    io::write_all(1, b"\n");
+    println!(rt)
 }
 
 // The tracks of dimension d and f fields.
-fn print_tracks(values: &[f64], count: usize, d: usize, f: usize, whole: bool) {
+fn print_tracks(
+    rt: &impl Print,
+    values: &[f64],
+    count: usize,
+    d: usize,
+    f: usize,
+    whole: bool,
+) -> io::Result<()> {
     let mut from = 0;
     for j in 0..count {
         if values.len() - from < f {
-            return;
+            return Ok(());
         }
         let to = from + f;
-        io::print_decimal(1, j as u64);
-        print_track(&values[from..to], d, whole);
+        print!(rt; "{j}")?;
+        print_track(rt, &values[from..to], d, whole)?;
         from = to;
     }
+    Ok(())
 }
 
-fn print_list(values: &[f64], count: usize, d: usize, whole: bool)
+fn print_list(
+    rt: &impl Print,
+    values: &[f64],
+    count: usize,
+    d: usize,
+    whole: bool,
+) -> io::Result<()>
     requires { d ≤ 9 }
 {
-    io::write_all(1, b"count ");
-    io::print_decimal(1, count as u64);
-    io::write_all(1, b" dimension ");
-    io::print_decimal(1, d as u64);
-    io::write_all(1, b"\n");
-    print_tracks(values, count, d, inside::fields(d), whole);
+    println!(rt; "count {count} dimension {d}")?;
+    print_tracks(rt, values, count, d, inside::fields(d), whole)
 }
 
 // A question that a reader puts, in words.
-fn print_question(q: u8) {
+fn print_question(rt: &impl Print, q: u8) -> io::Result<()> {
     match q {
-        question::HEADER => io::write_all(1, b"are there two bytes?"),
-        question::COUNT => io::write_all(1, b"is the count at most 32?"),
-        question::DIMENSION => io::write_all(1, b"is the dimension 1 to 9?"),
-        question::PRESENT => io::write_all(1, b"is the map, or the next stored field, all there?"),
-        question::SPARE_BITS => io::write_all(1, b"are the map's spare bits 0?"),
-        question::FINITE_FIELD => io::write_all(1, b"is the field finite?"),
-        question::NONZERO_FIELD => io::write_all(1, b"is a stored field not all zero bits?"),
-        question::NOTHING_AFTER => io::write_all(1, b"does nothing follow the last track?"),
-        _ => io::write_all(1, b"has each slice its length?"),
-    };
+        question::HEADER => print!(rt; "are there two bytes?"),
+        question::COUNT => print!(rt; "is the count at most 32?"),
+        question::DIMENSION => print!(rt; "is the dimension 1 to 9?"),
+        question::PRESENT => print!(rt; "is the map, or the next stored field, all there?"),
+        question::SPARE_BITS => print!(rt; "are the map's spare bits 0?"),
+        question::FINITE_FIELD => print!(rt; "is the field finite?"),
+        question::NONZERO_FIELD => print!(rt; "is a stored field not all zero bits?"),
+        question::NOTHING_AFTER => print!(rt; "does nothing follow the last track?"),
+        _ => print!(rt; "has each slice its length?"),
+    }
 }
 
-fn print_refusal(q: u8) {
-    io::write_all(1, b"no ");
-    io::print_decimal(1, q as u64);
-    io::write_all(1, b": ");
-    print_question(q);
-    io::write_all(1, b"\n");
+fn print_refusal(rt: &impl Print, q: u8) -> io::Result<()> {
+    print!(rt; "no {q}: ")?;
+    print_question(rt, q)?;
+    println!(rt)
 }
 
-fn show(list: &[u8], whole: bool) {
+fn show(rt: &impl Print, list: &[u8], whole: bool) -> io::Result<()> {
     let mut values = [0.0; VALUES];
     let answer = read::read_list(list, &mut values);
     match answer {
-        ReadList::Read { count, dimension } => print_list(&values, count, dimension, whole),
-        ReadList::Refused(q) => print_refusal(q),
+        ReadList::Read { count, dimension } => print_list(rt, &values, count, dimension, whole),
+        ReadList::Refused(q) => print_refusal(rt, q),
     }
+}
+
+// Reads until the buffer is full or the reader ends, and gives how many bytes were read.
+fn read_full<R: Read>(reader: &mut R, buffer: &mut [u8]) -> io::Result<usize>
+    ensures { ReadsAtMost result buffer.new }
+{
+    let mut done = 0;
+    for _ in 0..buffer.len() {
+        let n = reader.read(&mut buffer[done..])?;
+        if n == 0 {
+            break;
+        }
+        done += n;
+    }
+    Ok(done)
 }
 
 // The list that begins with n bytes, once the rest is read after them. A list has at most 14,050 bytes, so what the buffer
 // does not hold of a longer file changes no answer.
-fn show_rest(fd: i32, list: &mut [u8], n: usize, whole: bool) {
+fn show_rest<F: Read>(
+    rt: &impl Print,
+    file: &mut F,
+    list: &mut [u8],
+    n: usize,
+    whole: bool,
+) -> io::Result<()> {
     if list.len() < n {
-        return;
+        return Ok(());
     }
-    let more = io::read_full(fd, &mut list[n..]);
-    show(&list[..n + more], whole);
+    let more = read_full(file, &mut list[n..])?;
+    show(rt, &list[..n + more], whole)
 }
 
-fn show_open(fd: i32, path: &[u8], whole: bool) {
-    let mut list = io::large_buffer();
-    let got = libc::read(fd, &mut list);
-    if got < 0 {
-        os::fail(path);
-        return;
+// The system's text of an error, without the number that std puts after it.
+fn words_of(text: &str) -> &str {
+    match text.split_once(" (os error ") {
+        Some((words, _)) => words,
+        None => text,
     }
-    let n = io::count(got, &list);
-    show_rest(fd, &mut list, n, whole);
 }
 
-fn show_file(path: &[u8], whole: bool) {
-    let fd = os::open_read(path);
-    if fd < 0 {
-        os::fail(path);
-        return;
-    }
-    show_open(fd, path, whole);
-    libc::close(fd);
+// Writes a line to standard error: what failed, a colon and the system's text.
+fn fail(rt: &(impl Eprint + AllocGlobal), path: &str, error: io::Error) -> io::Result<()> {
+    let text = format!(in rt.alloc(); "{error}")?;
+    let words = words_of(text.as_str());
+    eprintln!(rt; "{path}: {words}")
 }
 
-fn is_triangle(word: &[u8]) -> bool {
-    let wanted = b"triangle";
-    if word.len() != wanted.len() {
-        return false;
+fn show_open<F: Read>(
+    rt: &(impl Print + Eprint + AllocGlobal),
+    file: &mut F,
+    path: &str,
+    whole: bool,
+) -> io::Result<()> {
+    let mut list = [0u8; 65536];
+    match file.read(&mut list) {
+        Ok(n) => show_rest(rt, file, &mut list, n, whole),
+        Err(error) => fail(rt, path, error),
     }
-    for i in 0..word.len() {
-        if word[i] != wanted[i] {
-            return false;
-        }
-    }
-    true
 }
 
-fn fail_usage() {
-    io::write_all(libc::STDERR_FILENO, b"usage: trackdump FILE [triangle]\n");
+fn show_file(
+    rt: &(impl Files + Print + Eprint + AllocGlobal),
+    path: &str,
+    whole: bool,
+) -> io::Result<()> {
+    match File::open(rt, path) {
+        Ok(mut file) => show_open(rt, &mut file, path, whole),
+        Err(error) => fail(rt, path, error),
+    }
 }
 
-fn main() {
-    let mut path = io::buffer();
-    let n = os::arg(1, &mut path);
-    if os::errno() != 0 {
-        fail_usage();
-        return;
+fn is_triangle(word: &str) -> bool {
+    word == "triangle"
+}
+
+fn fail_usage(rt: &impl Eprint) -> io::Result<()> {
+    eprintln!(rt; "usage: trackdump FILE [triangle]")
+}
+
+fn main(rt: HostRuntime) -> io::Result<()> {
+    let mut args = env::args(&rt)?.skip(1);
+    let Some(path) = args.next() else {
+        return fail_usage(&rt);
+    };
+    let Some(word) = args.next() else {
+        return show_file(&rt, &path, false);
+    };
+    if args.next().is_some() {
+        return fail_usage(&rt);
     }
-    if os::arg_count() == 2 {
-        show_file(&path[..n], false);
-        return;
+    if !is_triangle(&word) {
+        return fail_usage(&rt);
     }
-    let mut word = [0u8; 16];
-    let w = os::arg(2, &mut word);
-    if os::arg_count() != 3 {
-        fail_usage();
-        return;
-    }
-    if !is_triangle(&word[..w]) {
-        fail_usage();
-        return;
-    }
-    show_file(&path[..n], true);
+    show_file(&rt, &path, true)
 }

@@ -3,85 +3,92 @@
 // refused, it prints `no` and the question's number.
 #![tactic(auto)]
 
-ghost use Rattle.io.specs.Counts.{IsPrefixLen};
+ghost use Rattle.std.specs.Io.{ReadsAtMost};
 
 use merge::{Merged, NO_TRACK};
+use std::fs::File;
+use std::io;
+use std::io::Read;
+use std::rt::Files;
+
+// Reads until the buffer is full or the reader ends, and gives how many bytes were read.
+fn read_full<R: Read>(reader: &mut R, buffer: &mut [u8]) -> io::Result<usize>
+    ensures { ReadsAtMost result buffer.new }
+{
+    let mut done = 0;
+    for _ in 0..buffer.len() {
+        let n = reader.read(&mut buffer[done..])?;
+        if n == 0 {
+            break;
+        }
+        done += n;
+    }
+    Ok(done)
+}
 
 // Reads a file from its start into the buffer, and gives how many bytes there are. A file that can't be opened counts as
 // empty. A list has at most 14,050 bytes, so what a buffer of 65,536 does not hold of a longer file changes no answer.
-fn read_file(path: &[u8], buffer: &mut [u8]) -> usize
-    ensures { IsPrefixLen result buffer.new }
+fn read_file(rt: &impl Files, path: &str, buffer: &mut [u8]) -> io::Result<usize>
+    ensures { ReadsAtMost result buffer.new }
 {
-    let fd = os::open_read(path);
-    if fd < 0 {
-        return 0;
+    match File::open(rt, path) {
+        Ok(mut file) => read_full(&mut file, buffer),
+        Err(_) => Ok(0),
     }
-    let n = io::read_full(fd, buffer);
-    libc::close(fd);
-    n
 }
 
-fn print_number(n: u8) {
-    io::print_decimal(1, n as u64);
+fn print_number(rt: &impl Print, n: u8) -> io::Result<()> {
+    print!(rt; "{n}")
 }
 
 // An index, or `-` for no track.
-fn print_index(i: u8) {
+fn print_index(rt: &impl Print, i: u8) -> io::Result<()> {
     if i == NO_TRACK {
-        io::write_all(1, b"-");
-        return;
+        return print!(rt; "-");
     }
-    print_number(i);
+    print_number(rt, i)
 }
 
 // The row at the start of the slice.
-fn print_row(row: &[u8]) {
+fn print_row(rt: &impl Print, row: &[u8]) -> io::Result<()> {
     if row.len() < 4 {
-        return;
+        return Ok(());
     }
-    print_index(row[0]);
-    io::write_all(1, b" ");
-    print_index(row[1]);
-    io::write_all(1, b" ");
-    print_index(row[2]);
-    io::write_all(1, b" ");
-    print_number(row[3]);
-    io::write_all(1, b"\n");
+    print_index(rt, row[0])?;
+    print!(rt; " ")?;
+    print_index(rt, row[1])?;
+    print!(rt; " ")?;
+    print_index(rt, row[2])?;
+    print!(rt; " ")?;
+    print_number(rt, row[3])?;
+    println!(rt)
 }
 
 // Prints the first n rows.
-fn print_rows(rows: &[u8], n: usize) {
+fn print_rows(rt: &impl Print, rows: &[u8], n: usize) -> io::Result<()> {
     for r in 0..n {
         if rows.len() / 4 <= r {
-            return;
+            return Ok(());
         }
-        print_row(&rows[4 * r..]);
+        print_row(rt, &rows[4 * r..])?;
     }
+    Ok(())
 }
 
-fn main() {
-    let mut base = io::large_buffer();
-    let mut ours = io::large_buffer();
-    let mut theirs = io::large_buffer();
-    let b = read_file(b"base.trk", &mut base);
-    let o = read_file(b"ours.trk", &mut ours);
-    let t = read_file(b"theirs.trk", &mut theirs);
+fn main(rt: HostRuntime) -> io::Result<()> {
+    let mut base = [0u8; 65536];
+    let mut ours = [0u8; 65536];
+    let mut theirs = [0u8; 65536];
+    let b = read_file(&rt, "base.trk", &mut base)?;
+    let o = read_file(&rt, "ours.trk", &mut ours)?;
+    let t = read_file(&rt, "theirs.trk", &mut theirs)?;
     let mut rows = [0u8; 384];
     let m = merge::merge(&base[..b], &ours[..o], &theirs[..t], 1.0, 16.0, &mut rows);
     match m {
         Merged::Counts(counts) => {
-            print_rows(&rows, counts.full + counts.half + counts.single);
-            io::print_decimal(1, counts.full as u64);
-            io::write_all(1, b" ");
-            io::print_decimal(1, counts.half as u64);
-            io::write_all(1, b" ");
-            io::print_decimal(1, counts.single as u64);
-            io::write_all(1, b"\n");
+            print_rows(&rt, &rows, counts.full + counts.half + counts.single)?;
+            println!(rt; "{} {} {}", counts.full, counts.half, counts.single)
         }
-        Merged::Refused(q) => {
-            io::write_all(1, b"no ");
-            io::print_decimal(1, q as u64);
-            io::write_all(1, b"\n");
-        }
+        Merged::Refused(q) => println!(rt; "no {q}"),
     }
 }

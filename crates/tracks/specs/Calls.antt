@@ -9,9 +9,7 @@ use Rattle.tracks.specs.Layout.{fields}
 use Rattle.tracks.specs.Read.{Track, TrackList, contents}
 use Rattle.tracks.specs.Record.{offset, placing}
 use Rattle.tracks.specs.declared.read.ReadList.{ReadList}
-use Rattle.tracks.specs.declared.read.ReadList.TheVariants as ReadList
 use Rattle.tracks.specs.declared.write.WrittenList.{WrittenList}
-use Rattle.tracks.specs.declared.write.WrittenList.TheVariants as WrittenList
 
 -- The doubles that 64 bits stand for, and their bits.
 abbrev pub doubles : List ℕ → List Float

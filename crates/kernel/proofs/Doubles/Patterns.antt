@@ -8,7 +8,7 @@ use native.Mathlib.Decide.{dec_lt}
 use mathlib.Core.Path.{◌≡◌, refl, sym, ap, ◌∙◌, subst, subst⁻¹}
 use mathlib.Core.Logic.{⊎_elim}
 use mathlib.Core.Bool.{Bool, true, false, not, cond}
-use lib.Dec.{T, ltb, leb, eqb}
+use lib.Dec.{T, leb, eqb}
 use borrow.Author.Tests.{le-ltb, lt-leb, leb-false, ne_eqb}
 use lib.Ieee.{Float, nan, inf, fin, binary64, is_nan, nan_bits, ne, fits, of_bits, to_bits, of_fields, odd, down}
 use lib.Ieee.Bits.{nan_bits_above, of_bits-to_bits}

@@ -1,5 +1,5 @@
 -- The search pair by pair: one more pair (`row-taken`, `row_passed`), one more row (`rows_taken`, `rows_passed`).
-use Prim.Native.Nat.{ℕ, suc, ◌+◌, ◌*◌, ◌<◌, ◌≤◌}
+use Prim.Native.Nat.{ℕ, suc, ◌+◌, ◌*◌}
 use mathlib.Core.Path.{◌≡◌}
 use mathlib.Core.List.{List}
 use lib.ListN.{get_or}

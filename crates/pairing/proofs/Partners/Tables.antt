@@ -8,9 +8,9 @@ use mathlib.Core.List.{List}
 use lib.Dec.{T}
 use lib.ListN.{length, get_or, set, length-set}
 use lib.Ieee.{Float}
-use Rattle.kernel.proofs.Lists.{length-tabulate, get_d_tabulate, by_elements}
+use Rattle.kernel.proofs.Lists.{length-tabulate}
 use Rattle.pairing.specs.Pairing.{Pair, pair, has, In, Candidates, ShareTrack, paired}
-use Rattle.pairing.specs.Keys.{from_keys, nobody, partner, first_partners, second_partners}
+use Rattle.pairing.specs.Keys.{from_keys, nobody, first_partners, second_partners}
 use Rattle.pairing.specs.Private.{nobodies}
 use Rattle.pairing.proofs.Tests.{either}
 use Rattle.pairing.proofs.Stability.Settled.{Preceded, Settled, settled}

@@ -14,7 +14,7 @@ use lib.Ieee.Fits.{round_is, mul-fits}
 use lib.Ieee.Positive.{num, den, den_pos, positive, own_value, mul_at}
 use lib.Ieee.Scale.{finite}
 use Rattle.kernel.specs.Constants.{nought, one, rel_tol, vanishing, infinity}
-use Rattle.kernel.specs.Number.{add, sub, mul, div}
+use Rattle.kernel.specs.Number.{add, mul, div}
 use Rattle.kernel.specs.Lists.{tabulate}
 use Rattle.kernel.specs.Sqrt.{scaled, sqrt}
 use Rattle.dense.specs.Matrix.{sum_from, nth, norm}

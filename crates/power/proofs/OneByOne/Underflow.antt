@@ -14,7 +14,6 @@ use lib.Ieee.Exact.{HasValue}
 use lib.Ieee.Fits.{mul-fits}
 use lib.Ieee.Order.{le_of_values}
 use lib.Ieee.Positive.{positive, values_of_le, mul_mono}
-use lib.Ieee.Scale.{finite}
 use Rattle.kernel.specs.Constants.{min_positive, vanishing}
 use Rattle.kernel.specs.Number.{mul}
 use Rattle.kernel.specs.Sqrt.{square, scaled, next_down, sqrt}

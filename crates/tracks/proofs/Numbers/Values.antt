@@ -10,7 +10,7 @@ use lib.Dec.{T, eqb, leb}
 use borrow.Author.Tests.{ltb-false}
 use lib.ListN.{length, get_or, take, drop, length-map, get_or-map}
 use lib.Seq.{take-add, take_all, take_at, drop_at, drop-drop, ext_get_or, get_or-drop}
-use lib.Ieee.{Float, nan, inf, fin, binary64, fits, ne, is_nan, of_fields, of_bits, to_bits}
+use lib.Ieee.{Float, nan, inf, binary64, fits, ne, is_nan, of_fields, of_bits, to_bits}
 use lib.Ieee.Compare.{differs_from_itself}
 use lib.Ieee.Bits.{of_bits-to_bits, of_bits-fits, to_bits-of_bits, to_bits-lt, nan_bits_is}
 use lib.Ieee.Fits.{nan-fits}

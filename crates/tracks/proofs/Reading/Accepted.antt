@@ -17,7 +17,6 @@ use Rattle.tracks.specs.Read.{Item, Track, TrackList, item_of, track_of, after_m
 use Rattle.tracks.specs.Calls.{read_answer}
 use Rattle.tracks.specs.Private.{ends, Within}
 use Rattle.tracks.specs.declared.read.ReadList.{ReadList}
-use Rattle.tracks.specs.declared.read.ReadList.TheVariants as ReadList
 use Rattle.tracks.specs.declared.read.Checked.TheVariants.{End, Refused}
 use Rattle.tracks.proofs.Reading.Items.{ended, stopped, made_met, items_ind, items-length}
 use Rattle.kernel.proofs.Answers.{answered_inj, ask_met, and_then_met}

@@ -12,7 +12,6 @@ use Rattle.tracks.specs.Layout.{fields}
 use Rattle.tracks.specs.Read.{TrackList, tracks, contents, reading}
 use Rattle.tracks.specs.Calls.{read_answer}
 use Rattle.tracks.specs.declared.read.ReadList.{ReadList}
-use Rattle.tracks.specs.declared.read.ReadList.TheVariants as ReadList
 use Rattle.kernel.proofs.Answers.{ask_met, and_then_met}
 use Rattle.tracks.proofs.Reading.Accepted.{Whole, contents_met, dimension-small}
 

@@ -11,7 +11,7 @@ use lib.Seq.{take-suc, take-length}
 use Rattle.kernel.specs.Answer.{answered}
 use Rattle.tracks.specs.Layout.{part, fields}
 use Rattle.kernel.specs.Bytes.{Bytes, same_bytes}
-use Rattle.tracks.specs.Read.{Item, Track, TrackList, track_of, track, tracks, dimension, contents}
+use Rattle.tracks.specs.Read.{Item, Track, TrackList, track_of, track, tracks, contents}
 use Rattle.tracks.specs.Write.{record_of, records_of}
 use Rattle.kernel.specs.Lists.{tabulate}
 use Rattle.tracks.specs.Record.{offset, record_end, record_in, record_at, at_end}

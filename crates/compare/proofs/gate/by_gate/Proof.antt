@@ -1,10 +1,7 @@
 -- `by_gate` meets its contract: each way out has the tests of `by_gate`.
 use borrow.Author.Rules.{rules}
-use borrow.Author.Tests.{not-true, not-false}
-use mathlib.Core.Bool.{true, false}
+use mathlib.Core.Bool.{true}
 use mathlib.Core.Path.{◌≡◌, sym, ◌∙◌}
-use lib.Ieee.{lt}
-use Rattle.kernel.specs.Constants.{nought}
 use Rattle.kernel.specs.Number.{finite}
 use Rattle.compare.specs.Distance.{by_gate}
 use Rattle.compare.proofs.gate.by_gate.Statement.{statement}

@@ -1,6 +1,5 @@
 -- `compared_after` meets its contract: by the two cases of the answer.
 use borrow.Author.Rules.{rules}
-use mathlib.Core.Path.{◌≡◌, ◌∙◌}
 use Rattle.compare.proofs.gate.compared_after.Statement.{statement}
 use Rattle.compare.proofs.gate.compared_after.Tie as tie
 

@@ -1,6 +1,4 @@
 -- `near_or_far` meets its contract, by its one test.
-use borrow.Author.Tests.{not-true, not-false}
-use lib.Ieee.{le}
 use Rattle.compare.proofs.gate.near_or_far.Statement.{statement}
 use Rattle.compare.proofs.gate.near_or_far.Tie as tie
 

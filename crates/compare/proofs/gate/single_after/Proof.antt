@@ -1,6 +1,5 @@
 -- `single_after` meets its contract: by the two cases of the answer.
 use borrow.Author.Rules.{rules}
-use mathlib.Core.Path.{◌≡◌, ◌∙◌}
 use Rattle.compare.proofs.gate.single_after.Statement.{statement}
 use Rattle.compare.proofs.gate.single_after.Tie as tie
 

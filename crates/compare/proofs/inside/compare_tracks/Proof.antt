@@ -1,8 +1,7 @@
 -- `compare_tracks` meets its contract: four numbers, room for dimensions to 4, or for dimensions to 16.
 use Prim.Native.Nat.{ℕ}
 use native.Mathlib.Omega.{arith}
-use mathlib.Core.List.{List}
-use mathlib.Core.Path.{◌≡◌, subst, ◌∙◌}
+use mathlib.Core.Path.{subst, ◌∙◌}
 use borrow.Author.Rules.{rules}
 use Rattle.compare.specs.Private.{TwoTracks}
 use Rattle.compare.proofs.Comparisons.{single-tracks}

@@ -1,5 +1,4 @@
 -- `compared_in` meets its contract: what is repaired is the joint covariance, and the distance is that under its repair.
-use Prim.Native.Nat.{◌*◌}
 use mathlib.Core.List.{List}
 use mathlib.Core.Path.{◌≡◌, ap, ◌∙◌}
 use borrow.Author.Rules.{rules}

@@ -1,6 +1,6 @@
 -- `single` meets its contract, by `single-joint`.
 use mathlib.Core.List.{[], ◌∷◌}
-use mathlib.Core.Path.{◌≡◌, ap, ◌∙◌}
+use mathlib.Core.Path.{ap, ◌∙◌}
 use borrow.Author.Rules.{rules}
 use lib.Ieee.{Float}
 use Rattle.kernel.specs.Number.{add}

@@ -1,9 +1,8 @@
 -- `is_floor_and_gate` meets its contract: one test after the other, the floor's sign last.
-use borrow.Author.Tests.{not-true, not-false}
 use borrow.Author.Rules.{rules}
 use mathlib.Core.Bool.{true, and-false, and-true}
 use mathlib.Core.Path.{◌≡◌}
-use lib.Ieee.{lt, le}
+use lib.Ieee.{lt}
 use Rattle.kernel.specs.Constants.{nought}
 use Rattle.kernel.specs.Number.{finite}
 use Rattle.dense.proofs.Tests.{met, unmet}

@@ -1,7 +1,6 @@
 -- `is_pivot` meets its contract: a number above 0 and below infinity is finite.
 use mathlib.Core.Bool.{true, false}
 use mathlib.Core.Path.{◌≡◌, refl, sym}
-use borrow.Author.Tests.{not-true, not-false}
 use lib.Ieee as Ieee
 use lib.Ieee.{Float, nan, inf, fin, lt, of_bits}
 use Rattle.kernel.specs.Constants.{nought}

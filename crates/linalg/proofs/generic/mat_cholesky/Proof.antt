@@ -1,7 +1,6 @@
 -- `mat_cholesky` meets its contract: each question is put by its own function, and `cholesky` has the last question and the answer.
 use borrow.Author.Rules.{rules}
 use Prim.Native.Nat.{◌*◌}
-use borrow.Author.Tests.{not-true, not-false}
 use Rattle.linalg.specs.Cholesky.{mat_cholesky}
 use Rattle.dense.proofs.Tests.{met, unmet, area, two-long, two_squares}
 use Rattle.dense.proofs.Answers.{done, kept}

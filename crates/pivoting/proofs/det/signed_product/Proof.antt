@@ -5,7 +5,6 @@ use native.Mathlib.Omega.{arith}
 use mathlib.Core.List.{List}
 use mathlib.Core.Path.{◌≡◌, refl, ap, ◌∙◌}
 use borrow.Author.Rules.{rules}
-use borrow.Author.Tests.{not-true, not-false}
 use lib.Ieee.{Float}
 use Rattle.dense.proofs.Laws.{cell}
 use Rattle.pivoting.specs.Pivot.{Stage, taken, pivot, stage}

@@ -1,7 +1,7 @@
 -- `joined_entry` meets its contract: a column of a, or of the identity.
 use Prim.Native.Nat.{ℕ, ◌+◌, ◌-◌, ◌<◌, ◌≤◌}
 use native.Mathlib.Omega.{arith}
-use mathlib.Core.Path.{◌≡◌, sym, ◌∙◌}
+use mathlib.Core.Path.{◌≡◌, ◌∙◌}
 use borrow.Author.Tests.{lt-ltb, le-ltb, eq-eqb, ne_eqb}
 use Rattle.dense.specs.Matrix.{at, unit_entry, identity}
 use Rattle.dense.proofs.Laws.{cell, at-matrix}

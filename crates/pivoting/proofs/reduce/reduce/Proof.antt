@@ -4,7 +4,6 @@ use native.Mathlib.Omega.{arith}
 use mathlib.Core.Bool.{true}
 use mathlib.Core.Path.{◌≡◌, refl, sym}
 use borrow.Author.Rules.{rules}
-use borrow.Author.Tests.{not-true, not-false}
 use Rattle.kernel.proofs.Answers.{never}
 use Rattle.pivoting.specs.Pivot.{stage}
 use Rattle.pivoting.specs.Solve.{reduced}

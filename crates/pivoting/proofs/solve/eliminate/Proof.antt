@@ -5,7 +5,6 @@ use mathlib.Core.List.{List}
 use mathlib.Core.Path.{◌≡◌, ap, ◌∙◌}
 use native.Mathlib.Omega.{arith}
 use borrow.Author.Rules.{rules}
-use borrow.Author.Tests.{not-false}
 use lib.Ieee.{Float}
 use Rattle.dense.specs.Matrix.{at, matrix}
 use Rattle.dense.proofs.Tests.{met, unmet}

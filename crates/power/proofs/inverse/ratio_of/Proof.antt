@@ -1,7 +1,6 @@
 -- `ratio_of` meets its contract: the eigenvalue decides, then the search for a start, then the rounds.
 use mathlib.Core.Path.{◌∙◌}
 use borrow.Author.Rules.{rules}
-use borrow.Author.Tests.{not-true, not-false}
 use Rattle.power.proofs.Starts.{starts_as}
 use Rattle.power.proofs.Ratios.{ratio-low, ratio_unstarted, ratio_started}
 use Rattle.power.proofs.inverse.ratio_of.Statement.{statement}

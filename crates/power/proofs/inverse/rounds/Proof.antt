@@ -4,7 +4,6 @@ use native.Mathlib.Omega.{arith}
 use mathlib.Core.Bool.{false}
 use mathlib.Core.Path.{◌≡◌, sym, ◌∙◌}
 use borrow.Author.Rules.{rules}
-use borrow.Author.Tests.{not-false}
 use lib.Ieee.{lt}
 use lib.ListN.{length}
 use Rattle.kernel.specs.Constants.{nought, least_norm}

@@ -1,7 +1,6 @@
 -- `is_small` meets its contract: its tests are those of `is_small`.
 use mathlib.Core.Path.{sym, ap, ◌∙◌}
 use borrow.Author.Rules.{rules}
-use borrow.Author.Tests.{not-true, not-false}
 use lib.Ieee.{lt}
 use Rattle.kernel.specs.Constants.{vanishing}
 use Rattle.power.specs.Power.{is_small}

@@ -1,6 +1,4 @@
 -- `greater_clip` meets its contract: each way out has the tests of `greater_clip`.
-use borrow.Author.Tests.{not-true, not-false}
-use lib.Ieee.{lt}
 use Rattle.repair.specs.Repair.{greater_clip}
 use Rattle.repair.proofs.clip.greater_clip.Statement.{statement}
 use Rattle.repair.proofs.clip.greater_clip.Tie as tie

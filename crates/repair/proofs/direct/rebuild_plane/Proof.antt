@@ -1,6 +1,5 @@
 -- `rebuild_plane` meets its contract, by `plane_rebuilt`.
 use borrow.Author.Rules.{rules}
-use mathlib.Core.Path.{sym, ◌∙◌}
 use lib.Ieee.{of_bits}
 use Rattle.eigen.proofs.Cases.PlaneSteps.{four-stored}
 use Rattle.repair.proofs.SmallOrders.{plane_rebuilt}

@@ -1,5 +1,4 @@
 -- `single_rebuilt` meets its contract: the only vector is 1.0.
-use mathlib.Core.Path.{◌≡◌}
 use lib.Ieee.{of_bits}
 use borrow.Author.Rules.{rules}
 use Rattle.repair.proofs.inside.single_rebuilt.Statement.{statement}

@@ -2,7 +2,7 @@
 use mathlib.Core.Path.{◌≡◌, sym, ap, ◌∙◌}
 use Prim.Native.Nat.{ℕ, ◌+◌}
 use native.Mathlib.Omega.{arith}
-use borrow.Author.Tests.{leb-true, le-leb, lt-leb, not-true, not-false}
+use borrow.Author.Tests.{leb-true, le-leb, lt-leb}
 use lib.ListN.{length}
 use mathlib.Core.Bool.{true}
 use mathlib.Core.List.{List}
@@ -10,7 +10,6 @@ use Rattle.kernel.specs.Answer.{and_then}
 use Rattle.kernel.specs.Lists.{over, tabulate}
 use Rattle.kernel.proofs.Answers.{never_both}
 use Rattle.tracks.specs.declared.read.ReadList.{ReadList}
-use Rattle.tracks.specs.declared.read.ReadList.TheVariants as ReadList
 use Rattle.tracks.specs.Layout.{count_met}
 use Rattle.tracks.specs.Read.{tracks, count, dimension, nothing_after, contents}
 use Rattle.tracks.specs.Record.{end_of, offset}

@@ -5,7 +5,7 @@ use Rattle.kernel.specs.Answer.{answered, ask}
 use Rattle.tracks.specs.Private.{ends}
 use Prim.Native.Nat.{ℕ, ◌+◌}
 use native.Mathlib.Omega.{arith}
-use borrow.Author.Tests.{le-leb, lt-leb, eq-eqb, ne_eqb, not-true, not-false}
+use borrow.Author.Tests.{le-leb, lt-leb, eq-eqb, ne_eqb}
 use lib.Dec.{eqb}
 use lib.ListN.{length}
 use Rattle.tracks.specs.Layout.{finite_bits}
