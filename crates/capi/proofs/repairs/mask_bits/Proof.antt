@@ -48,8 +48,8 @@ loop-k-preserved c =
       power = omega (arith, turn.invariant.power, ap (λ (n : ℕ). 2 ^ n) (add-one turn.k), pow-suc 2 turn.k);
       bits_so_far =
           elim c.if-mask-k.branch [
-          | then-mask-k w ↦ omega (arith, w.bits-is, turn.invariant.power, turn.invariant.bits_so_far, packed_more t turn.k {b = true} w.if-mask-k.true)
-          | else-mask-k w ↦ omega (arith, w.bits-is, turn.invariant.power, turn.invariant.bits_so_far, packed_more t turn.k {b = false} w.if-mask-k.false)
+            | then-mask-k w ↦ omega (arith, w.bits-is, turn.invariant.power, turn.invariant.bits_so_far, packed_more t turn.k {b = true} w.if-mask-k.true)
+            | else-mask-k w ↦ omega (arith, w.bits-is, turn.invariant.power, turn.invariant.bits_so_far, packed_more t turn.k {b = false} w.if-mask-k.false)
           ];
     }
 
