@@ -19,16 +19,15 @@ use std::path::{Path, PathBuf};
 
 mod merged_lists;
 
-/// A program's input, some records, and what it must write on it.
+/// A program's input, and what it must write on it.
 struct Frozen {
-    records: u64,
     bytes: Vec<u8>,
     lines: String,
 }
 
 impl Frozen {
     fn new() -> Frozen {
-        Frozen { records: 0, bytes: Vec::new(), lines: String::new() }
+        Frozen { bytes: Vec::new(), lines: String::new() }
     }
 
     fn words(&mut self, words: &[u64]) {
@@ -37,36 +36,31 @@ impl Frozen {
         }
     }
 
-    /// The length of a record of so many numbers, this one included.
+    /// The length of a record of so many numbers, this one included, in a block that holds all of it.
     fn begin(&mut self, numbers: usize) {
-        self.records += 1;
+        if self.bytes.len() % BLOCK + 8 * numbers > BLOCK {
+            self.bytes.resize(self.bytes.len().next_multiple_of(BLOCK), 0);
+        }
         self.words(&[numbers as u64]);
     }
 
-    fn line(&mut self, cases: usize, name: &str) {
-        self.lines.push_str(&format!("{cases} {name}, 0 differences\n"));
+    fn line(&mut self, name: &str, cases: usize) {
+        self.lines.push_str(&format!("{name} {cases} cases 0 differences\n"));
     }
 
-    /// The two files, and what is to stand in them: the input starts with how many records it has.
-    fn files(&self, program: &str) -> [(PathBuf, Vec<u8>); 2] {
+    /// The two files, and what is to stand in them.
+    fn files(&self, program: &str) -> [(PathBuf, &[u8]); 2] {
         let folder = Path::new(env!("CARGO_MANIFEST_DIR")).join("../crates").join(program);
-        let input = [&self.records.to_le_bytes(), &self.bytes[..]].concat();
-        [(folder.join("stdin"), input), (folder.join("stdout"), self.lines.clone().into_bytes())]
+        [(folder.join("stdin"), &self.bytes), (folder.join("stdout"), self.lines.as_bytes())]
     }
 }
 
-/// A record of a number helper: the call, two arguments and the answer.
-fn number_record(frozen: &mut Frozen, call: u64, x: f64, y: f64, answer: f64) {
-    frozen.begin(5);
-    frozen.words(&[call, x.to_bits(), y.to_bits(), answer.to_bits()]);
-}
-
-/// Records of the call with this number, of one argument.
+/// Records of the call with this number, of one argument. A record is the call's number, two arguments and the answer.
 fn unary(frozen: &mut Frozen, call: u64, name: &str, arguments: &[f64], answer: fn(f64) -> f64) {
     for x in arguments {
-        number_record(frozen, call, *x, 0.0, answer(*x));
+        frozen.words(&[call, x.to_bits(), 0, answer(*x).to_bits()]);
     }
-    frozen.line(arguments.len(), name);
+    frozen.line(name, arguments.len());
 }
 
 fn numbers() -> Frozen {
@@ -80,9 +74,9 @@ fn numbers() -> Frozen {
     let both = special.iter().flat_map(|a| special.iter().map(|b| (*a, *b)));
     let pairs: Vec<(f64, f64)> = both.chain(samples(300).into_iter().zip(samples(300))).collect();
     for (a, b) in &pairs {
-        number_record(&mut frozen, 2, *a, *b, black_box(*a).max(black_box(*b)));
+        frozen.words(&[2, a.to_bits(), b.to_bits(), black_box(*a).max(black_box(*b)).to_bits()]);
     }
-    frozen.line(pairs.len(), "max");
+    frozen.line("max", pairs.len());
     unary(&mut frozen, 3, "value", &special, |x| x.value());
     unary(&mut frozen, 4, "constant", &special, f64::constant);
     frozen
@@ -90,6 +84,8 @@ fn numbers() -> Frozen {
 
 /// What stands in a slice before a call that writes it.
 const BEFORE: f64 = 7.0;
+/// A block of records, and zeros past the last.
+const BLOCK: usize = 65_536;
 
 /// A record of a matrix call: see the program.
 fn record(frozen: &mut Frozen, call: usize, sides: &[usize], given: &Given, number: u32, result: &[f64]) {
@@ -149,7 +145,7 @@ fn answers(frozen: &mut Frozen, place: usize, group: &Group, call: &Call, iterat
         record(frozen, place, &sides_told, &given, case.number, &vec![BEFORE; case.writes.iter().sum()]);
         cases += 1;
     }
-    frozen.line(cases, call.name);
+    frozen.line(call.name, cases);
 }
 
 /// A record of the eigensolver, which has two slices to write, has the first one's length as a side.
@@ -215,7 +211,7 @@ fn tracks(frozen: &mut Frozen, call: usize) {
     [[3, 4], [4, 5], [0, 4], [4, 16]].iter().for_each(|lengths| refuse(2, *lengths, (0.0, 16.0), 2));
     BAD_FLOORS.iter().for_each(|floor| refuse(2, [4, 4], (*floor, 16.0), 18));
     BAD_GATES.iter().for_each(|gate| refuse(2, [4, 4], (1.0, *gate), 18));
-    frozen.line(cases, "compare");
+    frozen.line("compare", cases);
 }
 
 /// Every order, and some sides that differ.
@@ -337,7 +333,7 @@ fn track_lists() -> Frozen {
         let room = rng.one_of(&[needed, needed, needed + 1, needed.saturating_sub(1)]);
         read_record(&mut frozen, list, room);
     }
-    frozen.line(listed.len() + 3 * most.len(), "lists read");
+    frozen.lines.push_str(&format!("{} lists read, 0 differences\n", listed.len() + 3 * most.len()));
 
     let mut writes = 0;
     for (count, dimension, values, list) in &good {
@@ -357,7 +353,7 @@ fn track_lists() -> Frozen {
         write_record(&mut frozen, count, dimension, values, 40);
         writes += 1;
     }
-    frozen.line(writes, "lists written");
+    frozen.lines.push_str(&format!("{} lists written, 0 differences\n", writes));
 
     let mut records = 0;
     for list in &listed {
@@ -379,7 +375,7 @@ fn track_lists() -> Frozen {
             records += 1;
         }
     }
-    frozen.line(records, "records handed out");
+    frozen.lines.push_str(&format!("{} records handed out, 0 differences\n", records));
 
     let mut compared = 0;
     for pair in listed.windows(2).step_by(3) {
@@ -388,7 +384,8 @@ fn track_lists() -> Frozen {
             compared += 1;
         }
     }
-    frozen.line(compared, "records compared");
+    frozen.lines.push_str(&format!("{} records compared, 0 differences\n", compared));
+    assert!(frozen.bytes.len() <= BLOCK, "{} bytes in one block", frozen.bytes.len());
     frozen
 }
 
@@ -505,8 +502,8 @@ fn merging() -> Frozen {
     assert!(are_fused(&cases, &answers), "a dimension without a fused row, or few conflicts of three tracks");
     assert!((0..QUESTIONS).all(|at| refused.contains(&(FIRST + at))), "a question that no frozen merge fails");
     assert!(answered().any(|merged| merged.pairings.iter().any(|pairing| pairing.ties() > 0)), "no tie");
-    frozen.line(cases.len(), "merges");
-    frozen.line(winners.len(), "winners");
+    frozen.lines.push_str(&format!("{} merges, 0 differences\n", cases.len()));
+    frozen.lines.push_str(&format!("{} winners, 0 differences\n", winners.len()));
     merged_lists::append(&mut frozen);
     frozen
 }
@@ -532,7 +529,7 @@ pub fn write() {
 pub fn check() -> u64 {
     let mut differences = 0;
     for (program, frozen) in all() {
-        let stand = |(path, bytes): &(PathBuf, Vec<u8>)| fs::read(path).is_ok_and(|found| found == *bytes);
+        let stand = |(path, bytes): &(PathBuf, &[u8])| fs::read(path).is_ok_and(|found| found == *bytes);
         let differ = frozen.files(program).iter().filter(|file| !stand(file)).count();
         println!("{program}: {differ} of the 2 files differ from what the Rust answers now");
         differences += differ as u64;

@@ -23,7 +23,7 @@ pub(crate) fn entered(answer: Number, out: &mut [f64]) -> u64 {
 }
 
 // The sides of a call's matrices.
-#[derive(Clone, Copy)]
+#[derive(Drop)]
 pub(crate) struct Sides {
     pub(crate) m: usize,
     pub(crate) k: usize,

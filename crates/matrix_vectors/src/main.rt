@@ -1,6 +1,7 @@
-// Replays frozen answers of the matrix calls. Doubles stand by their bit patterns. A record has its length in numbers, the call, three sides, a
-// double, the lengths of the three slices that are read and of the one that is written, and the answer's number; then the entries of the slices
-// that are read, and those of the one that is written after the call.
+// Replays frozen answers of the matrix calls. The input is blocks of 65,536 bytes, each some records and then zeros; all
+// numbers have eight bytes, low byte first, and doubles stand by their bit patterns. A record has its length in numbers,
+// the call, three sides, a double, the lengths of the three slices that are read and of the one that is written, and the
+// answer's number; then the entries of the slices that are read, and those of the one that is written after the call.
 #![tactic(auto)]
 
 mod calls;
@@ -13,6 +14,11 @@ mod spectral;
 ghost use Rattle.std.specs.Prelude.{◌≤◌};
 
 use crate::calls::Sides;
+use std::io;
+use std::io::Read;
+
+// The bytes of a block.
+const BLOCK: usize = 65536;
 
 // The bytes of a record before its data.
 const HEAD: u64 = 88;
@@ -21,6 +27,8 @@ const ENTRIES: usize = 272;
 
 // Those before SOLVING are linalg's. Those from SPECTRAL on rotate, then comes the comparison of two tracks, and those from
 // ITERATING on iterate.
+const CALLS: usize = 30;
+
 const SOLVING: usize = 14;
 
 const SPECTRAL: usize = 22;
@@ -87,9 +95,8 @@ fn is_met(
     answer(s, call, a, b, c, out) == replay::number(s, 10) && replay::are_same(out, after)
 }
 
-// The same with the call and the slices out of the record.
-fn is_record_met(s: &[u8]) -> bool {
-    let call = replay::kind(s);
+// The same with the slices out of the record.
+fn is_record_met(s: &[u8], call: usize) -> bool {
     let la = entries(s, 6);
     let lb = entries(s, 7);
     let lc = entries(s, 8);
@@ -113,11 +120,62 @@ fn is_record_met(s: &[u8]) -> bool {
     )
 }
 
-fn main() {
-    let mut input = replay::room();
-    let mut run = replay::start(&mut input);
-    for _ in 0..replay::number(&input, 0) {
-        run = replay::counted(&input, run, is_record_met(replay::record(&input, run.at)));
+// Counts the record at the start of s under its call, and where it is answered otherwise, that too.
+fn replay_record(s: &[u8], cases: &mut [u64; CALLS], differences: &mut [u64; CALLS]) {
+    let call = (replay::number(s, 1) % 30) as usize;
+    cases[call] = replay::one_more(cases[call]);
+    if !is_record_met(s, call) {
+        differences[call] = replay::one_more(differences[call]);
     }
-    names::print_calls(run);
+}
+
+// The records of a block, one after the other.
+fn replay_block(s: &[u8], cases: &mut [u64; CALLS], differences: &mut [u64; CALLS]) {
+    let mut at = 0;
+    while 0 < replay::size(s, at) {
+        replay_record(&s[at..], cases, differences);
+        at += replay::size(s, at);
+    }
+}
+
+// Reads a block and replays it; answers whether there was one.
+fn replay_some<R: Read>(
+    reader: &mut R,
+    cases: &mut [u64; CALLS],
+    differences: &mut [u64; CALLS],
+) -> io::Result<bool> {
+    let mut buffer = [0u8; BLOCK];
+    let n = replay::read_full(reader, &mut buffer)?;
+    replay_block(&buffer[..n], cases, differences);
+    Ok(0 < n)
+}
+
+// Reads to the end of the input. A proved loop has to end, and nothing says that the input does: so the turns are counted, up
+// to a number that no run uses up.
+fn replay_input<R: Read>(
+    reader: &mut R,
+    cases: &mut [u64; CALLS],
+    differences: &mut [u64; CALLS],
+) -> io::Result<()> {
+    for _ in 0..u64::MAX {
+        if !replay_some(reader, cases, differences)? {
+            break;
+        }
+    }
+    Ok(())
+}
+
+fn print_calls(rt: &impl Print, cases: [u64; CALLS], differences: [u64; CALLS]) -> io::Result<()> {
+    for call in 0..CALLS {
+        names::print_name(rt, call)?;
+        println!(rt; "{} cases {} differences", cases[call], differences[call])?;
+    }
+    Ok(())
+}
+
+fn main(rt: HostRuntime) -> io::Result<()> {
+    let mut cases = [0u64; CALLS];
+    let mut differences = [0u64; CALLS];
+    replay_input(&mut rt.reader(), &mut cases, &mut differences)?;
+    print_calls(&rt, cases, differences)
 }

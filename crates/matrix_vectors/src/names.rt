@@ -1,56 +1,74 @@
-// Prints the counts of each call, by its number in a record. The calls stand in short functions: a check's time grows with the square of the
-// names in one.
-use replay::Run;
+// The names of the calls by their numbers in a record, each written with a space after it.
+// They stand in short functions: a check's time grows with the square of the names in one.
+use std::io;
 
-fn print_products(run: Run) {
-    replay::print_kind(run, 0, b"mat_mul");
-    replay::print_kind(run, 1, b"mat_transpose");
-    replay::print_kind(run, 2, b"mat_ata");
-    replay::print_kind(run, 3, b"mat_frobenius");
-    replay::print_kind(run, 4, b"mat_symmetrize");
-    replay::print_kind(run, 5, b"mat_trace");
-    replay::print_kind(run, 6, b"mat_trace_product");
-    replay::print_kind(run, 7, b"mat_trace_cube");
+fn print_matrix(rt: &impl Print, call: usize) -> io::Result<()> {
+    match call {
+        0 => print!(rt; "mat_mul "),
+        1 => print!(rt; "mat_transpose "),
+        2 => print!(rt; "mat_ata "),
+        3 => print!(rt; "mat_frobenius "),
+        4 => print!(rt; "mat_symmetrize "),
+        5 => print!(rt; "mat_trace "),
+        6 => print!(rt; "mat_trace_product "),
+        _ => print!(rt; "mat_trace_cube "),
+    }
 }
 
-fn print_vectors(run: Run) {
-    replay::print_kind(run, 8, b"mat_vec_mul");
-    replay::print_kind(run, 9, b"mat_quadratic_form");
-    replay::print_kind(run, 10, b"vec_norm");
-    replay::print_kind(run, 11, b"mahalanobis_distance_squared_with_inv");
-    replay::print_kind(run, 12, b"mat_cholesky");
-    replay::print_kind(run, 13, b"tikhonov");
+fn print_vector(rt: &impl Print, call: usize) -> io::Result<()> {
+    match call {
+        8 => print!(rt; "mat_vec_mul "),
+        9 => print!(rt; "mat_quadratic_form "),
+        10 => print!(rt; "vec_norm "),
+        11 => print!(rt; "mahalanobis_distance_squared_with_inv "),
+        12 => print!(rt; "mat_cholesky "),
+        _ => print!(rt; "tikhonov "),
+    }
 }
 
-fn print_solvers(run: Run) {
-    replay::print_kind(run, 14, b"mat3_det");
-    replay::print_kind(run, 15, b"mat3_inv");
-    replay::print_kind(run, 16, b"mat3_solve");
-    replay::print_kind(run, 17, b"row_inf_norms");
-    replay::print_kind(run, 18, b"mat_solve");
-    replay::print_kind(run, 19, b"mat_inv");
-    replay::print_kind(run, 20, b"mat_det");
-    replay::print_kind(run, 21, b"mahalanobis_distance_squared");
+fn print_solver(rt: &impl Print, call: usize) -> io::Result<()> {
+    match call {
+        14 => print!(rt; "mat3_det "),
+        15 => print!(rt; "mat3_inv "),
+        16 => print!(rt; "mat3_solve "),
+        17 => print!(rt; "row_inf_norms "),
+        18 => print!(rt; "mat_solve "),
+        19 => print!(rt; "mat_inv "),
+        20 => print!(rt; "mat_det "),
+        _ => print!(rt; "mahalanobis_distance_squared "),
+    }
 }
 
-fn print_spectral(run: Run) {
-    replay::print_kind(run, 22, b"mat_symmetric_eigen");
-    replay::print_kind(run, 23, b"nearest_psd");
-    replay::print_kind(run, 24, b"eigenvalue_floor");
-    replay::print_kind(run, 25, b"compare");
+fn print_spectral(rt: &impl Print, call: usize) -> io::Result<()> {
+    match call {
+        22 => print!(rt; "mat_symmetric_eigen "),
+        23 => print!(rt; "nearest_psd "),
+        24 => print!(rt; "eigenvalue_floor "),
+        _ => print!(rt; "compare "),
+    }
 }
 
-fn print_iterated(run: Run) {
-    replay::print_kind(run, 26, b"mat_eigenvector_max");
-    replay::print_kind(run, 27, b"mat_largest_singular_value");
-    replay::print_kind(run, 28, b"condition_number");
-    replay::print_kind(run, 29, b"tikhonov_with_report");
+fn print_iterating(rt: &impl Print, call: usize) -> io::Result<()> {
+    match call {
+        26 => print!(rt; "mat_eigenvector_max "),
+        27 => print!(rt; "mat_largest_singular_value "),
+        28 => print!(rt; "condition_number "),
+        _ => print!(rt; "tikhonov_with_report "),
+    }
 }
 
-pub(crate) fn print_calls(run: Run) {
-    print_products(run);
-    print_vectors(run);
-    print_solvers(run);
-    print_spectral(run);
-    print_iterated(run);
+pub(crate) fn print_name(rt: &impl Print, call: usize) -> io::Result<()> {
+    if call < 8 {
+        return print_matrix(rt, call);
+    }
+    if call < 14 {
+        return print_vector(rt, call);
+    }
+    if call < 22 {
+        return print_solver(rt, call);
+    }
+    if call < 26 {
+        return print_spectral(rt, call);
+    }
+    print_iterating(rt, call)
 }

@@ -1,13 +1,19 @@
-// Replays frozen merges, winners, and merges with their lists. The floor and the gate stand by their bit patterns. A record has its length in
-// numbers, its kind and ten numbers more, which each kind below names in their order, and then its data.
+// Replays frozen merges, winners, and merges with their lists. The input is blocks of 65,536 bytes, each some records and then zeros.
+// All numbers have eight bytes, low byte first, the floor and the gate stand by their bit patterns, and bytes are filled up with zeros
+// to a whole number. A record has its length in numbers, its kind and ten numbers more, which each kind below names in their order, and
+// then its data.
 #![tactic(auto)]
 
 ghost use Rattle.std.specs.Prelude.{◌≤◌};
 
-use kernel::bytes;
 use merge::winner::WinningPart;
 use merge::{Merged, winner};
 use merge_list::MergedList;
+use std::io;
+use std::io::Read;
+
+// The bytes of a block.
+const BLOCK: usize = 65536;
 
 // The bytes of a record before its data.
 const HEAD: u64 = 96;
@@ -15,6 +21,8 @@ const HEAD: u64 = 96;
 const ROWS: usize = 400;
 // The most bytes of list that a record lends.
 const LIST: usize = 1400;
+
+const KINDS: usize = 3;
 
 // What stands in the rows and in the list before a merge.
 const BEFORE: u8 = 0xA5;
@@ -64,7 +72,7 @@ fn is_merged(
     let floor = replay::double(replay::number(s, 5));
     let gate = replay::double(replay::number(s, 6));
     let answer = merge::merge(base, ours, theirs, floor, gate, rows);
-    is_told(answer, s) && bytes::same_bytes(left, rows)
+    is_told(answer, s) && replay::same_bytes(left, rows)
 }
 
 // Whether three lists are merged into a list as the record s tells, leave those bytes of rows, and in the list what is told of it.
@@ -83,8 +91,8 @@ fn is_written(
     let answer = merge_list::merge_list(base, ours, theirs, floor, gate, rows, list);
     let list_left = replay::part(told, 16, replay::number(told, 0));
     is_list_told(answer, s, replay::number(told, 1))
-        && bytes::same_bytes(left, rows)
-        && bytes::same_bytes(list_left, list)
+        && replay::same_bytes(left, rows)
+        && replay::same_bytes(list_left, list)
 }
 
 // Kind 0, a merge: the lengths of base, ours and theirs, the floor, the gate, the bytes of rows that are lent, the answer's number,
@@ -166,12 +174,11 @@ fn wins(s: &[u8]) -> bool {
         replay::number(s, 5),
         replay::number(s, 6),
         replay::number(s, 7),
-    ) && bytes::same_bytes(wanted, won)
+    ) && replay::same_bytes(wanted, won)
 }
 
-// Whether the record s is answered as it says.
-fn is_met(s: &[u8]) -> bool {
-    let kind = replay::kind(s);
+// Whether the record at the start of s is answered as it says.
+fn is_met(s: &[u8], kind: usize) -> bool {
     match kind {
         0 => merges(s, false),
         1 => wins(s),
@@ -179,13 +186,60 @@ fn is_met(s: &[u8]) -> bool {
     }
 }
 
-fn main() {
-    let mut input = replay::room();
-    let mut run = replay::start(&mut input);
-    for _ in 0..replay::number(&input, 0) {
-        run = replay::counted(&input, run, is_met(replay::record(&input, run.at)));
+// Counts the record at the start of s under its kind, and where it is answered otherwise, that too.
+fn replay_record(s: &[u8], cases: &mut [u64; KINDS], differences: &mut [u64; KINDS]) {
+    let kind = (replay::number(s, 1) % 3) as usize;
+    cases[kind] = replay::one_more(cases[kind]);
+    if !is_met(s, kind) {
+        differences[kind] = replay::one_more(differences[kind]);
     }
-    replay::print_kind(run, 0, b"merges");
-    replay::print_kind(run, 1, b"winners");
-    replay::print_kind(run, 2, b"merged lists");
+}
+
+// The records of a block, one after the other.
+fn replay_block(s: &[u8], cases: &mut [u64; KINDS], differences: &mut [u64; KINDS]) {
+    let mut at = 0;
+    while 0 < replay::size(s, at) {
+        replay_record(&s[at..], cases, differences);
+        at += replay::size(s, at);
+    }
+}
+
+// Reads a block and replays it; answers whether there was one.
+fn replay_some<R: Read>(
+    reader: &mut R,
+    cases: &mut [u64; KINDS],
+    differences: &mut [u64; KINDS],
+) -> io::Result<bool> {
+    let mut buffer = [0u8; BLOCK];
+    let n = replay::read_full(reader, &mut buffer)?;
+    replay_block(&buffer[..n], cases, differences);
+    Ok(0 < n)
+}
+
+// Reads to the end of the input. A proved loop has to end, and nothing says that the input does: so the turns are counted, up
+// to a number that no run uses up.
+fn replay_input<R: Read>(
+    reader: &mut R,
+    cases: &mut [u64; KINDS],
+    differences: &mut [u64; KINDS],
+) -> io::Result<()> {
+    for _ in 0..u64::MAX {
+        if !replay_some(reader, cases, differences)? {
+            break;
+        }
+    }
+    Ok(())
+}
+
+fn print_kind(rt: &impl Print, cases: u64, name: &str, differences: u64) -> io::Result<()> {
+    println!(rt; "{cases} {name}, {differences} differences")
+}
+
+fn main(rt: HostRuntime) -> io::Result<()> {
+    let mut cases = [0u64; KINDS];
+    let mut differences = [0u64; KINDS];
+    replay_input(&mut rt.reader(), &mut cases, &mut differences)?;
+    print_kind(&rt, cases[0], "merges", differences[0])?;
+    print_kind(&rt, cases[1], "winners", differences[1])?;
+    print_kind(&rt, cases[2], "merged lists", differences[2])
 }

@@ -1,14 +1,16 @@
--- Which bit patterns are a NaN's, by the comparison that the code makes (`of_nan-pattern`), and what is the same double (`same-nan`, `same_number`).
-use Rattle.std.proofs.Common.{◌≡◌, ℕ, ◌%◌, ◌<◌, true, false, T, eqb, sym, refl, ◌∙◌, subst, lt-ltb}
+-- Which bit patterns are a NaN's, by the comparison that the code makes (`of_nan-pattern`, `no_nan-pattern`), and what is the same double (`same-nan`, `same_number`).
+use Rattle.std.proofs.Common.{◌≡◌, ℕ, ◌%◌, ◌<◌, ◌≤◌, true, false, T, eqb, sym, refl, ◌∙◌, subst, le-ltb, lt-ltb}
 use lib.Ieee.{Float, nan, inf, fin, binary64, is_nan, nan_bits, ne, of_bits, to_bits}
-use lib.Ieee.Bits.{nan_bits_is, nan_bits_above, is_false}
+use lib.Ieee.Bits.{nan_bits_is, nan_bits_above}
 use lib.Ieee.Compare.{differs_from_itself}
-use Rattle.kernel.proofs.Doubles.Patterns.{equals_itself}
 use Rattle.replay.specs.Replay.{same}
 
 -- below the sign, the patterns above that of +infinity
 pub nan_pattern : (p : ℕ) → 0x7FF0_0000_0000_0000 < p % 0x8000_0000_0000_0000 → nan_bits binary64 p ≡ true
 nan_pattern p h = nan_bits_above binary64 p ∙ lt-ltb 0x7FF0_0000_0000_0000 (p % 0x8000_0000_0000_0000) h
+
+pub no_nan-pattern : (p : ℕ) → p % 0x8000_0000_0000_0000 ≤ 0x7FF0_0000_0000_0000 → nan_bits binary64 p ≡ false
+no_nan-pattern p h = nan_bits_above binary64 p ∙ le-ltb 0x7FF0_0000_0000_0000 (p % 0x8000_0000_0000_0000) h
 
 is_nan_lem : (x : Float) → is_nan x ≡ true → nan ≡ x
 unfolding is_nan
@@ -24,6 +26,12 @@ pub same-nan : (x : Float) (p : ℕ) → ne x x ≡ true → nan_bits binary64 p
 unfolding same is_nan
 same-nan x p h = rw (differs_from_itself x (subst T (sym h) tt)) refl
 
+pub equals_itself : (x : Float) → ne x x ≡ false → is_nan x ≡ false
+unfolding ne is_nan
+equals_itself nan h = absurd (subst T h tt)
+equals_itself (inf s) h = refl
+equals_itself (fin s m e) h = refl
+
 pub same_number : (x : Float) (p : ℕ) → ne x x ≡ false → eqb (to_bits binary64 x) p ≡ same x p
 unfolding same
-same_number x p h = rw (is_false (is_nan x) (equals_itself x h)) refl
+same_number x p h = rw (equals_itself x h) refl

@@ -1,25 +1,30 @@
-// What the programs that replay frozen answers share: doubles by their bit patterns, the records of an input, and how many were answered
-// otherwise than they say. An input is numbers of eight bytes, low byte first: how many records it has, and then the records. A record starts
-// with how many numbers it has and with its kind; bytes in it are filled up with zeros to a whole number.
+// What the programs that replay frozen answers share: doubles by their bit patterns, bytes, a count, and the records of a block. A record
+// is numbers of eight bytes, low byte first, and starts with how many it has; bytes in it are filled up with zeros to a whole number.
 #![tactic(auto)]
 
-ghost use Rattle.std.specs.Prelude.{◌≡◌, ◌*◌, ◌%◌, ◌<◌, length, ◌==◌, from_bits, slice_index};
+ghost use Rattle.std.specs.Prelude.{◌≡◌, ◌+◌, ◌-◌, ◌*◌, ◌%◌, ◌^◌, ◌≤◌, length, from_bits};
 ghost use Rattle.std.specs.Float.{binary64};
+ghost use Rattle.std.specs.Io.{ReadsAtMost};
 ghost use Rattle.kernel.specs.Bytes.{word};
-ghost use Rattle.replay.specs.Replay.{same, all_same, bytes_at, bytes_after, frozen_record, kind_of, one_more_at, nothing_counted, counted as Replay·counted};
+ghost use Rattle.replay.specs.Replay.{same, all_same, equal_bytes, bytes_at, bytes_after, record_size};
 
 use kernel::{bytes, constants};
+use std::io;
+use std::io::Read;
 
-// There are at most so many kinds of records in an input.
-const KINDS: usize = 32;
-
-// A replay underway: at which offset of the input the next record starts, how many records of each kind came before it, and how many of these were
-// not met, that is, answered otherwise than they say.
-#[derive(Clone, Copy)]
-pub struct Run {
-    pub at: usize,
-    pub cases: [u64; KINDS],
-    pub differences: [u64; KINDS],
+// Reads until the buffer is full or the reader ends, and gives how many bytes were read. After an error some may stand in the buffer.
+pub fn read_full<R: Read>(reader: &mut R, buffer: &mut [u8]) -> io::Result<usize>
+    ensures { ReadsAtMost result buffer.new }
+{
+    let mut done = 0;
+    for _ in 0..buffer.len() {
+        let n = reader.read(&mut buffer[done..])?;
+        if n == 0 {
+            break;
+        }
+        done += n;
+    }
+    Ok(done)
 }
 
 // The double with the bit pattern p; of a NaN's pattern, a NaN.
@@ -57,6 +62,28 @@ pub fn are_same(values: &[f64], s: &[u8]) -> bool
         at += 8;
     }
     true
+}
+
+// Whether a and b are the same bytes.
+pub fn same_bytes(a: &[u8], b: &[u8]) -> bool
+    ensures { result ≡ equal_bytes a.now b.now }
+{
+    if a.len() != b.len() {
+        return false;
+    }
+    for i in 0..a.len() {
+        if a[i] != b[i] {
+            return false;
+        }
+    }
+    true
+}
+
+// One more than n; after the largest number, 0.
+pub fn one_more(n: u64) -> u64
+    ensures { result ≡ (n + 1) % 2 ^ 64 }
+{
+    std::num::wrapping_add_u64(n, 1)
 }
 
 // Number k of s; 0 where it is not all there.
@@ -101,88 +128,14 @@ pub fn after(s: &[u8], n: u64) -> &[u8]
     &s[at..]
 }
 
-// The record of the input s at an offset; empty where it is not all there.
-pub fn record(s: &[u8], at: usize) -> &[u8]
-    ensures { result.now ≡ frozen_record s.now at }
+// The bytes of the record of s at an index; 0 where it is not all there.
+pub fn size(s: &[u8], at: usize) -> usize
+    ensures { (result ≡ record_size s.now at) × (result ≤ length s.now - at) }
 {
     let numbers = bytes::word(s, at);
     if s.len() / 8 < numbers as usize {
-        return &s[..0];
+        return 0;
     }
-    part(s, at as u64, 8 * numbers)
-}
-
-// The kind of the record s.
-pub fn kind(s: &[u8]) -> usize
-    ensures { result ≡ kind_of s.now }
-{
-    (number(s, 1) % 32) as usize
-}
-
-// Zeros, room for an input of at most 2,097,152 bytes. The `ensures` gives only their number, which lending them as a slice needs.
-pub fn room() -> [u8; 0x20_0000]
-    ensures { 2097152 ≡ length result }
-{
-    [0; 0x20_0000]
-}
-
-// Reads the input, and stands before its first record. No contract can say what is read.
-pub fn start(input: &mut [u8]) -> Run
-    ensures { (result ≡ nothing_counted) × (length input.new ≡ length input.old) }
-{
-    io::read_full(0, input);
-    Run {
-        at: 8,
-        cases: [0; KINDS],
-        differences: [0; KINDS],
-    }
-}
-
-// The counts with one more at k.
-fn one_more_at(counts: [u64; KINDS], k: usize) -> [u64; KINDS]
-    requires { k < 32 }
-    ensures { result ≡ one_more_at k counts }
-{
-    let mut more = counts;
-    more[k] = std::num::wrapping_add_u64(counts[k], 1);
-    more
-}
-
-// Goes on after the record of the input s where the replay stands, which is met or not, and counts it under its kind.
-pub fn counted(s: &[u8], run: Run, met: bool) -> Run
-    ensures { result ≡ Replay·counted s.now run met }
-{
-    let frozen = record(s, run.at);
-    let k = kind(frozen);
-    let at = run.at + frozen.len();
-    let before = run.cases;
-    let unmet = run.differences;
-    let cases = one_more_at(before, k);
-    if met {
-        return Run {
-            at,
-            cases,
-            differences: unmet,
-        };
-    }
-    let differences = one_more_at(unmet, k);
-    Run {
-        at,
-        cases,
-        differences,
-    }
-}
-
-// Prints how many records of a kind there were, what they are, and how many of them were not met. The answer is whether there were none of these.
-pub fn print_kind(run: Run, kind: usize, name: &[u8]) -> bool
-    ensures { result ≡ (slice_index run.differences (kind % 32) == 0) }
-{
-    let k = kind % KINDS;
-    io::print_decimal(1, run.cases[k]);
-    io::write_all(1, b" ");
-    io::write_all(1, name);
-    io::write_all(1, b", ");
-    io::print_decimal(1, run.differences[k]);
-    io::write_all(1, b" differences\n");
-    run.differences[k] == 0
+    let record = part(s, at as u64, 8 * numbers);
+    record.len()
 }

@@ -1,22 +1,27 @@
-// Replays frozen answers of the track lists. Values stand by their bit patterns. A record has its length in numbers, its kind and six numbers
-// more, which each kind below names in their order, and then its data.
+// Replays frozen answers of the track lists: one block of 65,536 bytes, some records and then zeros. All numbers have eight
+// bytes, low byte first, values stand by their bit patterns, and bytes are filled up with zeros to a whole number. A record
+// has its length in numbers, its kind and six numbers more, which each kind below names in their order, and then its data.
 #![tactic(auto)]
 
 mod reader;
 
 ghost use Rattle.std.specs.Prelude.{◌≤◌};
 
-use kernel::bytes;
+use std::io;
 use tracks::read::ReadList;
 use tracks::write::WrittenList;
 use tracks::{read, record, write};
 
 // The bytes of a record before its data.
 const HEAD: u64 = 64;
+// The bytes of a block.
+const BLOCK: usize = 65536;
 // The most values and bytes that a record lends.
 const VALUES: usize = 128;
 
 const BYTES: usize = 1100;
+
+const KINDS: usize = 4;
 
 // The most records of a list.
 const MOST_RECORDS: usize = 32;
@@ -86,7 +91,7 @@ fn is_written(
             }
         }
     }
-    bytes::same_bytes(left, out)
+    replay::same_bytes(left, out)
 }
 
 // How many values, or bytes, a record lends.
@@ -109,7 +114,7 @@ fn is_walked(list: &[u8], records: u64) -> bool {
     for _ in 0..MOST_RECORDS {
         if !reader::ended_at(list, at) {
             at = reader::next_at(list, at);
-            met = std::num::wrapping_add_u64(met, 1);
+            met = replay::one_more(met);
         }
     }
     reader::ended_at(list, at) && met == records && (records == 0 || at == list.len())
@@ -123,7 +128,7 @@ fn is_found(list: &[u8], at: usize, wanted: &[u8]) -> bool {
     if ended && 0 < wanted.len() || !ended && wanted.len() == 0 {
         return false;
     }
-    bytes::same_bytes(wanted, given) && reader::next_at(list, at) as u64 == after
+    replay::same_bytes(wanted, given) && reader::next_at(list, at) as u64 == after
 }
 
 // Kind 0, a list that is read: the list's length, the values that are lent, the answer's number, the
@@ -178,7 +183,7 @@ fn hands_out(s: &[u8]) -> bool {
     if given.len() as u64 != replay::number(s, 4) {
         return false;
     }
-    bytes::same_bytes(wanted, given) && is_found(list, replay::number(s, 3) as usize, wanted)
+    replay::same_bytes(wanted, given) && is_found(list, replay::number(s, 3) as usize, wanted)
 }
 
 // Kind 3, whether two records are equal: their lengths, and 1 for yes; the two.
@@ -196,9 +201,8 @@ fn compares(s: &[u8]) -> bool {
     replay::number(s, 4) == 0
 }
 
-// Whether the record s is answered as it says.
-fn is_met(s: &[u8]) -> bool {
-    let kind = replay::kind(s);
+// Whether the record at the start of s is answered as it says.
+fn is_met(s: &[u8], kind: usize) -> bool {
     match kind {
         0 => reads(s) && walks(s),
         1 => writes(s),
@@ -207,14 +211,36 @@ fn is_met(s: &[u8]) -> bool {
     }
 }
 
-fn main() {
-    let mut input = replay::room();
-    let mut run = replay::start(&mut input);
-    for _ in 0..replay::number(&input, 0) {
-        run = replay::counted(&input, run, is_met(replay::record(&input, run.at)));
+// Counts the record at the start of s under its kind, and where it is answered otherwise, that too.
+fn replay_record(s: &[u8], cases: &mut [u64; KINDS], differences: &mut [u64; KINDS]) {
+    let kind = (replay::number(s, 1) % 4) as usize;
+    cases[kind] = replay::one_more(cases[kind]);
+    if !is_met(s, kind) {
+        differences[kind] = replay::one_more(differences[kind]);
     }
-    replay::print_kind(run, 0, b"lists read");
-    replay::print_kind(run, 1, b"lists written");
-    replay::print_kind(run, 2, b"records handed out");
-    replay::print_kind(run, 3, b"records compared");
+}
+
+// The records of a block, one after the other.
+fn replay_block(s: &[u8], cases: &mut [u64; KINDS], differences: &mut [u64; KINDS]) {
+    let mut at = 0;
+    while 0 < replay::size(s, at) {
+        replay_record(&s[at..], cases, differences);
+        at += replay::size(s, at);
+    }
+}
+
+fn print_kind(rt: &impl Print, cases: u64, name: &str, differences: u64) -> io::Result<()> {
+    println!(rt; "{cases} {name}, {differences} differences")
+}
+
+fn main(rt: HostRuntime) -> io::Result<()> {
+    let mut cases = [0u64; KINDS];
+    let mut differences = [0u64; KINDS];
+    let mut buffer = [0u8; BLOCK];
+    let n = replay::read_full(&mut rt.reader(), &mut buffer)?;
+    replay_block(&buffer[..n], &mut cases, &mut differences);
+    print_kind(&rt, cases[0], "lists read", differences[0])?;
+    print_kind(&rt, cases[1], "lists written", differences[1])?;
+    print_kind(&rt, cases[2], "records handed out", differences[2])?;
+    print_kind(&rt, cases[3], "records compared", differences[3])
 }
