@@ -1,11 +1,11 @@
 # The gate and its parts.
 #
 #   make demo      proves and builds the two programs, and shows a merge of three small lists
-#   make test      the gate: the layout, `rt ci`, then, from what it proved, the static library, the checks of documents and form where
-#                  there is python3, the quick differential run where cargo and the Rust source are at hand, the Rust and C checks where
-#                  there is cargo and a C compiler, the demonstration, and an installation into a temporary folder. The last line is that
-#                  of `rt ci`, only if all of it succeeded, and before it stands what was left out. With WHOLE=yes, as `.ci/run` has it,
-#                  nothing may be left out
+#   make test      the gate: `rt ci`, which refuses what is not laid out, then the static library and the programs, the checks of
+#                  documents and form where there is python3, the quick differential run where cargo and the Rust source are at hand, the
+#                  Rust and C checks where there is cargo and a C compiler, the demonstration, and an installation into a temporary folder.
+#                  It fails too where a must-fail edit is bad. The last line is that of `rt ci`, only if all of it succeeded, and before it
+#                  stands what was left out. With WHOLE=yes, as `.ci/run` has it, nothing may be left out
 #   make install   the programs, the library, the header and a pkg-config file, below PREFIX; DESTDIR stands before it
 #   make uninstall takes these files away again
 #   make oracle    the long differential run
@@ -33,24 +33,29 @@ cargo = cargo run --release --offline --quiet --manifest-path
 bound = --offline --quiet --manifest-path bindings/rust/Cargo.toml
 again = $(MAKE) --no-print-directory
 # What `rt` says of crates that it proves now, without those that are proved already.
-progress = awk '/^rt:/ && !/unchanged/ { print; fflush() }'
+progress = awk '/^rt:/ && !/begins with what/ { print; fflush() }'
 
-.PHONY: demo test missing beside documents differential tidy rust c c-with shown installed install put uninstall oracle vectors bench capi programs
+.PHONY: demo test missing beside documents differential tidy rust c c-with shown installed install put uninstall oracle vectors bench capi \
+    archive programs
 
 demo: programs
 	@demo/run
 
-# The programs, proved and built; what has not changed is not proved again.
+# The programs, proved and built, in target/bin; what has not changed is not proved again. `rt run` is what builds a program, and runs it: with
+# no list to read trackmerge refuses, and with no argument trackdump says how it is called.
 programs:
-	@echo "rt check trackmerge trackdump: proves the two programs and what they use; the first time that takes some minutes"
-	@rt check trackmerge trackdump 2>&1 | $(progress) || { echo "not proved: rt check trackmerge trackdump says why"; exit 1; }
+	@echo "rt run: proves the two programs and what they use; the first time that takes some minutes"
+	@for name in trackmerge trackdump; do \
+	    (cd crates/$$name && rt run </dev/null 2>&1) | $(progress) || { echo "not proved: rt run in crates/$$name says why"; exit 1; }; \
+	    install -D -m 755 crates/$$name/out/$$name target/bin/$$name; \
+	done
 
 test:
 	@log=$$(mktemp); trap 'rm -f "$$log"' EXIT; \
 	missing=$$($(again) missing); \
 	if [ -n "$(WHOLE)" ] && [ -n "$$missing" ]; then echo "$$missing"; exit 1; fi; \
-	rt fmt --check; \
 	rt ci | tee "$$log"; \
+	if grep -qE '^rt: ok.*, [0-9]+ bad' "$$log"; then echo "a must-fail edit is bad: rt ci says above which"; exit 1; fi; \
 	$(again) beside; \
 	[ -z "$$missing" ] || echo "$$missing"; \
 	tail -n 1 "$$log"
@@ -183,9 +188,13 @@ vectors: capi
 	$(cargo) oracle/Cargo.toml -- vectors
 
 bench: capi
-	rt staticlib bench_pairing
+	@$(again) archive name=bench_pairing
 	$(cargo) bench/Cargo.toml
 
-# The static library that the runs above link. The bench links that of the pairing too.
+# The static library that the runs above link, in target/staticlib. The bench links that of the pairing too.
 capi:
-	@rt staticlib capi 2>&1 | $(progress) || { echo "not proved: rt staticlib capi says why"; exit 1; }
+	@$(again) archive name=capi
+
+archive:
+	@(cd crates/$(name) && rt lib 2>&1) | $(progress) || { echo "not proved: rt lib in crates/$(name) says why"; exit 1; }
+	@install -D -m 644 crates/$(name)/out/lib$(name).a target/staticlib/lib$(name).a

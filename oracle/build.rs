@@ -8,7 +8,7 @@ fn main() {
     fs::write(out.join("unmatched.rs"), unmatched(&root)).unwrap();
 
     let archive = root.join("target/staticlib/libcapi.a");
-    assert!(archive.is_file(), "no {}: run `rt staticlib capi` first", archive.display());
+    assert!(archive.is_file(), "no {}: run `make capi` first", archive.display());
     println!("cargo:rerun-if-changed={}", archive.display());
     println!("cargo:rustc-link-search=native={}", archive.parent().unwrap().display());
     println!("cargo:rustc-link-lib=static=capi");

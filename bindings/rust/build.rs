@@ -1,4 +1,4 @@
-// Finds the library: in the folder PELOSUMBA_LIB, as it is installed or built, or where `rt staticlib capi` leaves it.
+// Finds the library: in the folder PELOSUMBA_LIB, as it is installed or built, or where `make capi` leaves it.
 use std::{env, path::PathBuf};
 
 fn main() {
