@@ -20,17 +20,17 @@ after_written (written.Refused q) o = refused q
 after_written written.Done o = o
 
 -- the fields of a track of dimension d stand first in v
-pub record FieldsFirst (d : ℕ) (v : List Float) : Type 0 where
+pub record HasFields (d : ℕ) (v : List Float) : Type 0 where
   pub few : d ≤ 16
   pub enough : fields d ≤ length v
 
 -- the same with room for row i of the covariance
 pub record RowRoom (d i : ℕ) (v y : List Float) : Type 0 where
-  pub track : FieldsFirst d v
+  pub track : HasFields d v
   pub index : i < d
   pub room : length y ≡ d
 
 -- and with room for the whole of it
 pub record CovarianceRoom (d : ℕ) (v out : List Float) : Type 0 where
-  pub track : FieldsFirst d v
+  pub track : HasFields d v
   pub room : length out ≡ d * d

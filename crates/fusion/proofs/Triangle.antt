@@ -17,7 +17,7 @@ use Rattle.dense.proofs.Laws.{by_entries, nth-part, front}
 use Rattle.tracks.specs.Layout.{fields}
 use Rattle.compare.proofs.Covariance.{field-within}
 use Rattle.fusion.specs.Fusion.{Estimate, lower_rows, fields_of}
-use Rattle.fusion.specs.Private.{MatrixAndVector, estimate}
+use Rattle.fusion.specs.Private.{Sized, estimate}
 
 -- ---- how many there are
 
@@ -42,13 +42,13 @@ fields-long d e l = omega (arith, length-append e.state (lower_rows d e.covarian
 -- the state and the rows before row i stand before a place of the slice
 pub record RowsBefore (x p : List Float) (d i place : ℕ) (out : List Float) : Type 0 where
   pub turns : i ≤ d
-  pub sized : MatrixAndVector d p x
+  pub sized : Sized d p x
   pub size : length out ≡ fields d
   pub long : place ≡ d + length (lower_rows d p i)
   pub done : take place out ≡ x ++ lower_rows d p i
 
 -- the state is written over the front
-pub no_rows : {x p : List Float} {d : ℕ} (old : List Float) {y : List Float} → MatrixAndVector d p x → length old ≡ fields d → y ≡ x → RowsBefore x p d 0 d (y ++ drop d old)
+pub no_rows : {x p : List Float} {d : ℕ} (old : List Float) {y : List Float} → Sized d p x → length old ≡ fields d → y ≡ x → RowsBefore x p d 0 d (y ++ drop d old)
 unfolding lower_rows fields
 no_rows {x} {d = d} old {y} s e f =
     record {

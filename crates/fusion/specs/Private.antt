@@ -28,15 +28,15 @@ abbrev pub are_long : List Float → List Float → List Float → List Float �
 are_long a b c e f = has_length a f && (has_length b f && (has_length c f && has_length e f))
 
 -- That a slice is a d by d matrix, and another a vector of d entries.
-pub record MatrixAndVector (d : ℕ) (m y : List Float) : Type 0 where
+pub record Sized (d : ℕ) (m y : List Float) : Type 0 where
   pub matrix : length m ≡ d * d
   pub vector : length y ≡ d
 
 -- That slices are room for a covariance, for what one track tells, and for what is told together.
 pub record Rooms (d : ℕ) (p n z m y : List Float) : Type 0 where
   pub covariance : length p ≡ d * d
-  pub one : MatrixAndVector d n z
-  pub together : MatrixAndVector d m y
+  pub one : Sized d n z
+  pub together : Sized d m y
 
 -- ---- answers
 

@@ -1,7 +1,7 @@
 // What tracks tell: the inverse of a covariance, and that times the state; for two tracks added, and for a third taken away.
 ghost use Rattle.std.specs.Prelude.{◌≡◌, ◌*◌, length};
 ghost use Rattle.fusion.specs.Fusion.{information_of};
-ghost use Rattle.fusion.specs.Private.{HasFields, MatrixAndVector, Rooms, information, sums, differences, both_of, left_without, told_by, Gives, is_done};
+ghost use Rattle.fusion.specs.Private.{HasFields, Sized, Rooms, information, sums, differences, both_of, left_without, told_by, Gives, is_done};
 
 use compare::inside::track_covariance;
 use dense::Written;
@@ -40,7 +40,7 @@ fn subtract(x: &[f64], n: usize, y: &mut [f64])
 
 // Writes what the track of dimension d with the fields v tells to m and y, where it tells something. The slice p is room for its covariance.
 fn information(v: &[f64], d: usize, p: &mut [f64], m: &mut [f64], y: &mut [f64]) -> bool
-    requires { HasFields d v.now × (length p.old ≡ d * d) × MatrixAndVector d m.old y.old }
+    requires { HasFields d v.now × (length p.old ≡ d * d) × Sized d m.old y.old }
     ensures { Gives (information_of d v.now) result (information m.new y.new) }
 {
     track_covariance(v, d, p);
@@ -106,7 +106,7 @@ pub(crate) fn told(
     m: &mut [f64],
     y: &mut [f64],
 ) -> bool
-    requires { HasFields d base.now × HasFields d ours.now × HasFields d theirs.now × MatrixAndVector d m.old y.old }
+    requires { HasFields d base.now × HasFields d ours.now × HasFields d theirs.now × Sized d m.old y.old }
     ensures { Gives (told_by d base.now ours.now theirs.now) result (information m.new y.new) }
 {
     let mut p = [0.0f64; 256];

@@ -2,7 +2,7 @@
 ghost use Rattle.std.specs.Prelude.{◌≡◌, true, ◌*◌, length};
 ghost use Rattle.dense.specs.Matrix.{is_side};
 ghost use Rattle.fusion.specs.Fusion.{estimate_from, step, if_finite, fields_of};
-ghost use Rattle.fusion.specs.Private.{HasFields, MatrixAndVector, Gives, information, estimate, left_by};
+ghost use Rattle.fusion.specs.Private.{HasFields, Sized, Gives, information, estimate, left_by};
 
 use crate::information::is_done;
 use dense::shape::part;
@@ -22,7 +22,7 @@ fn estimate(
     x: &mut [f64],
     p: &mut [f64],
 ) -> bool
-    requires { (is_side d ≡ true) × MatrixAndVector d m.now y.now × (length n.old ≡ d * d) × MatrixAndVector d p.old x.old }
+    requires { (is_side d ≡ true) × Sized d m.now y.now × (length n.old ≡ d * d) × Sized d p.old x.old }
     ensures { Gives (estimate_from d floor (information m.now y.now)) result (estimate x.new p.new) }
 {
     if !is_done(mat_solve(m, y, d, x)) {
@@ -39,7 +39,7 @@ fn estimate(
 
 // Writes the fields of the track with the state x and the covariance p: the state, then the lower triangle row by row.
 fn write_fields(x: &[f64], p: &[f64], d: usize, out: &mut [f64])
-    requires { HasFields d out.old × MatrixAndVector d p.now x.now }
+    requires { HasFields d out.old × Sized d p.now x.now }
     ensures { out.new ≡ fields_of d (estimate x.now p.now) }
 {
     copy(x, d, &mut out[..d]);
@@ -53,7 +53,7 @@ fn write_fields(x: &[f64], p: &[f64], d: usize, out: &mut [f64])
 
 // The same where all entries of x and of p are finite.
 fn write_finite(x: &[f64], p: &[f64], d: usize, out: &mut [f64]) -> bool
-    requires { HasFields d out.old × MatrixAndVector d p.now x.now }
+    requires { HasFields d out.old × Sized d p.now x.now }
     ensures { (result, out.new) ≡ left_by (if_finite d (estimate x.now p.now)) out.old }
 {
     if !are_finite(x, d) {
@@ -68,7 +68,7 @@ fn write_finite(x: &[f64], p: &[f64], d: usize, out: &mut [f64]) -> bool
 
 // Writes the fields of the track that the matrix m and the vector y tell, where there is one.
 pub(crate) fn write_told(m: &[f64], y: &[f64], d: usize, floor: f64, out: &mut [f64]) -> bool
-    requires { HasFields d out.old × MatrixAndVector d m.now y.now }
+    requires { HasFields d out.old × Sized d m.now y.now }
     ensures { (result, out.new) ≡ left_by (step (estimate_from d floor (information m.now y.now)) (if_finite d)) out.old }
 {
     let mut n = [0.0f64; 256];

@@ -92,7 +92,7 @@ list_taken s rows = takers rows ∷ dimension s.base ∷ records_taken s rows
 -- ---- what is asked, part by part
 
 -- That a list has a dimension.
-pub record HasDimension (l : List ℕ) : Type 0 where
+pub record Sized (l : List ℕ) : Type 0 where
   pub two : 2 ≤ length l
   pub small : dimension l ≤ 9
 
@@ -103,7 +103,7 @@ HasPlace wanted l values i = wanted ≡ true → i * fields (dimension l) + fiel
 -- That rows stand in a buffer, and that values have the places of base's tracks that are fused.
 pub record ToTake (base : List ℕ) (values : List Float) (rows : List ℕ) (total : ℕ) : Type 0 where
   pub stand : RowsStand rows total
-  pub sized : HasDimension base
+  pub sized : Sized base
   pub fused : (r : ℕ) → r < total → HasPlace (eqb (verdict_in rows r) fuse) base values (base_in rows r)
 
 -- The same, and that their list is no longer than the longest one, if it has no more tracks.

@@ -2,7 +2,7 @@
 ghost use Rattle.std.specs.Prelude.{◌+◌, ◌≤◌, length};
 ghost use Rattle.tracks.specs.Record.{track_record};
 ghost use Rattle.tracks.specs.Private.{Writes};
-ghost use Rattle.merge_list.specs.Private.{bytes_if, rows_in, sources, placed_record, records_taken, RecordsFit, HasDimension, HasPlace, ToTake};
+ghost use Rattle.merge_list.specs.Private.{bytes_if, rows_in, sources, placed_record, records_taken, RecordsFit, Sized, HasPlace, ToTake};
 
 use dense::shape::row;
 use merge::verdict::{FUSE, KEEP, Offsets, TAKE_OURS, TAKE_THEIRS};
@@ -47,7 +47,7 @@ fn write_placed(
     out: &mut [u8],
     at: usize,
 ) -> usize
-    requires { HasDimension list.now × HasPlace wanted list.now values.now i × (at + length (bytes_if wanted (placed_record list.now values.now i)) ≤ length out.old) }
+    requires { Sized list.now × HasPlace wanted list.now values.now i × (at + length (bytes_if wanted (placed_record list.now values.now i)) ≤ length out.old) }
     ensures { Writes (bytes_if wanted (placed_record list.now values.now i)) out.old at result out.new }
 {
     if !wanted {
