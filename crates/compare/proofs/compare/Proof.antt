@@ -47,19 +47,16 @@ returns-then-not-are_tracks c = rw (met_1 c.before.before, unmet c.are_tracks.en
 
 returns-then-not-is_floor_and_gate : tie.Need-returns-then-not-is_floor_and_gate
 unfolding comparing
-returns-then-not-is_floor_and_gate c = let shaped = c in rw (met_1 (sided c.before.before), met_2 c.before.before, unmet c.is_floor_and_gate.ensures c.if-not-is_floor_and_gate.true)
+returns-then-not-is_floor_and_gate c = rw (met_1 (sided c.before.before), met_2 c.before.before, unmet c.is_floor_and_gate.ensures c.if-not-is_floor_and_gate.true)
 
 compare_tracks-report-requires : tie.Need-compare_tracks-report-requires
 compare_tracks-report-requires c κs =
-    let shaped = c in
     let x = (start_of c.before.before).args in
     two-tracks x.mu.now x.x.now x.p_i.now x.p_j.now x.n (met_1 (sided c.before.before)) (met_2 c.before.before)
 
 returns : tie.Need-returns
 unfolding compared_with_report
 returns c =
-    let asked = c in
-    let shaped = asked in
     let x = (start_of c.before.before.before).args in
     ap (λ (r : ComparisonReport). Answered r.comparison) c.compare_tracks-report.ensures
     ∙ sym (ap compare_answer (comparing_met x.mu.now x.x.now x.p_i.now x.p_j.now x.n x.floor x.gate (met_1 (sided c.before.before.before)) (met_2 c.before.before.before) (met_18 c.before)))

@@ -12,18 +12,13 @@ returns-then-not-is_vector-2 c = and_yes c.is_vector.ensures c.if-not-is_vector.
 
 returns-then-not-is_vector-3 : tie.Need-returns-then-not-is_vector-3
 returns-then-not-is_vector-3 c =
-    let second = c in
-    let first = second in
-    and_yes first.is_vector.ensures second.if-not-is_vector.false
-    (and_yes second.is_vector-2.ensures c.if-not-is_vector-2.false (and_no _ c.is_vector-3.ensures c.if-not-is_vector-3.true))
+    and_yes c.is_vector.ensures c.if-not-is_vector.false
+    (and_yes c.is_vector-2.ensures c.if-not-is_vector-2.false (and_no _ c.is_vector-3.ensures c.if-not-is_vector-3.true))
 
 returns : tie.Need-returns
 returns c =
-    let third = c in
-    let second = third in
-    let first = second in
-    and_yes first.is_vector.ensures second.if-not-is_vector.false
-    (and_yes second.is_vector-2.ensures third.if-not-is_vector-2.false (and_yes third.is_vector-3.ensures c.if-not-is_vector-3.false c.is_vector-4.ensures))
+    and_yes c.is_vector.ensures c.if-not-is_vector.false
+    (and_yes c.is_vector-2.ensures c.if-not-is_vector-2.false (and_yes c.is_vector-3.ensures c.if-not-is_vector-3.false c.is_vector-4.ensures))
 
 pub are_long_spec : {M : Type 1} → statement M
 are_long_spec =

@@ -56,7 +56,6 @@ returns-then-not-are_long c = rw (met_1 (sided c.before), unmet (asked_2 c.befor
 
 fuse_tracks-requires : tie.Need-fuse_tracks-requires
 fuse_tracks-requires c κs =
-    let two = c in
     let x = (start_of c.before.before).args in
     to_fuse x.d x.base.now x.ours.now x.theirs.now x.out.now (met_1 (sided c.before.before)) (met_2 c.before)
 

@@ -6,7 +6,7 @@ use Rattle.mat3.proofs.inverse.Tie as tie
 
 returns : tie.Need-returns
 unfolding inverse3
-returns c = let start = c in rw start.requires.1
+returns c = rw c.requires.1
 
 pub inverse_spec : {M : Type 1} → statement M
 inverse_spec =

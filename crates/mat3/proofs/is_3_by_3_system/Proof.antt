@@ -12,9 +12,7 @@ returns-then-not-is_vector-2 c = and_yes c.is_vector.ensures c.if-not-is_vector.
 
 returns : tie.Need-returns
 returns c =
-    let after-is-vector2 = c in
-    let after-is-vector = after-is-vector2 in
-    and_yes after-is-vector.is_vector.ensures after-is-vector2.if-not-is_vector.false (and_yes after-is-vector2.is_vector-2.ensures c.if-not-is_vector-2.false c.is_vector-3.ensures)
+    and_yes c.is_vector.ensures c.if-not-is_vector.false (and_yes c.is_vector-2.ensures c.if-not-is_vector-2.false c.is_vector-3.ensures)
 
 pub is_3_by_3_system_spec : {M : Type 1} → statement M
 is_3_by_3_system_spec = tie.close (tie.spec (λ c κs. search rules) returns-then-not-is_vector (λ c κs. search rules) returns-then-not-is_vector-2 (λ c κs. search rules) returns)

@@ -32,19 +32,16 @@ unfolding mat3_inv
 returns-then-not-is_regular c = rw (met_2 c.before.before.before, unmet c.is_regular.ensures c.if-not-is_regular.true)
 
 inverse-inv-requires : tie.Need-inverse-inv-requires
-inverse-inv-requires c κs = let after-det = c in ((lengths c.before.before.before).0, after-det.det-d.ensures)
+inverse-inv-requires c κs = ((lengths c.before.before.before).0, c.det-d.ensures)
 
 copy-requires : tie.Need-copy-requires
 unfolding inverse3
-copy-requires c κs = let after-inverse = c in (ap length after-inverse.inverse-inv.ensures, (lengths c.before.before.before.before.before.before).1)
+copy-requires c κs = (ap length c.inverse-inv.ensures, (lengths c.before.before.before.before.before.before).1)
 
 returns : tie.Need-returns
 unfolding mat3_inv
 returns c =
-    let after-copy = c in
-    let after-inverse = after-copy in
-    let after-is-regular = after-inverse in
-    rw (met_2 c.before.before.before.before.before.before.before.before.before, met after-is-regular.is_regular.ensures after-inverse.if-not-is_regular.false) (done (after-copy.copy.ensures ∙ after-inverse.inverse-inv.ensures))
+    rw (met_2 c.before.before.before.before.before.before.before.before.before, met c.is_regular.ensures c.if-not-is_regular.false) (done (c.copy.ensures ∙ c.inverse-inv.ensures))
 
 pub mat3_inv_spec : {M : Type 1} → statement M
 mat3_inv_spec =

@@ -32,20 +32,17 @@ unfolding mat3_solve
 returns-then-not-is_regular c = rw (met_2 c.before.before.before, unmet c.is_regular.ensures c.if-not-is_regular.true)
 
 solution-x-requires : tie.Need-solution-x-requires
-solution-x-requires c κs = let after-det = c in let l = lengths c.before.before.before in (l.0, l.1, after-det.det-d.ensures)
+solution-x-requires c κs = let l = lengths c.before.before.before in (l.0, l.1, c.det-d.ensures)
 
 copy-requires : tie.Need-copy-requires
 unfolding solution3
-copy-requires c κs = let after-solution = c in (ap length after-solution.solution-x.ensures, (lengths c.before.before.before.before.before.before).2)
+copy-requires c κs = (ap length c.solution-x.ensures, (lengths c.before.before.before.before.before.before).2)
 
 returns : tie.Need-returns
 unfolding mat3_solve
 returns c =
-    let after-copy = c in
-    let after-solution = after-copy in
-    let after-is-regular = after-solution in
-    rw (met_2 c.before.before.before.before.before.before.before.before.before, met after-is-regular.is_regular.ensures after-solution.if-not-is_regular.false)
-    (done (after-copy.copy.ensures ∙ after-solution.solution-x.ensures))
+    rw (met_2 c.before.before.before.before.before.before.before.before.before, met c.is_regular.ensures c.if-not-is_regular.false)
+    (done (c.copy.ensures ∙ c.solution-x.ensures))
 
 pub mat3_solve_spec : {M : Type 1} → statement M
 mat3_solve_spec =

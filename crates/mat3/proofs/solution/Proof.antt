@@ -10,9 +10,7 @@ use Rattle.mat3.proofs.solution.Tie as tie
 returns : tie.Need-returns
 unfolding solution3 replaced det3 matrix tabulate
 returns c =
-    let after-of-entries = c in
-    let start = after-of-entries in
-    rw (after-of-entries.of_entries-x.ensures, c.of_entries-y.ensures, c.of_entries-z.ensures, start.requires.2)
+    rw (c.of_entries-x.ensures, c.of_entries-y.ensures, c.of_entries-z.ensures, c.requires.2)
 
 pub solution_spec : {M : Type 1} → statement M
 solution_spec =

@@ -76,8 +76,7 @@ room_is : (c : tie.After-merge_fused-m) → let x = (start_of c).args in
     ≡ merging x.base.now x.ours.now x.theirs.now x.floor x.gate (length x.rows.now)
 room_is c =
     let x = (start_of c).args in
-    let r = c in
-    ap (merging x.base.now x.ours.now x.theirs.now x.floor x.gate) (lent c.before.before.before ∙ r.row_room-room.ensures)
+    ap (merging x.base.now x.ours.now x.theirs.now x.floor x.gate) (lent c.before.before.before ∙ c.row_room-room.ensures)
     ∙ room_alike x.base.now x.ours.now x.theirs.now x.floor x.gate (length x.rows.now)
 
 -- ---- an answer of counts
@@ -145,7 +144,6 @@ takes c = rows_take (rest (merged-at c)) (told c) (demanded c)
 
 write_chosen-list-requires : tie.Need-write_chosen-list-requires
 write_chosen-list-requires c κs =
-    let k = c in
     let h = bytes_of c.before.before.before.before.before in
     to_list h.0 h.1 h.2 (takes c.before.before.before.before.before) (values c.before.before.before.before.before) (stands c.before.before.before.before.before)
 
@@ -190,13 +188,12 @@ copy_bytes-requires c κs =
 
 returns-in-Counts : tie.Need-returns-in-Counts
 returns-in-Counts c =
-    let w = c in
     let l = (listed c.before.before.before.before.before.before).write_chosen-list in
     let k = known (listed c.before.before.before.before.before.before) in
     let x = (start_of (merged-at k)).args in
     let list = l.ensures.0 ∙ ap write_answer (same-list k) in
     let answer = c.answer_with.ensures ∙ (λ i. answer_with (list i) (counts_are (rest (merged-at k)) (told k) (demanded k) i)) in
-    let fine = w.list_written.ensures ∙ ap is_written list in
+    let fine = c.list_written.ensures ∙ ap is_written list in
     let left = c.copy_bytes.ensures.1 ∙ (λ i. over x.rows.now 0 (bytes_if (fine i) (rows_bytes_lem k i))) in
     let out = l.ensures.1 ∙ ap (λ (o : Outcome (List ℕ)). write_bytes o x.out.now) (same-list k) in
     (λ i. (answer i, (left i, out i)))
@@ -204,9 +201,8 @@ returns-in-Counts c =
 
 returns-in-Refused : tie.Need-returns-in-Refused
 returns-in-Refused c =
-    let a = c in
     let x = (start_of c.before.before.before).args in
-    let e = refusal-found (old c.before.before.before) _ ((λ i. (sym c.in-Refused.is i, new c.before.before.before)) ∙ a.merge_fused-m.ensures.0) in
+    let e = refusal-found (old c.before.before.before) _ ((λ i. (sym c.in-Refused.is i, new c.before.before.before)) ∙ c.merge_fused-m.ensures.0) in
     merge-refused x.base.now x.ours.now x.theirs.now x.floor x.gate x.rows.now x.out.now (sym (room_is c.before.before.before) ∙ e)
 
 pub merge_list_spec : {M : Type 1} → statement M

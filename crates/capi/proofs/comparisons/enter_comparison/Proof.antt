@@ -14,8 +14,7 @@ entered c a = told_comparison a c.args.kind.now c.args.d2.now
 
 returns-in-Answered : tie.Need-returns-in-Answered
 returns-in-Answered c =
-    let known = c in
-    ap (λ (z : ℕ × Float). (0, z)) c.enter_kind.ensures ∙ ap (entered c.before.before.before.before) (sym known.in-Answered.is)
+    ap (λ (z : ℕ × Float). (0, z)) c.enter_kind.ensures ∙ ap (entered c.before.before.before.before) (sym c.in-Answered.is)
 
 returns-in-Refused : tie.Need-returns-in-Refused
 returns-in-Refused c = ap (entered c.before) (sym c.in-Refused.is)

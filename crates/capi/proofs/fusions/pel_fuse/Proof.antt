@@ -10,10 +10,9 @@ use Rattle.capi.proofs.fusions.pel_fuse.Tie as tie
 
 returns : tie.Need-returns
 returns c =
-    let call = c in
-    let x = call.args in (
-      c.enter_fusion.ensures ∙ ap (λ (a : Fusion × List Float). told_fusion a.0 x.fused.now) call.fuse-answer.ensures,
-      ap (λ (a : Fusion × List Float). a.1) call.fuse-answer.ensures,
+    let x = c.args in (
+      c.enter_fusion.ensures ∙ ap (λ (a : Fusion × List Float). told_fusion a.0 x.fused.now) c.fuse-answer.ensures,
+      ap (λ (a : Fusion × List Float). a.1) c.fuse-answer.ensures,
     )
 
 pub pel_fuse_spec : {M : Type 1} → statement M

@@ -8,9 +8,8 @@ use Rattle.capi.proofs.lists.pel_read_list.Tie as tie
 
 returns : tie.Need-returns
 returns c =
-    let call = c in
-    let x = call.args in
-    let e = call.read_list.ensures in
+    let x = c.args in
+    let e = c.read_list.ensures in
     (c.enter_read.ensures ∙ ap (λ (a : ReadList). told_read a x.count.now x.dimension.now) e.0, e.1)
 
 pub pel_read_list_spec : {M : Type 1} → statement M

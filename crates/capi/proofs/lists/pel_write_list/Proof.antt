@@ -8,9 +8,8 @@ use Rattle.capi.proofs.lists.pel_write_list.Tie as tie
 
 returns : tie.Need-returns
 returns c =
-    let call = c in
-    let x = call.args in
-    let e = call.write_list.ensures in
+    let x = c.args in
+    let e = c.write_list.ensures in
     (c.enter_length.ensures ∙ ap (λ (a : WrittenList). told_written a x.length.now) e.0, e.1)
 
 pub pel_write_list_spec : {M : Type 1} → statement M

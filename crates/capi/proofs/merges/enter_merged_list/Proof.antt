@@ -9,11 +9,10 @@ use Rattle.capi.proofs.merges.enter_merged_list.Tie as tie
 
 returns-in-Written : tie.Need-returns-in-Written
 returns-in-Written c =
-    let matched = c in
-    let x = matched.args in
-    let n = matched.in-Written.n in
+    let x = c.args in
+    let n = c.in-Written.n in
     ap (λ (p : ℕ × (ℕ × (ℕ × ℕ))). (p.0, (p.1.0, (p.1.1.0, (p.1.1.1, n))))) c.enter_counts.ensures
-    ∙ ap (λ (a : MergedList). told_merged_list a x.full.now x.half.now x.single.now x.length.now) (sym matched.in-Written.is)
+    ∙ ap (λ (a : MergedList). told_merged_list a x.full.now x.half.now x.single.now x.length.now) (sym c.in-Written.is)
 
 returns-in-Refused : tie.Need-returns-in-Refused
 returns-in-Refused c =

@@ -10,9 +10,8 @@ use Rattle.capi.proofs.merges.pel_merge.Tie as tie
 
 returns : tie.Need-returns
 returns c =
-    let merged = c in
-    let x = merged.args in
-    let e = merged.merge.ensures.0 in (
+    let x = c.args in
+    let e = c.merge.ensures.0 in (
       c.enter_counts.ensures ∙ ap (λ (p : Merged × List ℕ). told_merge p.0 x.full.now x.half.now x.single.now) e,
       ap (λ (p : Merged × List ℕ). p.1) e,
     )

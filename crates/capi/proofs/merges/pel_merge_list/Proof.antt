@@ -10,9 +10,8 @@ use Rattle.capi.proofs.merges.pel_merge_list.Tie as tie
 
 returns : tie.Need-returns
 returns c =
-    let merged = c in
-    let x = merged.args in
-    let e = merged.merge_list.ensures in (
+    let x = c.args in
+    let e = c.merge_list.ensures in (
       c.enter_merged_list.ensures
           ∙ ap (λ (p : MergedList × (List ℕ × List ℕ)). told_merged_list p.0 x.full.now x.half.now x.single.now x.length.now) e,
       ap (λ (p : MergedList × (List ℕ × List ℕ)). p.1) e,

@@ -14,8 +14,7 @@ returns-then-row-ne4 c = rw (ne_eqb _ 4 c.if-row-ne4.true) c.enter_winner.ensure
 returns : tie.Need-returns
 unfolding told_winner winning
 returns c =
-    let t = c in
-    rw (eq-eqb _ 4 t.if-row-ne4.false) (c.enter_winner-2.ensures ∙ ap in_numbers t.winning-w.ensures)
+    rw (eq-eqb _ 4 c.if-row-ne4.false) (c.enter_winner-2.ensures ∙ ap in_numbers c.winning-w.ensures)
 
 pub pel_winner_spec : {M : Type 1} → statement M
 pel_winner_spec =

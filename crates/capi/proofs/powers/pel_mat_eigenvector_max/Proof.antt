@@ -7,9 +7,8 @@ use Rattle.capi.proofs.powers.pel_mat_eigenvector_max.Tie as tie
 
 returns : tie.Need-returns
 returns c =
-    let call = c in
-    let x = call.args in
-    eigenpair_tells (mat_eigenvector_max x.a.now x.n x.max_iter x.tol x.v.now) x.v.now _ _ _ _ _ c.enter.ensures call.mat_eigenvector_max.ensures
+    let x = c.args in
+    eigenpair_tells (mat_eigenvector_max x.a.now x.n x.max_iter x.tol x.v.now) x.v.now _ _ _ _ _ c.enter.ensures c.mat_eigenvector_max.ensures
 
 pub pel_mat_eigenvector_max_spec : {M : Type 1} → statement M
 pel_mat_eigenvector_max_spec = tie.close (tie.spec (λ c κs. search rules) (λ c κs. search rules) (λ c. search rules) returns)

@@ -10,9 +10,8 @@ use Rattle.capi.proofs.powers.pel_tikhonov_with_report.Tie as tie
 
 returns : tie.Need-returns
 returns c =
-    let call = c in
-    let x = call.args in
-    let e = call.tikhonov_with_report.ensures in (
+    let x = c.args in
+    let e = c.tikhonov_with_report.ensures in (
       c.enter_damping.ensures ∙ ap (λ (p : Damped × List Float). told_damping p.0 x.before.now x.after.now) e,
       ap (λ (p : Damped × List Float). p.1) e,
     )

@@ -14,8 +14,7 @@ entered c a = let x = c.args in told_as a x.repaired.report x.n_clipped.now x.ma
 
 returns-in-Done : tie.Need-returns-in-Done
 returns-in-Done c =
-    let start = c in
-    let report = start.args.repaired.report in
+    let report = c.args.repaired.report in
     ap (λ (bits : ℕ). (0, (report.n_clipped, (report.max_clip_magnitude, bits)))) c.mask_bits.ensures
     ∙ ap (entered c.before.before.before.before) (sym c.in-Done.is)
 

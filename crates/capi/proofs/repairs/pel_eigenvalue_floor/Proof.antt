@@ -6,15 +6,13 @@ use Rattle.capi.proofs.repairs.pel_eigenvalue_floor.Tie as tie
 
 returns-then-n-eq1 : tie.Need-returns-then-n-eq1
 returns-then-n-eq1 c =
-    let call = c in
-    let x = call.args in
-    repair_tells x.n_clipped.now x.max_clip_magnitude.now x.clipped_indices.now _ c.enter_report.ensures call.eigenvalue_floor-single.ensures
+    let x = c.args in
+    repair_tells x.n_clipped.now x.max_clip_magnitude.now x.clipped_indices.now _ c.enter_report.ensures c.eigenvalue_floor-single.ensures
 
 returns : tie.Need-returns
 returns c =
-    let call = c in
-    let x = call.args in
-    repair_tells x.n_clipped.now x.max_clip_magnitude.now x.clipped_indices.now _ c.enter_report-2.ensures call.eigenvalue_floor-repaired.ensures
+    let x = c.args in
+    repair_tells x.n_clipped.now x.max_clip_magnitude.now x.clipped_indices.now _ c.enter_report-2.ensures c.eigenvalue_floor-repaired.ensures
 
 pub pel_eigenvalue_floor_spec : {M : Type 1} → statement M
 pel_eigenvalue_floor_spec =

@@ -6,15 +6,13 @@ use Rattle.capi.proofs.repairs.pel_nearest_psd.Tie as tie
 
 returns-then-n-eq1 : tie.Need-returns-then-n-eq1
 returns-then-n-eq1 c =
-    let call = c in
-    let x = call.args in
-    repair_tells x.n_clipped.now x.max_clip_magnitude.now x.clipped_indices.now _ c.enter_report.ensures call.nearest_psd-single.ensures
+    let x = c.args in
+    repair_tells x.n_clipped.now x.max_clip_magnitude.now x.clipped_indices.now _ c.enter_report.ensures c.nearest_psd-single.ensures
 
 returns : tie.Need-returns
 returns c =
-    let call = c in
-    let x = call.args in
-    repair_tells x.n_clipped.now x.max_clip_magnitude.now x.clipped_indices.now _ c.enter_report-2.ensures call.nearest_psd-repaired.ensures
+    let x = c.args in
+    repair_tells x.n_clipped.now x.max_clip_magnitude.now x.clipped_indices.now _ c.enter_report-2.ensures c.nearest_psd-repaired.ensures
 
 pub pel_nearest_psd_spec : {M : Type 1} → statement M
 pel_nearest_psd_spec =

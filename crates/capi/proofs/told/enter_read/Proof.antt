@@ -8,8 +8,7 @@ use Rattle.capi.proofs.told.enter_read.Tie as tie
 
 returns-in-Refused : tie.Need-returns-in-Refused
 returns-in-Refused c =
-    let start = c in
-    ap (λ (a : ReadList). told_read a start.args.count.now start.args.dimension.now) (sym c.in-Refused.is)
+    ap (λ (a : ReadList). told_read a c.args.count.now c.args.dimension.now) (sym c.in-Refused.is)
 
 pub enter_read_spec : {M : Type 1} → statement M
 enter_read_spec = tie.close (tie.spec (λ c. search rules) (λ c. search rules) (λ c. search rules) (λ c. search rules) returns-in-Refused)

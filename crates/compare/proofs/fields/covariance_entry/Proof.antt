@@ -12,21 +12,19 @@ use Rattle.compare.proofs.fields.covariance_entry.Tie as tie
 
 -- the place of the entry, or of the one that it mirrors
 below : (c : tie.After-lower_field-at) → c.lower_field-at.result < length c.args.v.now
-below c = let start = c in omega (arith, field-within start.args.d start.args.i start.args.j (omega arith) (omega arith), c.lower_field-at.ensures)
+below c = omega (arith, field-within c.args.d c.args.i c.args.j (omega arith) (omega arith), c.lower_field-at.ensures)
 
 above : (c : tie.After-lower_field-at-2) → c.lower_field-at-2.result < length c.args.v.now
-above c = let start = c in omega (arith, field-within start.args.d start.args.j start.args.i (omega arith) (omega arith), c.lower_field-at-2.ensures)
+above c = omega (arith, field-within c.args.d c.args.j c.args.i (omega arith) (omega arith), c.lower_field-at-2.ensures)
 
 returns-then-j-i : tie.Need-returns-then-j-i
 returns-then-j-i c =
-    let start = c in
-    let x = start.args in
+    let x = c.args in
     rw (le-leb x.j x.i (omega arith)) (ap (nth x.v.now) c.lower_field-at.ensures)
 
 returns : tie.Need-returns
 returns c =
-    let start = c in
-    let x = start.args in
+    let x = c.args in
     rw (lt-leb x.j x.i (omega arith)) (ap (nth x.v.now) c.lower_field-at-2.ensures)
 
 pub covariance_entry_spec : {M : Type 1} → statement M

@@ -17,4 +17,4 @@ unfolding fields
 returns c = let x = c.args in rw (le-leb (fields x.d) (length x.v.now) (omega arith)) c.is_matrix.ensures
 
 pub is_track_spec : {M : Type 1} → statement M
-is_track_spec = tie.close (tie.spec (λ c κs. search rules) returns-then-v-lower_field (λ c κs. let start = c in square-size start.args.d start.requires) returns)
+is_track_spec = tie.close (tie.spec (λ c κs. search rules) returns-then-v-lower_field (λ c κs. square-size c.args.d c.requires) returns)

@@ -34,7 +34,6 @@ returns-then-not-is_track c = rw (sided c.before.before, unmet c.is_track.ensure
 
 track_covariance-requires : tie.Need-track_covariance-requires
 track_covariance-requires c κs =
-    let two = c in
     let x = (start_of c.before).args in
     record {
       track = record {
@@ -47,9 +46,7 @@ track_covariance-requires c κs =
 returns : tie.Need-returns
 unfolding whole_covariance
 returns c =
-    let mirrored = c in
-    let two = mirrored in
-    rw (sided c.before.before.before.before.before.before, shaped c.before.before.before.before) (done mirrored.track_covariance.ensures)
+    rw (sided c.before.before.before.before.before.before, shaped c.before.before.before.before) (done c.track_covariance.ensures)
 
 pub whole_covariance_spec : {M : Type 1} → statement M
 whole_covariance_spec =

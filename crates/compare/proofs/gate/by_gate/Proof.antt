@@ -14,13 +14,11 @@ bounded c = sym c.is_finite.ensures ∙ c.if-is_finite.true
 returns-then-not-d2 : tie.Need-returns-then-not-d2
 unfolding by_gate
 returns-then-not-d2 c =
-    let positive = c in
-    let then1 = positive in
-    rw (bounded c.before.before, positive.if-not-d2.true) c.near_or_far.ensures
+    rw (bounded c.before.before, c.if-not-d2.true) c.near_or_far.ensures
 
 returns-then-is_finite : tie.Need-returns-then-is_finite
 unfolding by_gate
-returns-then-is_finite c = let then1 = c in rw (bounded c.before, c.if-not-d2.false)
+returns-then-is_finite c = rw (bounded c.before, c.if-not-d2.false)
 
 returns : tie.Need-returns
 unfolding by_gate

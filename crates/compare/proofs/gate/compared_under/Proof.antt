@@ -11,16 +11,13 @@ entered c = c.before.before.before.before
 
 returns-in-Refused : tie.Need-returns-in-Refused
 returns-in-Refused c =
-    let measured = c in
     let x = (entered c.before).args in
-    no_distance x.gate (distance x.x.now x.mu.now x.cov.now x.n) measured.distance.ensures c.in-Refused.is
+    no_distance x.gate (distance x.x.now x.mu.now x.cov.now x.n) c.distance.ensures c.in-Refused.is
 
 returns-in-Value : tie.Need-returns-in-Value
 returns-in-Value c =
-    let known = c in
-    let measured = known in
     let x = (entered c.before.before).args in
-    distance-by_gate x.gate (distance x.x.now x.mu.now x.cov.now x.n) measured.distance.ensures known.in-Value.is c.by_gate.ensures
+    distance-by_gate x.gate (distance x.x.now x.mu.now x.cov.now x.n) c.distance.ensures c.in-Value.is c.by_gate.ensures
 
 pub compared_under_spec : {M : Type 1} → statement M
 compared_under_spec = tie.close (tie.spec (λ c κs. search rules) (λ c. search rules) (λ c. search rules) (λ c κs. search rules) returns-in-Refused returns-in-Value)

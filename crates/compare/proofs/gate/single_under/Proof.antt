@@ -12,16 +12,13 @@ entered c = c.before
 
 returns-in-Refused : tie.Need-returns-in-Refused
 returns-in-Refused c =
-    let measured = c in
     let x = (entered c.before).args in
-    no_distance x.gate (distance (x.x ∷ []) (x.mu ∷ []) (x.cov ∷ []) 1) measured.single_distance.ensures c.in-Refused.is
+    no_distance x.gate (distance (x.x ∷ []) (x.mu ∷ []) (x.cov ∷ []) 1) c.single_distance.ensures c.in-Refused.is
 
 returns-in-Value : tie.Need-returns-in-Value
 returns-in-Value c =
-    let known = c in
-    let measured = known in
     let x = (entered c.before.before).args in
-    distance-by_gate x.gate (distance (x.x ∷ []) (x.mu ∷ []) (x.cov ∷ []) 1) measured.single_distance.ensures known.in-Value.is c.by_gate.ensures
+    distance-by_gate x.gate (distance (x.x ∷ []) (x.mu ∷ []) (x.cov ∷ []) 1) c.single_distance.ensures c.in-Value.is c.by_gate.ensures
 
 pub single_under_spec : {M : Type 1} → statement M
 single_under_spec = tie.close (tie.spec (λ c κs. search rules) (λ c. search rules) (λ c. search rules) (λ c κs. search rules) returns-in-Refused returns-in-Value)

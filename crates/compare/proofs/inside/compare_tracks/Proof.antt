@@ -20,10 +20,9 @@ lone c =
 
 returns-then-n-eq1 : tie.Need-returns-then-n-eq1
 returns-then-n-eq1 c =
-    let one = c in
     let x = (entered c.before.before.before.before.before).args in
     let h = lone c.before.before.before.before.before in
-    rw one.if-n-eq1.true
+    rw c.if-n-eq1.true
     (c.single.ensures ∙ single-tracks x.mu.now x.x.now x.p_i.now x.p_j.now x.floor x.gate h.state-i h.state-j h.covariance-i h.covariance-j)
 
 pub compare_tracks_spec : {M : Type 1} → statement M

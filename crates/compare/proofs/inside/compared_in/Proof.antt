@@ -31,15 +31,13 @@ repairs c = let x = (entered c).args in c.repair-repaired.ensures ∙ ap (λ (s 
 
 compared_after-requires : tie.Need-compared_after-requires
 compared_after-requires c κs =
-    let repaired = c in
     let start = entered c.before.before in
     let h = start.requires.0 in
     let n = start.args.n in
-    (record { first = h.state-j; second = h.state-i; square = repaired.repair-repaired.auto.out ∙ start.requires.2 }, side_high n h.sided)
+    (record { first = h.state-j; second = h.state-i; square = c.repair-repaired.auto.out ∙ start.requires.2 }, side_high n h.sided)
 
 returns : tie.Need-returns
 returns c =
-    let repaired = c in
     let x = (entered c.before.before.before).args in
     with_report x.mu.now x.x.now x.n x.terms.gate x.p.now x.q.now x.r.now x.terms.floor (repairs c.before.before.before) c.compared_after.ensures
 

@@ -15,7 +15,7 @@ size : (c : tie.After-shared_slice_known-4-1) → (entered c).args.n * (entered 
 size c = square_area (entered c).args.n (entered c).requires.sided
 
 compared_in-requires : tie.Need-compared_in-requires
-compared_in-requires c κs = let known = c in ((entered c.before.before).requires, length-take-le _ _ (size c.before.before), length-take-le _ _ (size c.before.before))
+compared_in-requires c κs = ((entered c.before.before).requires, length-take-le _ _ (size c.before.before), length-take-le _ _ (size c.before.before))
 
 pub large_spec : {M : Type 1} → statement M
 large_spec =

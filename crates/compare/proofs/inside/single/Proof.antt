@@ -15,14 +15,12 @@ use Rattle.compare.proofs.inside.single.Tie as tie
 
 returns : tie.Need-returns
 returns c =
-    let rebuilt = c in
-    let answered = rebuilt in
-    let x = answered.args in
+    let x = c.args in
     let cov = single_rebuilt x.terms.floor (add x.p x.q) in
-    let answer = answered.single_answer-repaired.result.answer in
+    let answer = c.single_answer-repaired.result.answer in
     with_report (x.mu ∷ []) (x.x ∷ []) 1 x.terms.gate (x.p ∷ []) (x.q ∷ []) (cov ∷ []) x.terms.floor
-    (ap (λ (a : Repaired). (a, cov ∷ [])) answered.single_answer-repaired.ensures ∙ single-joint x.p x.q x.terms.floor)
-    (c.single_after.ensures ∙ ap (λ (s : Float). comparison_of (after_written answer (distance (x.x ∷ []) (x.mu ∷ []) (s ∷ []) 1)) x.terms.gate) rebuilt.single_rebuilt-cov.ensures)
+    (ap (λ (a : Repaired). (a, cov ∷ [])) c.single_answer-repaired.ensures ∙ single-joint x.p x.q x.terms.floor)
+    (c.single_after.ensures ∙ ap (λ (s : Float). comparison_of (after_written answer (distance (x.x ∷ []) (x.mu ∷ []) (s ∷ []) 1)) x.terms.gate) c.single_rebuilt-cov.ensures)
 
 pub single_spec : {M : Type 1} → statement M
 single_spec = tie.close (tie.spec (λ c κs. search rules) (λ c κs. search rules) (λ c κs. search rules) returns)

@@ -15,7 +15,7 @@ size : (c : tie.After-shared_slice_known-4-1) → (entered c).args.n * (entered 
 size c = small_size (entered c).args.n (entered c).requires.1
 
 compared_in-requires : tie.Need-compared_in-requires
-compared_in-requires c κs = let known = c in ((entered c.before.before).requires.0, length-take-le _ _ (size c.before.before), length-take-le _ _ (size c.before.before))
+compared_in-requires c κs = ((entered c.before.before).requires.0, length-take-le _ _ (size c.before.before), length-take-le _ _ (size c.before.before))
 
 pub small_spec : {M : Type 1} → statement M
 small_spec =

@@ -17,12 +17,10 @@ fits c = row_fits c.loop-i.invariant c.loop-i-test.true
 
 covariance_row-requires : tie.Need-covariance_row-requires invariant-loop-i decreases-loop-i
 covariance_row-requires c κs =
-    let turn = c in
-    let held = turn in
-    record { track = held.requires.track; index = turn.loop-i-test.true; room = row-lent held.loop-i.invariant turn.loop-i-test.true }
+    record { track = c.requires.track; index = c.loop-i-test.true; room = row-lent c.loop-i.invariant c.loop-i-test.true }
 
 loop-i-preserved : tie.Need-loop-i-preserved invariant-loop-i decreases-loop-i
-loop-i-preserved c = let turn = c in row_written turn.loop-i.invariant turn.loop-i-test.true c.covariance_row.ensures
+loop-i-preserved c = row_written c.loop-i.invariant c.loop-i-test.true c.covariance_row.ensures
 
 returns : tie.Need-returns invariant-loop-i decreases-loop-i
 unfolding track_covariance

@@ -12,9 +12,7 @@ returns-then-not-is_vector-2 c = and_yes c.is_vector.ensures c.if-not-is_vector.
 
 returns : tie.Need-returns
 returns c =
-    let second = c in
-    let first = second in
-    and_yes first.is_vector.ensures second.if-not-is_vector.false (and_yes second.is_vector-2.ensures c.if-not-is_vector-2.false c.are_matrices.ensures)
+    and_yes c.is_vector.ensures c.if-not-is_vector.false (and_yes c.is_vector-2.ensures c.if-not-is_vector-2.false c.are_matrices.ensures)
 
 pub are_tracks_spec : {M : Type 1} → statement M
 are_tracks_spec = tie.close (tie.spec (λ c κs. search rules) returns-then-not-is_vector (λ c κs. search rules) returns-then-not-is_vector-2 (λ c κs. search rules) returns)

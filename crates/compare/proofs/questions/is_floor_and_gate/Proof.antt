@@ -28,20 +28,17 @@ returns-then-not-is_finite c = rw (unmet c.is_finite.ensures c.if-not-is_finite.
 returns-then-not-is_finite-2 : tie.Need-returns-then-not-is_finite-2
 unfolding floor_and_gate
 returns-then-not-is_finite-2 c =
-    let else1 = c in
-    rw (bounded c.before.before, unmet c.is_finite-2.ensures c.if-not-is_finite-2.true, and-false (lt nought else1.args.floor))
+    rw (bounded c.before.before, unmet c.is_finite-2.ensures c.if-not-is_finite-2.true, and-false (lt nought c.args.floor))
 
 returns-then-not-gate : tie.Need-returns-then-not-gate
 unfolding floor_and_gate
 returns-then-not-gate c =
-    let else2 = c in
     let x = (entered c.before).args in
     rw (bounded c.before.before.before, both_bounded c.before, c.if-not-gate.true, and-false (lt nought x.floor))
 
 returns : tie.Need-returns
 unfolding floor_and_gate
 returns c =
-    let else2 = c in
     let x = (entered c.before).args in
     rw (bounded c.before.before.before, both_bounded c.before, c.if-not-gate.false, and-true (lt nought x.floor))
 

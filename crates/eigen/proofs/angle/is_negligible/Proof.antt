@@ -7,9 +7,7 @@ use Rattle.eigen.proofs.angle.is_negligible.Tie as tie
 returns : tie.Need-returns
 unfolding negligible
 returns c =
-    let after-max = c in
-    let after-abs = after-max in
-    rw (c.abs-3.ensures, c.max-scale.ensures, after-max.max.ensures, after-max.abs-2.ensures, after-abs.abs.ensures)
+    rw (c.abs-3.ensures, c.max-scale.ensures, c.max.ensures, c.abs-2.ensures, c.abs.ensures)
 
 pub is_negligible_spec : {M : Type 1} → statement M
 is_negligible_spec =

@@ -13,25 +13,21 @@ lent_at {a = a} {x} {y} e = subst (λ (i : ℕ). Lent i a x y) e
 
 single_eigenpair-requires : tie.Need-single_eigenpair-requires
 single_eigenpair-requires c κs =
-    let start = c in
     let one = c.if-n-eq1.true in
-    lent_at one start.requires.1
+    lent_at one c.requires.1
 
 returns-then-n-eq1 : tie.Need-returns-then-n-eq1
 returns-then-n-eq1 c =
-    let called = c in
-    rw called.if-n-eq1.true called.single_eigenpair.ensures
+    rw c.if-n-eq1.true c.single_eigenpair.ensures
 
 plane_eigenpairs-requires : tie.Need-plane_eigenpairs-requires
 plane_eigenpairs-requires c κs =
-    let start = c in
     let two = c.if-n-eq2.true in
-    lent_at two start.requires.1
+    lent_at two c.requires.1
 
 returns-then-n-eq2 : tie.Need-returns-then-n-eq2
 returns-then-n-eq2 c =
-    let called = c in
-    rw called.if-n-eq2.true called.plane_eigenpairs.ensures
+    rw c.if-n-eq2.true c.plane_eigenpairs.ensures
 
 pub eigenpairs_spec : {M : Type 1} → statement M
 eigenpairs_spec =

@@ -17,7 +17,6 @@ size c = square-size (entered c).args.n (entered c).requires.0
 
 eigenpairs_in-requires : tie.Need-eigenpairs_in-requires
 eigenpairs_in-requires c κs =
-    let known = c in
     let x = entered c.before.before.before.before in
     (x.requires.0, length-take-le _ _ (size c.before.before.before.before), length-take-le _ _ (size c.before.before.before.before), x.requires.1)
 

@@ -45,11 +45,10 @@ returns-then-not-is_matrix c = rw (sided c.before.before, unmet c.is_matrix.ensu
 
 returns-then-not-is_form : tie.Need-returns-then-not-is_form
 unfolding mat_symmetric_eigen
-returns-then-not-is_form c = let else2 = c in rw (sided (first c.before.before), shaped c.before.before, unmet c.is_form.ensures c.if-not-is_form.true)
+returns-then-not-is_form c = rw (sided (first c.before.before), shaped c.before.before, unmet c.is_form.ensures c.if-not-is_form.true)
 
 eigenpairs-requires : tie.Need-eigenpairs-requires
 eigenpairs-requires c κs =
-    let else3 = c in
     let else2 = second c.before.before in
     let x = (entered (first else2)).args in
     let l = two-long x.values.now x.vectors.now x.n (x.n * x.n) (wide c.before.before) in (
@@ -60,9 +59,7 @@ eigenpairs-requires c κs =
 returns : tie.Need-returns
 unfolding mat_symmetric_eigen
 returns c =
-    let after-eigenpairs = c in
-    let else3 = after-eigenpairs in
-    rw (sided (first (second c.before.before.before.before.before.before.before)), shaped (second c.before.before.before.before.before.before.before), wide c.before.before.before.before.before.before.before) after-eigenpairs.eigenpairs.ensures
+    rw (sided (first (second c.before.before.before.before.before.before.before)), shaped (second c.before.before.before.before.before.before.before), wide c.before.before.before.before.before.before.before) c.eigenpairs.ensures
 
 pub mat_symmetric_eigen_spec : {M : Type 1} → statement M
 mat_symmetric_eigen_spec =

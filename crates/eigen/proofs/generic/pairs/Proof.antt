@@ -33,7 +33,6 @@ returns-then-not-are_finite c =
 
 arrange_values-requires : tie.Need-arrange_values-requires
 arrange_values-requires c κs =
-    let call = c in
     let read = measured (tested c.before.before.before) in
     let x = entered read in
     (read.diagonal.auto.e ∙ x.requires.0.values-room, ordered c.before.before.before, x.requires.1.values-size)
@@ -46,13 +45,11 @@ arrange_vectors-requires c κs =
 
 returns : tie.Need-returns
 returns c =
-    let after-arrange-vectors = c in
-    let after-arrange-values = after-arrange-vectors in
     let call = sorted c.before.before.before.before.before.before in
     let read = measured (tested call) in
     let x = (entered read).args in
     pairs_made x.n x.m.now x.v.now x.values.now x.vectors.now read.diagonal.ensures (tested call).are_finite.ensures
-    call.if-not-are_finite.false call.sort.ensures after-arrange-values.arrange_values.ensures after-arrange-vectors.arrange_vectors.ensures
+    call.if-not-are_finite.false call.sort.ensures c.arrange_values.ensures c.arrange_vectors.ensures
 
 pub pairs_spec : {M : Type 1} → statement M
 pairs_spec =

@@ -10,13 +10,12 @@ returns-then-not-is_finite c = let x = c.args in rw (single-eigenpairs x.a.now, 
 
 returns : tie.Need-returns
 returns c =
-    let start = c in
-    let x = start.args in
+    let x = c.args in
     rw (
       single-eigenpairs x.a.now,
       met c.is_finite.ensures c.if-not-is_finite.false,
-      single-stored x.values.now _ start.requires.values-size,
-      single-stored x.vectors.now _ start.requires.vectors-size,
+      single-stored x.values.now _ c.requires.values-size,
+      single-stored x.vectors.now _ c.requires.vectors-size,
     )
 
 pub single_eigenpair_spec : {M : Type 1} → statement M

@@ -41,19 +41,16 @@ overflow_mul-n c = let x = entered (symmetric c.before.before) in omega (arith, 
 
 sweep_until-requires : tie.Need-sweep_until-requires
 sweep_until-requires c κs =
-    let start-vectors = c in
     let made = symmetric c.before.before.before.before.before in
     let x = entered made in
     record {
       matrix-size = made.symmetrize.auto.m ∙ x.requires.1;
-      vectors-size = start-vectors.identity.auto.e ∙ x.requires.2;
+      vectors-size = c.identity.auto.e ∙ x.requires.2;
       symmetric = subst (Symmetric x.args.n) (sym made.symmetrize.ensures) (symmetrized-symmetric x.args.a.now x.args.n);
     }
 
 pairs-requires : tie.Need-pairs-requires
 pairs-requires c κs =
-    let known = c in
-    let call = known in
     let lent = (start_of c.before.before.before.before.before.before.before.before).requires.3 in (
       record {
         matrix-room = matrix-long c.before.before.before.before.before.before.before.before;
@@ -66,14 +63,12 @@ pairs-requires c κs =
 
 returns : tie.Need-returns
 returns c =
-    let last = c in
-    let call = last in
     let made = symmetric (identified c.before.before.before.before.before.before.before.before.before.before.before.before.before.before.before) in
     let x = (entered made).args in
     let ends =
-    swept-from x.a.now x.n made.symmetrize.ensures (identified c.before.before.before.before.before.before.before.before.before.before.before.before.before.before.before).identity.ensures call.tolerance-tol.ensures
-    call.sweep_until.ensures in
-    (answered-by x.a.now x.n x.values.now x.vectors.now ends last.pairs.ensures, ends)
+    swept-from x.a.now x.n made.symmetrize.ensures (identified c.before.before.before.before.before.before.before.before.before.before.before.before.before.before.before).identity.ensures c.tolerance-tol.ensures
+    c.sweep_until.ensures in
+    (answered-by x.a.now x.n x.values.now x.vectors.now ends c.pairs.ensures, ends)
 
 pub eigenpairs_in_spec : {M : Type 1} → statement M
 eigenpairs_in_spec =

@@ -18,11 +18,9 @@ decreases-loop-k v l n i y₀ k₀ y k = n - k
 entry-requires : tie.Need-entry-requires invariant-loop-k decreases-loop-k
 unfolding Below
 entry-requires c κs =
-    let at-loop = c in
-    let start = at-loop in
-    let x = start.args in
-    let k = at-loop.loop-k.k in
-    omega (arith, cell x.n x.n {i = index_at x.l.now k} {j = x.i} (start.requires.2.below k (omega arith)) start.requires.0)
+    let x = c.args in
+    let k = c.loop-k.k in
+    omega (arith, cell x.n x.n {i = index_at x.l.now k} {j = x.i} (c.requires.2.below k (omega arith)) c.requires.0)
 
 loop-k-preserved : tie.Need-loop-k-preserved invariant-loop-k decreases-loop-k
 loop-k-preserved c = entry-written c.loop-k.invariant c.loop-k-test.true c.entry.ensures

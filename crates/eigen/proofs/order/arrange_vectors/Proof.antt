@@ -18,12 +18,11 @@ fits c = row_fits c.loop-i.invariant c.loop-i-test.true
 
 arrange_row-requires : tie.Need-arrange_row-requires invariant-loop-i decreases-loop-i
 arrange_row-requires c κs =
-    let at-loop = c in
-    let pre = at-loop.requires in
-    (c.loop-i-test.true, pre.0, pre.1, row-lent at-loop.loop-i.invariant c.loop-i-test.true)
+    let pre = c.requires in
+    (c.loop-i-test.true, pre.0, pre.1, row-lent c.loop-i.invariant c.loop-i-test.true)
 
 loop-i-preserved : tie.Need-loop-i-preserved invariant-loop-i decreases-loop-i
-loop-i-preserved c = let turn = c in row_written turn.loop-i.invariant turn.loop-i-test.true c.arrange_row.ensures
+loop-i-preserved c = row_written c.loop-i.invariant c.loop-i-test.true c.arrange_row.ensures
 
 returns : tie.Need-returns invariant-loop-i decreases-loop-i
 returns c = every_row c.loop-i.invariant c.loop-i-test.false

@@ -26,13 +26,12 @@ loop-i-init c = record { after = c.requires.0; turns = omega arith; shifted = sh
 
 loop-i-preserved : tie.Need-loop-i-preserved invariant-loop-i decreases-loop-i
 loop-i-preserved c =
-    let at-loop = c in
-    let turn = at-loop.loop-i in
+    let turn = c.loop-i in
     let moved = turn.invariant.shifted in
     record {
       after = omega arith;
       turns = omega arith;
-      shifted = shifted_more at-loop.args.k turn.i (omega arith) (omega (arith, moved.size)) refl moved;
+      shifted = shifted_more c.args.k turn.i (omega arith) (omega (arith, moved.size)) refl moved;
     }
 
 shape_of-l : tie.Need-shape_of-l invariant-loop-i decreases-loop-i
@@ -40,10 +39,9 @@ shape_of-l c = length-set c.loop-i.l c.args.j _ ∙ c.loop-i.invariant.shifted.s
 
 returns : tie.Need-returns invariant-loop-i decreases-loop-i
 returns c =
-    let start = c in
-    let x = start.args in
+    let x = c.args in
     let end = le_antisymm c.loop-i-test.false c.loop-i.invariant.after in
-    inserted x.k x.j start.requires.0 start.requires.1 (subst (λ i. Shifted x.l.now x.k i c.loop-i.l) end c.loop-i.invariant.shifted)
+    inserted x.k x.j c.requires.0 c.requires.1 (subst (λ i. Shifted x.l.now x.k i c.loop-i.l) end c.loop-i.invariant.shifted)
 
 pub insert_spec : {M : Type 1} → statement M
 insert_spec =

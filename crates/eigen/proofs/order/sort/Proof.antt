@@ -37,26 +37,21 @@ loop-k-init c = record { turns = omega arith; size = c.requires.1; sorted = refl
 
 spot-j-requires : tie.Need-spot-j-requires invariant-loop-k decreases-loop-k
 spot-j-requires c κs =
-    let at-loop = c in
-    let turn = at-loop.loop-k in
+    let turn = c.loop-k in
     (omega arith, omega arith, front_below (values c.before) _ turn.k turn.l (omega arith) turn.invariant.sorted)
 
 insert-requires : tie.Need-insert-requires invariant-loop-k decreases-loop-k
 insert-requires c κs =
-    let at-loop = c in
-    (omega (arith, c.spot-j.ensures, spot-within (values c.before.before.before) at-loop.loop-k.l at-loop.loop-k.k), omega arith)
+    (omega (arith, c.spot-j.ensures, spot-within (values c.before.before.before) c.loop-k.l c.loop-k.k), omega arith)
 
 loop-k-preserved : tie.Need-loop-k-preserved invariant-loop-k decreases-loop-k
 loop-k-preserved c =
-    let after-insert = c in
-    let after-spot = after-insert in
-    let at-loop = after-spot in
-    let turn = at-loop.loop-k in
-    let call = after-insert.insert in
+    let turn = c.loop-k in
+    let call = c.insert in
     record {
       turns = omega arith;
       size = call.auto.l ∙ turn.invariant.size;
-      sorted = order_more (values c.before.before.before.before.before.before) turn.k turn.l _ turn.invariant.sorted after-spot.spot-j.ensures call.ensures;
+      sorted = order_more (values c.before.before.before.before.before.before) turn.k turn.l _ turn.invariant.sorted c.spot-j.ensures call.ensures;
     }
 
 shape_of-l : tie.Need-shape_of-l invariant-loop-k decreases-loop-k

@@ -29,10 +29,10 @@ value_at-requires c κs = (omega arith, c.requires.2 c.loop-j.j (omega arith))
 
 returns-then-value_at-e : tie.Need-returns-then-value_at-e invariant-loop-j decreases-loop-j
 unfolding spot
-returns-then-value_at-e c = let read = c in sym (stopped read.loop-j.invariant (omega arith) (rw read.value_at.ensures at c.if-value_at-e.true))
+returns-then-value_at-e c = sym (stopped c.loop-j.invariant (omega arith) (rw c.value_at.ensures at c.if-value_at-e.true))
 
 loop-j-preserved : tie.Need-loop-j-preserved invariant-loop-j decreases-loop-j
-loop-j-preserved c = let read = c in stands-next read.loop-j.invariant (omega arith) (rw read.value_at.ensures at c.if-value_at-e.false) refl
+loop-j-preserved c = stands-next c.loop-j.invariant (omega arith) (rw c.value_at.ensures at c.if-value_at-e.false) refl
 
 returns : tie.Need-returns invariant-loop-j decreases-loop-j
 unfolding spot

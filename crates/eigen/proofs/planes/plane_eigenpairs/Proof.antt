@@ -11,13 +11,10 @@ use Rattle.eigen.proofs.planes.plane_eigenpairs.Tie as tie
 
 returns : tie.Need-returns
 returns c =
-    let written = c in
-    let call = written in
-    let start = call in
-    let x = start.args in
-    written.write_plane.ensures
+    let x = c.args in
+    c.write_plane.ensures
     ∙ ap (λ (o : Outcome Eigenpairs). after_pairs o x.values.now x.vectors.now)
-    (call.eigenplane-p.ensures.1 ∙ ap (λ (l : List Float). eigenpairs l 2) (sym (four-list x.a.now start.requires.matrix-size)))
+    (c.eigenplane-p.ensures.1 ∙ ap (λ (l : List Float). eigenpairs l 2) (sym (four-list x.a.now c.requires.matrix-size)))
 
 pub plane_eigenpairs_spec : {M : Type 1} → statement M
 plane_eigenpairs_spec =

@@ -9,7 +9,7 @@ returns-then-is_negligible : tie.Need-returns-then-is_negligible
 returns-then-is_negligible c = rw (plane_rotated, sym c.is_negligible.ensures ∙ c.if-is_negligible.true)
 
 returns : tie.Need-returns
-returns c = let else1 = c in rw (plane_rotated, sym else1.is_negligible.ensures ∙ else1.if-is_negligible.false, c.turned_plane.ensures, c.rotation-g.ensures)
+returns c = rw (plane_rotated, sym c.is_negligible.ensures ∙ c.if-is_negligible.false, c.turned_plane.ensures, c.rotation-g.ensures)
 
 pub turn_spec : {M : Type 1} → statement M
 turn_spec = tie.close (tie.spec (λ c κs. search rules) returns-then-is_negligible (λ c κs. search rules) (λ c κs. search rules) returns)

@@ -12,19 +12,17 @@ returns-then-not-is_finite c = rw (unmet c.is_finite.ensures c.if-not-is_finite.
 
 returns-then-not-is_finite-2 : tie.Need-returns-then-not-is_finite-2
 unfolding plane_pairs
-returns-then-not-is_finite-2 c = let tested = c in rw (met tested.is_finite.ensures c.if-not-is_finite.false, unmet c.is_finite-2.ensures c.if-not-is_finite-2.true)
+returns-then-not-is_finite-2 c = rw (met c.is_finite.ensures c.if-not-is_finite.false, unmet c.is_finite-2.ensures c.if-not-is_finite-2.true)
 
 returns : tie.Need-returns
 unfolding plane_pairs
 returns c =
-    let start = c in
-    let tested = c in
-    let x = start.args in
+    let x = c.args in
     rw (
-      met tested.is_finite.ensures tested.if-not-is_finite.false,
-      met tested.is_finite-2.ensures c.if-not-is_finite-2.false,
-      two-stored x.values.now _ _ start.requires.0,
-      four-stored x.vectors.now _ _ _ _ start.requires.1,
+      met c.is_finite.ensures c.if-not-is_finite.false,
+      met c.is_finite-2.ensures c.if-not-is_finite-2.false,
+      two-stored x.values.now _ _ c.requires.0,
+      four-stored x.vectors.now _ _ _ _ c.requires.1,
     )
 
 pub write_plane_spec : {M : Type 1} → statement M

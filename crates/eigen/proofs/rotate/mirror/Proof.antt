@@ -26,22 +26,19 @@ loop-i-init c = (omega arith, mirror-none _ _ _ c.requires.0 c.requires.1)
 
 entry-x-requires : tie.Need-entry-x-requires invariant-loop-i decreases-loop-i
 entry-x-requires c κs =
-    let turn = c in
     let x = (entered c.before).args in
-    omega (arith, cell x.n x.n {i = x.p} {j = turn.loop-i.i} (omega arith) (omega arith), turn.loop-i.invariant.1.size)
+    omega (arith, cell x.n x.n {i = x.p} {j = c.loop-i.i} (omega arith) (omega arith), c.loop-i.invariant.1.size)
 
 put-requires : tie.Need-put-requires invariant-loop-i decreases-loop-i
 put-requires c κs = let turn = this-turn c.before in (omega arith, (entered turn).requires.0, turn.loop-i.invariant.1.size)
 
 loop-i-preserved : tie.Need-loop-i-preserved invariant-loop-i decreases-loop-i
 loop-i-preserved c =
-    let after-put = c in
-    let after-entry = after-put in
     let start = entered (this-turn c.before.before.before.before) in
     let turn = (this-turn c.before.before.before.before).loop-i in
     let x = start.args in
-    let old = after-entry.entry-x.ensures ∙ mirror-next x.n x.p x.m.now start.requires.0 turn.i (omega arith) turn.invariant.1 in
-    (omega arith, rw after-put.put.ensures (mirror_more x.n x.p x.m.now start.requires.0 turn.i (omega arith) old turn.invariant.1))
+    let old = c.entry-x.ensures ∙ mirror-next x.n x.p x.m.now start.requires.0 turn.i (omega arith) turn.invariant.1 in
+    (omega arith, rw c.put.ensures (mirror_more x.n x.p x.m.now start.requires.0 turn.i (omega arith) old turn.invariant.1))
 
 shape_of-m : tie.Need-shape_of-m invariant-loop-i decreases-loop-i
 shape_of-m c = c.loop-i.invariant.1.size ∙ sym (entered c.before).requires.1

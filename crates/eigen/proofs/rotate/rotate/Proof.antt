@@ -42,27 +42,22 @@ entry-aqq-requires c κs =
 
 returns-then-is_negligible : tie.Need-returns-then-is_negligible
 returns-then-is_negligible c =
-    let read = c in
     let x = (entered c.before.before).args in
-    skipped x.n x.p x.q x.m.now x.v.now read.entry-app.ensures read.entry-apq.ensures
-    read.entry-aqq.ensures c.is_negligible.ensures c.if-is_negligible.true
+    skipped x.n x.p x.q x.m.now x.v.now c.entry-app.ensures c.entry-apq.ensures
+    c.entry-aqq.ensures c.is_negligible.ensures c.if-is_negligible.true
 
 mirror-requires : tie.Need-mirror-requires
-mirror-requires c κs = let corners = c in (omega (arith, (start_of c.before.before.before).requires.0.ordered, (start_of c.before.before.before).requires.0.within), wide c.before.before.before)
+mirror-requires c κs = (omega (arith, (start_of c.before.before.before).requires.0.ordered, (start_of c.before.before.before).requires.0.within), wide c.before.before.before)
 
 mirror-requires-2 : tie.Need-mirror-requires-2
 mirror-requires-2 c κs =
-    let mirrored = c in
-    ((start_of (cornered c.before.before.before)).requires.0.within, mirrored.mirror.auto.m ∙ wide (cornered c.before.before.before))
+    ((start_of (cornered c.before.before.before)).requires.0.within, c.mirror.auto.m ∙ wide (cornered c.before.before.before))
 
 turn_rows-requires-2 : tie.Need-turn_rows-requires-2
 turn_rows-requires-2 c κs = let pre = (start_of (cornered c.before.before.before.before.before.before.before)).requires in (pre.0, pre.1.vectors-size)
 
 returns : tie.Need-returns
 returns c =
-    let last = c in
-    let mirror2 = last in
-    let mirrored = mirror2 in
     let corners = cornered c.before.before.before.before.before.before.before.before.before.before in
     let rows = rows-turned corners in
     let test = tested rows in
@@ -72,7 +67,7 @@ returns c =
     made x.n x.p x.q x.m.now x.v.now start.requires.0.ordered start.requires.0.within start.requires.1.symmetric
     read.entry-app.ensures read.entry-apq.ensures read.entry-aqq.ensures test.is_negligible.ensures
     rows.if-is_negligible.false rows.rotation-g.ensures rows.turn_rows.ensures corners.set_corners.ensures
-    mirrored.mirror.ensures mirror2.mirror-2.ensures last.turn_rows-2.ensures
+    c.mirror.ensures c.mirror-2.ensures c.turn_rows-2.ensures
 
 pub rotate_spec : {M : Type 1} → statement M
 rotate_spec =

@@ -43,13 +43,10 @@ loop-j-init c = (omega arith, let pre = c.requires in turn-none _ _ _ _ _ pre.0.
 
 put-requires-in-loop-j : tie.Need-put-requires-in-loop-j invariant-loop-j decreases-loop-j
 put-requires-in-loop-j c κs =
-    let after-put = c in
-    (omega arith, omega arith, after-put.put.auto.m ∙ (this-turn (read (read-both c.before.before.before.before.before))).loop-j.invariant.1.size)
+    (omega arith, omega arith, c.put.auto.m ∙ (this-turn (read (read-both c.before.before.before.before.before))).loop-j.invariant.1.size)
 
 loop-j-preserved : tie.Need-loop-j-preserved invariant-loop-j decreases-loop-j
 loop-j-preserved c =
-    let after-put2 = c in
-    let after-put = after-put2 in
     let both = read-both c.before.before.before.before.before.before.before.before in
     let at-loop = this-turn (read both) in
     let start = entered at-loop in
@@ -57,7 +54,7 @@ loop-j-preserved c =
     let at_p = (read both).entry-x.ensures ∙ old at-loop x.p (omega arith) (omega arith) in
     let at-q = both.entry-y.ensures ∙ old at-loop x.q (omega arith) (omega arith) in (
       omega arith,
-      rw (after-put2.put-in-loop-j.ensures, after-put.put.ensures)
+      rw (c.put-in-loop-j.ensures, c.put.ensures)
           (turn_more x.g x.n x.p x.q x.m.now start.requires.0.ordered start.requires.0.within at-loop.loop-j.j (omega arith) at_p at-q at-loop.loop-j.invariant.1),
     )
 

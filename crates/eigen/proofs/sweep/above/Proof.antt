@@ -20,14 +20,11 @@ loop-i-init c = (omega arith, refl)
 
 loop-i-preserved : tie.Need-loop-i-preserved invariant-loop-i decreases-loop-i
 loop-i-preserved c =
-    let at-loop = c in
-    let start = at-loop in
-    let x = start.args in (omega arith, above_more x.m.now x.n at-loop.loop-i.i at-loop.loop-i.invariant.1 c.above_row-s.ensures)
+    let x = c.args in (omega arith, above_more x.m.now x.n c.loop-i.i c.loop-i.invariant.1 c.above_row-s.ensures)
 
 returns : tie.Need-returns invariant-loop-i decreases-loop-i
 returns c =
-    let start = c in
-    let x = start.args in c.loop-i.invariant.1 ∙ ap (above_rows x.m.now x.n) (le_antisymm c.loop-i.invariant.0 c.loop-i-test.false)
+    let x = c.args in c.loop-i.invariant.1 ∙ ap (above_rows x.m.now x.n) (le_antisymm c.loop-i.invariant.0 c.loop-i-test.false)
 
 pub above_spec : {M : Type 1} → statement M
 above_spec = tie.close (tie.spec invariant-loop-i decreases-loop-i loop-i-init (λ c κs. omega arith) (λ c. omega arith) (λ c. omega arith) loop-i-preserved returns)

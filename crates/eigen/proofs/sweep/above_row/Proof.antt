@@ -28,8 +28,7 @@ loop-j-preserved c =
 
 returns : tie.Need-returns invariant-loop-j decreases-loop-j
 returns c =
-    let start = c in
-    let x = start.args in above_end x.start x.m.now x.n x.i c.loop-j.invariant.1 c.loop-j-test.false c.loop-j.invariant.2
+    let x = c.args in above_end x.start x.m.now x.n x.i c.loop-j.invariant.1 c.loop-j-test.false c.loop-j.invariant.2
 
 pub above_row_spec : {M : Type 1} → statement M
 above_row_spec = tie.close (tie.spec invariant-loop-j decreases-loop-j (λ c. omega arith) loop-j-init entry-x-requires (λ c. omega arith) (λ c. omega arith) loop-j-preserved returns)

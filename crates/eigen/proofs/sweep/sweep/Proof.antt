@@ -29,11 +29,9 @@ loop-p-init c = record { turns = omega arith; slices = c.requires; swept = refl 
 
 loop-p-preserved : tie.Need-loop-p-preserved invariant-loop-p decreases-loop-p
 loop-p-preserved c =
-    let after-sweep-row = c in
-    let at-loop = after-sweep-row in
     let n = (entered c.before.before.before.before.before.before.before.before).args.n in
-    let turn = at-loop.loop-p in
-    let call = after-sweep-row.sweep_row in
+    let turn = c.loop-p in
+    let call = c.sweep_row in
     record {
       turns = omega arith;
       slices = slices_row turn.invariant.slices call.auto.m call.auto.v turn.p (n - suc turn.p) call.ensures;
@@ -42,8 +40,7 @@ loop-p-preserved c =
 
 returns : tie.Need-returns invariant-loop-p decreases-loop-p
 returns c =
-    let at-loop = c in
-    at-loop.loop-p.invariant.swept ∙ ap (swept_rows (entered c.before).args.n (first c.before)) (le_antisymm at-loop.loop-p.invariant.turns c.loop-p-test.false)
+    c.loop-p.invariant.swept ∙ ap (swept_rows (entered c.before).args.n (first c.before)) (le_antisymm c.loop-p.invariant.turns c.loop-p-test.false)
 
 pub sweep_spec : {M : Type 1} → statement M
 sweep_spec =

@@ -24,18 +24,16 @@ abbrev first : tie.Start invariant-loop-q decreases-loop-q → State
 first c = state_of c.args.n c.args.m.now c.args.v.now
 
 loop-q-init : tie.Need-loop-q-init invariant-loop-q decreases-loop-q
-loop-q-init c = let start = c in record { after = omega arith; turns = omega arith; slices = start.requires.1; swept = row-none start.args.n start.args.p (first c.before.before) }
+loop-q-init c = record { after = omega arith; turns = omega arith; slices = c.requires.1; swept = row-none c.args.n c.args.p (first c.before.before) }
 
 rotate-requires : tie.Need-rotate-requires invariant-loop-q decreases-loop-q
 rotate-requires c κs = let held = c.loop-q.invariant in (record { ordered = held.after; within = omega arith }, held.slices)
 
 loop-q-preserved : tie.Need-loop-q-preserved invariant-loop-q decreases-loop-q
 loop-q-preserved c =
-    let after-rotate = c in
-    let at-loop = after-rotate in
     let start = entered c.before.before.before.before.before.before.before.before in
-    let turn = at-loop.loop-q in
-    let call = after-rotate.rotate in
+    let turn = c.loop-q in
+    let call = c.rotate in
     record {
       after = omega arith;
       turns = omega arith;
@@ -45,10 +43,9 @@ loop-q-preserved c =
 
 returns : tie.Need-returns invariant-loop-q decreases-loop-q
 returns c =
-    let at-loop = c in
     let start = entered c.before in
     let x = start.args in
-    at-loop.loop-q.invariant.swept ∙ ap (λ q. swept_row x.n x.p (first start) (q - suc x.p)) (le_antisymm at-loop.loop-q.invariant.turns c.loop-q-test.false)
+    c.loop-q.invariant.swept ∙ ap (λ q. swept_row x.n x.p (first start) (q - suc x.p)) (le_antisymm c.loop-q.invariant.turns c.loop-q-test.false)
 
 pub sweep_row_spec : {M : Type 1} → statement M
 sweep_row_spec =

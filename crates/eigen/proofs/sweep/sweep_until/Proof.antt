@@ -40,12 +40,10 @@ kept_v c = c.loop-k.invariant.0.vectors-size ∙ sym (entered c).requires.vector
 
 loop-k-preserved : tie.Need-loop-k-preserved invariant-loop-k decreases-loop-k
 loop-k-preserved c =
-    let after-sweep = c in
-    let else1 = after-sweep in
     let held = (this-turn c.before.before.before.before.before.before.before.before).loop-k.invariant in
-    let call = after-sweep.sweep in (
+    let call = c.sweep in (
       slices_swept held.0 call.auto.m call.auto.v call.ensures,
-      next-sweep held.1 (omega arith) (sym (tested c.before.before.before.before.before.before.before.before) ∙ else1.if-above-tol.false) call.ensures,
+      next-sweep held.1 (omega arith) (sym (tested c.before.before.before.before.before.before.before.before) ∙ c.if-above-tol.false) call.ensures,
     )
 
 pub sweep_until_spec : {M : Type 1} → statement M

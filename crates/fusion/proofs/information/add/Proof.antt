@@ -17,9 +17,8 @@ decreases-loop-i x n y₀ i₀ y i = n - i
 
 loop-i-preserved : tie.Need-loop-i-preserved invariant-loop-i decreases-loop-i
 loop-i-preserved c =
-    let held = c in
-    let inv = held.loop-i.invariant in
-    entry-written inv c.loop-i-test.true (ap (λ (v : Float). add v (nth held.args.x.now held.loop-i.i)) (entry_old inv))
+    let inv = c.loop-i.invariant in
+    entry-written inv c.loop-i-test.true (ap (λ (v : Float). add v (nth c.args.x.now c.loop-i.i)) (entry_old inv))
 
 returns : tie.Need-returns invariant-loop-i decreases-loop-i
 returns c = every_entry c.loop-i.invariant c.loop-i-test.false

@@ -33,7 +33,6 @@ inverted : (c : tie.After-is_done)
     → let x = (start_of c).args in
     Gives (inverse (track_covariance x.d x.v.now) x.d) c.is_done.result c.mat_inv.new.out
 inverted c =
-    let call = c in
     let written = covered c.before.before.before in
     let start = start_of c in
     let x = start.args in
@@ -42,7 +41,7 @@ inverted c =
       sym written.track_covariance.ensures,
       sym (inverse_asked x.d p x.m.now start.requires.0.sided (written.track_covariance.auto.out ∙ start.requires.1) start.requires.2.matrix),
     )
-    (call_gives (mat_inv p x.d x.m.now) x.m.now call.mat_inv.ensures c.is_done.ensures)
+    (call_gives (mat_inv p x.d x.m.now) x.m.now c.mat_inv.ensures c.is_done.ensures)
 
 track_covariance-requires : tie.Need-track_covariance-requires
 unfolding fields
@@ -62,15 +61,13 @@ state-long c = length-take-le c.args.d c.args.v.now (omega (arith, c.requires.0.
 returns : tie.Need-returns
 unfolding information_of
 returns c =
-    let call = c in
-    let done = call in
     let start = start_of c.before.before.before.before.before in
     let x = start.args in
-    let inv = done.mat_inv in
+    let inv = c.mat_inv in
     let m = inv.new.out in
     let met = times_asked x.d m (take x.d x.v.now) x.y.now start.requires.0.sided (inv.auto.out ∙ start.requires.2.matrix) (state-long start) start.requires.2.vector in
-    rw ((inverted c.before.before.before.before.before).one call.if-not-is_done.false)
-    (gives_one (ap (λ (y : List Float). answered (information m y)) (sym (call_leaves (mat_vec_mul m (take x.d x.v.now) x.d x.y.now) x.y.now met call.mat_vec_mul.ensures))))
+    rw ((inverted c.before.before.before.before.before).one c.if-not-is_done.false)
+    (gives_one (ap (λ (y : List Float). answered (information m y)) (sym (call_leaves (mat_vec_mul m (take x.d x.v.now) x.d x.y.now) x.y.now met c.mat_vec_mul.ensures))))
 
 pub information_spec : {M : Type 1} → statement M
 information_spec =

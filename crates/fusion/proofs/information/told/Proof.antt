@@ -31,7 +31,6 @@ side c = side_high (entered c).args.d (entered c).requires.0.sided
 
 both-requires : tie.Need-both-requires
 both-requires c κs =
-    let known = c in
     let pre = (entered c.before.before.before.before.before).requires in (
       pre.1,
       pre.2,

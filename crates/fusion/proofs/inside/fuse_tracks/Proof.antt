@@ -33,7 +33,6 @@ side c = side_high (entered c).args.d (entered c).requires.of_base.sided
 
 told-requires : tie.Need-told-requires
 told-requires c κs =
-    let known = c in
     let pre = (entered c.before.before).requires in
     (pre.of_base, pre.of_ours, pre.of_theirs, record { matrix = length-take-le _ _ (square c.before.before); vector = length-take-le _ _ (side c.before.before) })
 
@@ -59,16 +58,14 @@ write_told-requires c κs =
 
 returns : tie.Need-returns
 returns c =
-    let call = c in
-    let e = call in
     let made = first c.before.before.before.before.before.before.before in
     let w = made.told in
     let known = lent made in
     let x = (entered known).args in
     let matrix = take_at w.new.m _ (size known) (w.auto.m ∙ length-take-le _ _ (square known)) in
     let vector = take_at w.new.y _ x.d (w.auto.y ∙ length-take-le _ _ (side known)) in
-    rw (by-told x.d x.floor x.base.now x.ours.now x.theirs.now, w.ensures.one e.if-not-told.false)
-    (call.write_told.ensures ∙ (λ z. left_by (step (estimate_from x.d x.floor (information (matrix z) (vector z))) (if_finite x.d)) x.out.now))
+    rw (by-told x.d x.floor x.base.now x.ours.now x.theirs.now, w.ensures.one c.if-not-told.false)
+    (c.write_told.ensures ∙ (λ z. left_by (step (estimate_from x.d x.floor (information (matrix z) (vector z))) (if_finite x.d)) x.out.now))
 
 pub fuse_tracks_spec : {M : Type 1} → statement M
 fuse_tracks_spec =

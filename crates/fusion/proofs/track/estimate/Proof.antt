@@ -58,21 +58,18 @@ returns-then-not-is_done-2 c =
 returns : tie.Need-returns
 unfolding estimate_from
 returns c =
-    let call = c in
-    let symmetrized = call in
-    let both = symmetrized in
     let solve = solving c.before.before.before.before.before.before.before.before.before.before in
     let start = entered (first solve.before) in
     let x = start.args in
     let inv = (second c.before.before.before.before.before.before.before.before.before.before).mat_inv in
     let p = inv.new.out in
-    let n = symmetrized.mat_symmetrize.new.out in
+    let n = c.mat_symmetrize.new.out in
     let long = inv.auto.out ∙ start.requires.3.matrix in
-    let part = call_leaves (mat_symmetrize p x.d x.n.now) x.n.now (symmetric_asked x.d p x.n.now start.requires.0 long start.requires.2) symmetrized.mat_symmetrize.ensures in
-    let asked = repair_asked x.d n p start.requires.0 (symmetrized.mat_symmetrize.auto.out ∙ start.requires.2) long x.floor in
-    rw ((state solve.before).one solve.if-not-is_done.false, (inverted c.before.before.before.before.before.before.before.before.before.before).one both.if-not-is_done-2.false)
+    let part = call_leaves (mat_symmetrize p x.d x.n.now) x.n.now (symmetric_asked x.d p x.n.now start.requires.0 long start.requires.2) c.mat_symmetrize.ensures in
+    let asked = repair_asked x.d n p start.requires.0 (c.mat_symmetrize.auto.out ∙ start.requires.2) long x.floor in
+    rw ((state solve.before).one solve.if-not-is_done.false, (inverted c.before.before.before.before.before.before.before.before.before.before).one c.if-not-is_done-2.false)
     (repair_gives (estimate (first solve.before).mat_solve.new.out) (repair (symmetric_part p x.d) x.floor x.d) p
-    (call.nearest_psd-repaired.ensures ∙ ap (λ (o : Outcome Repair). after_repair o p) (asked ∙ ap (λ (q : List Float). repair q x.floor x.d) part))
+    (c.nearest_psd-repaired.ensures ∙ ap (λ (o : Outcome Repair). after_repair o p) (asked ∙ ap (λ (q : List Float). repair q x.floor x.d) part))
     c.is_done-3.ensures)
 
 pub estimate_spec : {M : Type 1} → statement M

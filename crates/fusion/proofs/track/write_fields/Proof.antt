@@ -35,10 +35,10 @@ row_lies : (c : tie.In-loop-i invariant-loop-i decreases-loop-i) → let x = (en
 row_lies c = let start = entered c.before in omega (arith, row_within start.args.d start.args.d c.loop-i-test.true, start.requires.1.matrix)
 
 copy-requires : tie.Need-copy-requires invariant-loop-i decreases-loop-i
-copy-requires c κs = let start = c in (start.requires.1.vector, length-take-le _ _ (state-fits c.before.before.before.before))
+copy-requires c κs = (c.requires.1.vector, length-take-le _ _ (state-fits c.before.before.before.before))
 
 loop-i-init : tie.Need-loop-i-init invariant-loop-i decreases-loop-i
-loop-i-init c = let start = c in no_rows start.args.out.now start.requires.1 start.requires.0.long c.copy.ensures
+loop-i-init c = no_rows c.args.out.now c.requires.1 c.requires.0.long c.copy.ensures
 
 copy-requires-in-loop-i : tie.Need-copy-requires-in-loop-i invariant-loop-i decreases-loop-i
 copy-requires-in-loop-i c κs =
@@ -47,9 +47,7 @@ copy-requires-in-loop-i c κs =
 
 loop-i-preserved : tie.Need-loop-i-preserved invariant-loop-i decreases-loop-i
 loop-i-preserved c =
-    let call = c in
-    let turn = call in
-    row_written turn.loop-i.invariant turn.loop-i-test.true (call.copy-in-loop-i.ensures ∙ call.part.ensures.1)
+    row_written c.loop-i.invariant c.loop-i-test.true (c.copy-in-loop-i.ensures ∙ c.part.ensures.1)
 
 returns : tie.Need-returns invariant-loop-i decreases-loop-i
 returns c = every_row c.loop-i.invariant c.loop-i-test.false

@@ -25,9 +25,7 @@ returns-then-not-are_finite-2 c = rw (finite-state c.before.before, unmet c.are_
 returns : tie.Need-returns
 unfolding is_finite
 returns c =
-    let call = c in
-    let finite = call in
-    rw (finite-state c.before.before.before.before.before.before, met finite.are_finite-2.ensures finite.if-not-are_finite-2.false) (ap (λ (v : List Float). (true, v)) call.write_fields.ensures)
+    rw (finite-state c.before.before.before.before.before.before, met c.are_finite-2.ensures c.if-not-are_finite-2.false) (ap (λ (v : List Float). (true, v)) c.write_fields.ensures)
 
 pub write_finite_spec : {M : Type 1} → statement M
 write_finite_spec =

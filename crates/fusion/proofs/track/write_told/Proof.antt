@@ -32,7 +32,6 @@ side c = side_high (entered c).args.d (entered c).requires.0.sided
 
 estimate-requires : tie.Need-estimate-requires
 estimate-requires c κs =
-    let known = c in
     let pre = (entered c.before.before.before).requires in
     (pre.0.sided, pre.1, length-take-le _ _ (square c.before.before.before), record { matrix = length-take-le _ _ (square c.before.before.before); vector = length-take-le _ _ (side c.before.before.before) })
 
@@ -55,15 +54,13 @@ write_finite-requires c κs =
 
 returns : tie.Need-returns
 returns c =
-    let call = c in
-    let e = call in
     let made = first c.before.before.before.before.before.before.before in
     let w = made.estimate in
     let known = lent made in
     let x = (entered known).args in
     let state = take_at w.new.x _ x.d (w.auto.x ∙ length-take-le _ _ (side known)) in
     let covariance = take_at w.new.p _ (size known) (w.auto.p ∙ length-take-le _ _ (square known)) in
-    rw (w.ensures.one e.if-not-estimate.false) (call.write_finite.ensures ∙ (λ z. left_by (if_finite x.d (estimate (state z) (covariance z))) x.out.now))
+    rw (w.ensures.one c.if-not-estimate.false) (c.write_finite.ensures ∙ (λ z. left_by (if_finite x.d (estimate (state z) (covariance z))) x.out.now))
 
 pub write_told_spec : {M : Type 1} → statement M
 write_told_spec =

@@ -32,7 +32,7 @@ size : (c : tie.Else-not-factor_rows) (rest : List Float) → let x = (start c).
 size c rest = let x = (start c).args in ap length (made c rest) ∙ length-factor x.a.now x.n x.n (le_refl _)
 
 factor_rows-requires : tie.Need-factor_rows-requires
-factor_rows-requires c κs = let start = c in (start.requires.1, zeros-front (start.args.n * start.args.n) 256 start.requires.0)
+factor_rows-requires c κs = (c.requires.1, zeros-front (c.args.n * c.args.n) 256 c.requires.0)
 
 returns-then-not-factor_rows : tie.Need-returns-then-not-factor_rows
 returns-then-not-factor_rows c = (sym (unmet c.factor_rows.ensures.answers c.if-not-factor_rows.true), λ e. never e, λ _. refl)
@@ -41,13 +41,11 @@ slice_bounds-l-end-2 : tie.Need-slice_bounds-l-end-2
 slice_bounds-l-end-2 c = let n = (start c).args.n in omega (arith, length_front _ (called c).factor_rows.new.l (n * n) (called c).factor_rows.auto.l)
 
 copy-requires : tie.Need-copy-requires
-copy-requires c κs = let else1 = c in (size c.before.before _, (start c.before.before).requires.2)
+copy-requires c κs = (size c.before.before _, (start c.before.before).requires.2)
 
 returns : tie.Need-returns
 returns c =
-    let after-copy = c in
-    let else1 = after-copy in
-    (sym (met (called c.before.before.before.before.before).factor_rows.ensures.answers else1.if-not-factor_rows.false), λ _. after-copy.copy.ensures ∙ made c.before.before.before.before.before _, λ e. never (sym e))
+    (sym (met (called c.before.before.before.before.before).factor_rows.ensures.answers c.if-not-factor_rows.false), λ _. c.copy.ensures ∙ made c.before.before.before.before.before _, λ e. never (sym e))
 
 pub cholesky_spec : {M : Type 1} → statement M
 cholesky_spec =

@@ -52,12 +52,11 @@ returns-then-not-is_pivot c = record { answers = sym (ap is_pivot (sym (pivot_of
 
 returns : tie.Need-returns
 returns c =
-    let tested = c in
     let m = made c.before.before in
     let x = (entered m).args in
     let l = m.left_entries.new.l in
     record {
-      answers = sym (ap is_pivot (sym (pivot_of c.before.before)) ∙ met tested.is_pivot.ensures c.if-not-is_pivot.false);
+      answers = sym (ap is_pivot (sym (pivot_of c.before.before)) ∙ met c.is_pivot.ensures c.if-not-is_pivot.false);
       reached = λ _. row_more x.a.now l x.n x.i (size m) (entered m).requires.row _ (c.sqrt.ensures ∙ ap sqrt (pivot_of c.before.before)) m.left_entries.ensures;
     }
 

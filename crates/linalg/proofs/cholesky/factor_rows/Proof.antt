@@ -45,30 +45,26 @@ pivots c = let x = (start (turn c)).args in definite-suc x.a.now x.n (turn c).lo
 loop-i-init : tie.Need-loop-i-init invariant-loop-i decreases-loop-i
 unfolding definite factor
 loop-i-init c =
-    let start = c in
-    let none = subst (λ (z : List Float). Padded [] z) (sym start.requires.1) (padded_none (start.args.n * start.args.n)) in
+    let none = subst (λ (z : List Float). Padded [] z) (sym c.requires.1) (padded_none (c.args.n * c.args.n)) in
     record { turns = omega arith; size = refl; pivots = refl; rows = none }
 
 factor_row-requires : tie.Need-factor_row-requires invariant-loop-i decreases-loop-i
 factor_row-requires c κs =
-    let l = c in
-    let inv = l.loop-i.invariant in
+    let inv = c.loop-i.invariant in
     record { row = omega arith; matrix = (start c.before.before).requires.0; room = inv.size ∙ whole (start c.before.before); rows = inv.rows }
 
 shape_of-l-then-not-factor_row : tie.Need-shape_of-l-then-not-factor_row invariant-loop-i decreases-loop-i
-shape_of-l-then-not-factor_row c = let row = c in row.factor_row.auto.l ∙ (turn c.before.before.before).loop-i.invariant.size
+shape_of-l-then-not-factor_row c = c.factor_row.auto.l ∙ (turn c.before.before.before).loop-i.invariant.size
 
 returns-then-not-factor_row : tie.Need-returns-then-not-factor_row invariant-loop-i decreases-loop-i
 returns-then-not-factor_row c =
-    let row = c in
     let x = (start (turn c.before.before.before)).args in
     record { answers = sym (definite_never x.a.now x.n ((turn c.before.before.before).loop-i.i + 1) (omega arith) (pivots c.before.before.before ∙ c.if-not-factor_row.true)); reached = λ e. never e }
 
 loop-i-preserved : tie.Need-loop-i-preserved invariant-loop-i decreases-loop-i
 loop-i-preserved c =
-    let row = c in
-    let taken : row.factor_row.result ≡ true = c.if-not-factor_row.false in
-    record { turns = omega arith; size = row.factor_row.auto.l ∙ (turn c.before.before.before).loop-i.invariant.size; pivots = pivots c.before.before.before ∙ taken; rows = row.factor_row.ensures.reached taken }
+    let taken : c.factor_row.result ≡ true = c.if-not-factor_row.false in
+    record { turns = omega arith; size = c.factor_row.auto.l ∙ (turn c.before.before.before).loop-i.invariant.size; pivots = pivots c.before.before.before ∙ taken; rows = c.factor_row.ensures.reached taken }
 
 returns : tie.Need-returns invariant-loop-i decreases-loop-i
 returns c =

@@ -9,12 +9,10 @@ use Rattle.linalg.proofs.cholesky.inner.Tie as tie
 
 returns : tie.Need-returns
 returns c =
-    let after-part = c in
-    let start = after-part in
-    let x = start.args in
+    let x = c.args in
     c.dot.ensures
     ∙ sum_ext nought x.j _ _
-    (λ k h. rw (after-part.part.ensures.1, c.part-2.ensures.1, nth-part x.l.now (x.i * x.n) x.j k h, nth-part x.l.now (x.j * x.n) x.j k h))
+    (λ k h. rw (c.part.ensures.1, c.part-2.ensures.1, nth-part x.l.now (x.i * x.n) x.j k h, nth-part x.l.now (x.j * x.n) x.j k h))
 
 pub inner_spec : {M : Type 1} → statement M
 inner_spec = tie.close (tie.spec (λ c. omega arith) (λ c κs. omega arith) (λ c. omega arith) (λ c κs. omega arith) (λ c κs. omega arith) returns)

@@ -39,18 +39,14 @@ loop-j-init c = record { turns = omega arith; size = refl; entries = c.requires.
 
 loop-j-preserved : tie.Need-loop-j-preserved invariant-loop-j decreases-loop-j
 loop-j-preserved c =
-    let after-inner = c in
-    let after-entry = after-inner in
-    let at-loop = after-entry in
-    let start = at-loop in
-    let x = start.args in
-    let turn = at-loop.loop-j in
+    let x = c.args in
+    let turn = c.loop-j in
     record {
       turns = omega arith;
       size = simp length-set turn.invariant.size;
       entries =
-          left_more x.a.now turn.l x.n x.i (turn.invariant.size ∙ start.requires.room) start.requires.row turn.j _ (omega arith)
-          (rw (after-entry.entry.ensures, after-inner.inner.ensures, c.entry-in-loop-j.ensures)) turn.invariant.entries;
+          left_more x.a.now turn.l x.n x.i (turn.invariant.size ∙ c.requires.room) c.requires.row turn.j _ (omega arith)
+          (rw (c.entry.ensures, c.inner.ensures, c.entry-in-loop-j.ensures)) turn.invariant.entries;
     }
 
 shape_of-l : tie.Need-shape_of-l invariant-loop-j decreases-loop-j
@@ -58,8 +54,7 @@ shape_of-l c = c.loop-j.invariant.size
 
 returns : tie.Need-returns invariant-loop-j decreases-loop-j
 returns c =
-    let start = c in
-    let x = start.args in
+    let x = c.args in
     subst (λ (j : ℕ). Padded (with_left x.a.now x.n (factor x.a.now x.n x.i) x.i j) c.loop-j.l)
     (le_antisymm c.loop-j.invariant.turns c.loop-j-test.false) c.loop-j.invariant.entries
 

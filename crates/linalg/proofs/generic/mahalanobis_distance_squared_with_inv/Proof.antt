@@ -23,19 +23,15 @@ returns-then-not-is_distance c = rw (met c.is_side.ensures c.if-not-is_side.fals
 
 distance_with_inv-requires : tie.Need-distance_with_inv-requires
 distance_with_inv-requires c κs =
-    let else1 = c in
-    let start = else1 in
-    let x = start.args in
-    let s = met else1.is_side.ensures else1.if-not-is_side.false in
+    let x = c.args in
+    let s = met c.is_side.ensures c.if-not-is_side.false in
     let l = three-long x.x.now x.mu.now x.inv.now x.n x.n (x.n * x.n) (met c.is_distance.ensures c.if-not-is_distance.false) in
     (side_high x.n s, l.0, l.1, l.2)
 
 returns : tie.Need-returns
 unfolding distance_with_inv
 returns c =
-    let after-is-distance = c in
-    let after-is-side = after-is-distance in
-    rw (met after-is-side.is_side.ensures after-is-distance.if-not-is_side.false, met after-is-distance.is_distance.ensures c.if-not-is_distance.false) (value c.distance_with_inv.ensures)
+    rw (met c.is_side.ensures c.if-not-is_side.false, met c.is_distance.ensures c.if-not-is_distance.false) (value c.distance_with_inv.ensures)
 
 pub mahalanobis_distance_squared_with_inv_spec : {M : Type 1} → statement M
 mahalanobis_distance_squared_with_inv_spec = tie.close (tie.spec (λ c κs. search rules) returns-then-not-is_side is_distance-requires returns-then-not-is_distance distance_with_inv-requires returns)

@@ -19,25 +19,19 @@ are_matrices-requires c κs =
 
 returns-then-not-are_matrices : tie.Need-returns-then-not-are_matrices
 unfolding mat_ata
-returns-then-not-are_matrices c = let else1 = c in rw (met else1.are_sides.ensures else1.if-not-are_sides.false, unmet c.are_matrices.ensures c.if-not-are_matrices.true)
+returns-then-not-are_matrices c = rw (met c.are_sides.ensures c.if-not-are_sides.false, unmet c.are_matrices.ensures c.if-not-are_matrices.true)
 
 ata_by_width-requires : tie.Need-ata_by_width-requires
 ata_by_width-requires c κs =
-    let after-are-matrices = c in
-    let else1 = after-are-matrices in
-    let start = else1 in
-    let x = start.args in
-    let s = two-sides x.m x.n (met else1.are_sides.ensures else1.if-not-are_sides.false) in
-    let l = two-long x.a.now x.out.now (x.m * x.n) (x.n * x.n) (met after-are-matrices.are_matrices.ensures c.if-not-are_matrices.false) in
+    let x = c.args in
+    let s = two-sides x.m x.n (met c.are_sides.ensures c.if-not-are_sides.false) in
+    let l = two-long x.a.now x.out.now (x.m * x.n) (x.n * x.n) (met c.are_matrices.ensures c.if-not-are_matrices.false) in
     (side_high x.n s.1, l.0, l.1)
 
 returns : tie.Need-returns
 unfolding mat_ata
 returns c =
-    let after-ata-by-width = c in
-    let else2 = after-ata-by-width in
-    let else1 = else2 in
-    rw (met else1.are_sides.ensures else1.if-not-are_sides.false, met else2.are_matrices.ensures else2.if-not-are_matrices.false) (done after-ata-by-width.ata_by_width.ensures)
+    rw (met c.are_sides.ensures c.if-not-are_sides.false, met c.are_matrices.ensures c.if-not-are_matrices.false) (done c.ata_by_width.ensures)
 
 pub mat_ata_spec : {M : Type 1} → statement M
 mat_ata_spec =

@@ -16,39 +16,30 @@ are_matrices-requires c κs = two_squares c.args.n (met c.is_side.ensures c.if-n
 
 returns-then-not-are_matrices : tie.Need-returns-then-not-are_matrices
 unfolding mat_cholesky
-returns-then-not-are_matrices c = let else1 = c in rw (met else1.is_side.ensures else1.if-not-is_side.false, unmet c.are_matrices.ensures c.if-not-are_matrices.true)
+returns-then-not-are_matrices c = rw (met c.is_side.ensures c.if-not-is_side.false, unmet c.are_matrices.ensures c.if-not-are_matrices.true)
 
 cholesky-requires : tie.Need-cholesky-requires
 cholesky-requires c κs =
-    let after-are-matrices = c in
-    let else1 = after-are-matrices in
-    let start = else1 in
-    let x = start.args in
-    let s = met else1.is_side.ensures else1.if-not-is_side.false in
-    let l = two-long x.a.now x.out.now (x.n * x.n) (x.n * x.n) (met after-are-matrices.are_matrices.ensures c.if-not-are_matrices.false) in
+    let x = c.args in
+    let s = met c.is_side.ensures c.if-not-is_side.false in
+    let l = two-long x.a.now x.out.now (x.n * x.n) (x.n * x.n) (met c.are_matrices.ensures c.if-not-are_matrices.false) in
     (area x.n x.n s s, l.0, l.1)
 
 returns-then-not-cholesky : tie.Need-returns-then-not-cholesky
 unfolding mat_cholesky
 returns-then-not-cholesky c =
-    let after-cholesky = c in
-    let else2 = after-cholesky in
-    let else1 = else2 in
     rw (
-      met else1.is_side.ensures else1.if-not-is_side.false,
-      met else2.are_matrices.ensures else2.if-not-are_matrices.false,
-      unmet after-cholesky.cholesky.ensures.0 c.if-not-cholesky.true,
-    ) (kept (after-cholesky.cholesky.ensures.2 c.if-not-cholesky.true))
+      met c.is_side.ensures c.if-not-is_side.false,
+      met c.are_matrices.ensures c.if-not-are_matrices.false,
+      unmet c.cholesky.ensures.0 c.if-not-cholesky.true,
+    ) (kept (c.cholesky.ensures.2 c.if-not-cholesky.true))
 
 returns : tie.Need-returns
 unfolding mat_cholesky
 returns c =
-    let after-cholesky = c in
-    let else2 = after-cholesky in
-    let else1 = else2 in
     rw
-    (met else1.is_side.ensures else1.if-not-is_side.false, met else2.are_matrices.ensures else2.if-not-are_matrices.false, met after-cholesky.cholesky.ensures.0 c.if-not-cholesky.false)
-    (done (after-cholesky.cholesky.ensures.1 c.if-not-cholesky.false))
+    (met c.is_side.ensures c.if-not-is_side.false, met c.are_matrices.ensures c.if-not-are_matrices.false, met c.cholesky.ensures.0 c.if-not-cholesky.false)
+    (done (c.cholesky.ensures.1 c.if-not-cholesky.false))
 
 pub mat_cholesky_spec : {M : Type 1} → statement M
 mat_cholesky_spec =

@@ -34,9 +34,7 @@ norm-requires c κs = let x = c.args in long-length x.a.now (x.m * x.n) (met c.i
 returns : tie.Need-returns
 unfolding mat_frobenius
 returns c =
-    let after-is-matrix = c in
-    let after-are-sides = after-is-matrix in
-    rw (met after-are-sides.are_sides.ensures after-is-matrix.if-not-are_sides.false, met after-is-matrix.is_matrix.ensures c.if-not-is_matrix.false) (value c.norm.ensures)
+    rw (met c.are_sides.ensures c.if-not-are_sides.false, met c.is_matrix.ensures c.if-not-is_matrix.false) (value c.norm.ensures)
 
 pub mat_frobenius_spec : {M : Type 1} → statement M
 mat_frobenius_spec = tie.close (tie.spec (λ c κs. search rules) returns-then-not-are_sides is_matrix-requires returns-then-not-is_matrix overflow_mul-m norm-requires returns)

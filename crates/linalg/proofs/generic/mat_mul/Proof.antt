@@ -13,34 +13,26 @@ returns-then-not-are_three_sides c = rw (unmet c.are_three_sides.ensures c.if-no
 
 are_factors-requires : tie.Need-are_factors-requires
 are_factors-requires c κs =
-    let after-are-three-sides = c in
-    let start = after-are-three-sides in
-    let x = start.args in
-    let s = three-sides x.m x.k x.n (met after-are-three-sides.are_three_sides.ensures c.if-not-are_three_sides.false) in
+    let x = c.args in
+    let s = three-sides x.m x.k x.n (met c.are_three_sides.ensures c.if-not-are_three_sides.false) in
     (area x.m x.k s.0 s.1, area x.k x.n s.1 s.2, area x.m x.n s.0 s.2)
 
 returns-then-not-are_factors : tie.Need-returns-then-not-are_factors
 unfolding mat_mul
-returns-then-not-are_factors c = let else1 = c in rw (met else1.are_three_sides.ensures else1.if-not-are_three_sides.false, unmet c.are_factors.ensures c.if-not-are_factors.true)
+returns-then-not-are_factors c = rw (met c.are_three_sides.ensures c.if-not-are_three_sides.false, unmet c.are_factors.ensures c.if-not-are_factors.true)
 
 product_by_width-requires : tie.Need-product_by_width-requires
 product_by_width-requires c κs =
-    let after-are-factors = c in
-    let else1 = after-are-factors in
-    let start = else1 in
-    let x = start.args in
-    let s = three-sides x.m x.k x.n (met else1.are_three_sides.ensures else1.if-not-are_three_sides.false) in
-    let l = three-long x.a.now x.b.now x.out.now (x.m * x.k) (x.k * x.n) (x.m * x.n) (met after-are-factors.are_factors.ensures c.if-not-are_factors.false) in
+    let x = c.args in
+    let s = three-sides x.m x.k x.n (met c.are_three_sides.ensures c.if-not-are_three_sides.false) in
+    let l = three-long x.a.now x.b.now x.out.now (x.m * x.k) (x.k * x.n) (x.m * x.n) (met c.are_factors.ensures c.if-not-are_factors.false) in
     (side_high x.n s.2, l.0, l.1, l.2)
 
 returns : tie.Need-returns
 unfolding mat_mul
 returns c =
-    let after-product-by-width = c in
-    let else2 = after-product-by-width in
-    let else1 = else2 in
-    rw (met else1.are_three_sides.ensures else1.if-not-are_three_sides.false, met else2.are_factors.ensures else2.if-not-are_factors.false)
-    (done after-product-by-width.product_by_width.ensures)
+    rw (met c.are_three_sides.ensures c.if-not-are_three_sides.false, met c.are_factors.ensures c.if-not-are_factors.false)
+    (done c.product_by_width.ensures)
 
 pub mat_mul_spec : {M : Type 1} → statement M
 mat_mul_spec =

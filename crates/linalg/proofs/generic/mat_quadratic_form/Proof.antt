@@ -23,16 +23,13 @@ returns-then-not-is_form c = rw (met c.is_side.ensures c.if-not-is_side.false, u
 
 quadratic_form-requires : tie.Need-quadratic_form-requires
 quadratic_form-requires c κs =
-    let start = c in
-    let x = start.args in
+    let x = c.args in
     two-long x.x.now x.a.now x.n (x.n * x.n) (met c.is_form.ensures c.if-not-is_form.false)
 
 returns : tie.Need-returns
 unfolding mat_quadratic_form
 returns c =
-    let after-is-form = c in
-    let after-is-side = after-is-form in
-    rw (met after-is-side.is_side.ensures after-is-form.if-not-is_side.false, met after-is-form.is_form.ensures c.if-not-is_form.false) (value c.quadratic_form.ensures)
+    rw (met c.is_side.ensures c.if-not-is_side.false, met c.is_form.ensures c.if-not-is_form.false) (value c.quadratic_form.ensures)
 
 pub mat_quadratic_form_spec : {M : Type 1} → statement M
 mat_quadratic_form_spec = tie.close (tie.spec (λ c κs. search rules) returns-then-not-is_side is_form-requires returns-then-not-is_form quadratic_form-requires returns)

@@ -16,22 +16,17 @@ are_matrices-requires c κs = two_squares c.args.n (met c.is_side.ensures c.if-n
 
 returns-then-not-are_matrices : tie.Need-returns-then-not-are_matrices
 unfolding mat_symmetrize
-returns-then-not-are_matrices c = let else1 = c in rw (met else1.is_side.ensures else1.if-not-is_side.false, unmet c.are_matrices.ensures c.if-not-are_matrices.true)
+returns-then-not-are_matrices c = rw (met c.is_side.ensures c.if-not-is_side.false, unmet c.are_matrices.ensures c.if-not-are_matrices.true)
 
 symmetrize-requires : tie.Need-symmetrize-requires
 symmetrize-requires c κs =
-    let after-are-matrices = c in
-    let start = after-are-matrices in
-    let x = start.args in
-    two-long x.a.now x.out.now (x.n * x.n) (x.n * x.n) (met after-are-matrices.are_matrices.ensures c.if-not-are_matrices.false)
+    let x = c.args in
+    two-long x.a.now x.out.now (x.n * x.n) (x.n * x.n) (met c.are_matrices.ensures c.if-not-are_matrices.false)
 
 returns : tie.Need-returns
 unfolding mat_symmetrize
 returns c =
-    let after-symmetrize = c in
-    let else2 = after-symmetrize in
-    let else1 = else2 in
-    rw (met else1.is_side.ensures else1.if-not-is_side.false, met else2.are_matrices.ensures else2.if-not-are_matrices.false) (done after-symmetrize.symmetrize.ensures)
+    rw (met c.is_side.ensures c.if-not-is_side.false, met c.are_matrices.ensures c.if-not-are_matrices.false) (done c.symmetrize.ensures)
 
 pub mat_symmetrize_spec : {M : Type 1} → statement M
 mat_symmetrize_spec =

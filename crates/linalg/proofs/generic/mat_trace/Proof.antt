@@ -24,9 +24,7 @@ trace-requires c κs = let x = c.args in long-length x.a.now (x.n * x.n) (met c.
 returns : tie.Need-returns
 unfolding mat_trace
 returns c =
-    let after-is-matrix = c in
-    let after-is-side = after-is-matrix in
-    rw (met after-is-side.is_side.ensures after-is-matrix.if-not-is_side.false, met after-is-matrix.is_matrix.ensures c.if-not-is_matrix.false) (value c.trace.ensures)
+    rw (met c.is_side.ensures c.if-not-is_side.false, met c.is_matrix.ensures c.if-not-is_matrix.false) (value c.trace.ensures)
 
 pub mat_trace_spec : {M : Type 1} → statement M
 mat_trace_spec = tie.close (tie.spec (λ c κs. search rules) returns-then-not-is_side is_matrix-requires returns-then-not-is_matrix trace-requires returns)

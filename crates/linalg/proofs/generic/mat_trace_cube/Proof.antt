@@ -20,19 +20,15 @@ returns-then-not-are_matrices c = rw (met c.is_side.ensures c.if-not-is_side.fal
 
 trace_cube_product-requires : tie.Need-trace_cube_product-requires
 trace_cube_product-requires c κs =
-    let else1 = c in
-    let start = else1 in
-    let x = start.args in
-    let s = met else1.is_side.ensures else1.if-not-is_side.false in
+    let x = c.args in
+    let s = met c.is_side.ensures c.if-not-is_side.false in
     let l = two-long x.a.now x.b.now (x.n * x.n) (x.n * x.n) (met c.are_matrices.ensures c.if-not-are_matrices.false) in
     (area x.n x.n s s, l.0, l.1)
 
 returns : tie.Need-returns
 unfolding mat_trace_cube
 returns c =
-    let after-are-matrices = c in
-    let after-is-side = after-are-matrices in
-    rw (met after-is-side.is_side.ensures after-are-matrices.if-not-is_side.false, met after-are-matrices.are_matrices.ensures c.if-not-are_matrices.false) (value c.trace_cube_product.ensures)
+    rw (met c.is_side.ensures c.if-not-is_side.false, met c.are_matrices.ensures c.if-not-are_matrices.false) (value c.trace_cube_product.ensures)
 
 pub mat_trace_cube_spec : {M : Type 1} → statement M
 mat_trace_cube_spec = tie.close (tie.spec (λ c κs. search rules) returns-then-not-is_side are_matrices-requires returns-then-not-are_matrices trace_cube_product-requires returns)

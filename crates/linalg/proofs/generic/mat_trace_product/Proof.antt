@@ -20,16 +20,13 @@ returns-then-not-are_matrices c = rw (met c.is_side.ensures c.if-not-is_side.fal
 
 trace_product-requires : tie.Need-trace_product-requires
 trace_product-requires c κs =
-    let start = c in
-    let x = start.args in
+    let x = c.args in
     two-long x.a.now x.b.now (x.n * x.n) (x.n * x.n) (met c.are_matrices.ensures c.if-not-are_matrices.false)
 
 returns : tie.Need-returns
 unfolding mat_trace_product
 returns c =
-    let after-are-matrices = c in
-    let after-is-side = after-are-matrices in
-    rw (met after-is-side.is_side.ensures after-are-matrices.if-not-is_side.false, met after-are-matrices.are_matrices.ensures c.if-not-are_matrices.false) (value c.trace_product.ensures)
+    rw (met c.is_side.ensures c.if-not-is_side.false, met c.are_matrices.ensures c.if-not-are_matrices.false) (value c.trace_product.ensures)
 
 pub mat_trace_product_spec : {M : Type 1} → statement M
 mat_trace_product_spec = tie.close (tie.spec (λ c κs. search rules) returns-then-not-is_side are_matrices-requires returns-then-not-are_matrices trace_product-requires returns)

@@ -19,22 +19,17 @@ are_matrices-requires c κs =
 
 returns-then-not-are_matrices : tie.Need-returns-then-not-are_matrices
 unfolding mat_transpose
-returns-then-not-are_matrices c = let else1 = c in rw (met else1.are_sides.ensures else1.if-not-are_sides.false, unmet c.are_matrices.ensures c.if-not-are_matrices.true)
+returns-then-not-are_matrices c = rw (met c.are_sides.ensures c.if-not-are_sides.false, unmet c.are_matrices.ensures c.if-not-are_matrices.true)
 
 transpose-requires : tie.Need-transpose-requires
 transpose-requires c κs =
-    let after-are-matrices = c in
-    let start = after-are-matrices in
-    let x = start.args in
-    two-long x.a.now x.out.now (x.m * x.n) (x.n * x.m) (met after-are-matrices.are_matrices.ensures c.if-not-are_matrices.false)
+    let x = c.args in
+    two-long x.a.now x.out.now (x.m * x.n) (x.n * x.m) (met c.are_matrices.ensures c.if-not-are_matrices.false)
 
 returns : tie.Need-returns
 unfolding mat_transpose
 returns c =
-    let after-transpose = c in
-    let else2 = after-transpose in
-    let else1 = else2 in
-    rw (met else1.are_sides.ensures else1.if-not-are_sides.false, met else2.are_matrices.ensures else2.if-not-are_matrices.false) (done after-transpose.transpose.ensures)
+    rw (met c.are_sides.ensures c.if-not-are_sides.false, met c.are_matrices.ensures c.if-not-are_matrices.false) (done c.transpose.ensures)
 
 pub mat_transpose_spec : {M : Type 1} → statement M
 mat_transpose_spec =

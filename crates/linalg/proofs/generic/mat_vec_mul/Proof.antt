@@ -13,30 +13,23 @@ returns-then-not-is_side c = rw (unmet c.is_side.ensures c.if-not-is_side.true)
 
 is_system-requires : tie.Need-is_system-requires
 is_system-requires c κs =
-    let after-is-side = c in
-    let start = after-is-side in
-    let x = start.args in
-    let s = met after-is-side.is_side.ensures c.if-not-is_side.false in
+    let x = c.args in
+    let s = met c.is_side.ensures c.if-not-is_side.false in
     area x.n x.n s s
 
 returns-then-not-is_system : tie.Need-returns-then-not-is_system
 unfolding mat_vec_mul
-returns-then-not-is_system c = let else1 = c in rw (met else1.is_side.ensures else1.if-not-is_side.false, unmet c.is_system.ensures c.if-not-is_system.true)
+returns-then-not-is_system c = rw (met c.is_side.ensures c.if-not-is_side.false, unmet c.is_system.ensures c.if-not-is_system.true)
 
 times_vector_by_width-requires : tie.Need-times_vector_by_width-requires
 times_vector_by_width-requires c κs =
-    let after-is-system = c in
-    let start = after-is-system in
-    let x = start.args in
-    three-long x.a.now x.x.now x.out.now (x.n * x.n) x.n x.n (met after-is-system.is_system.ensures c.if-not-is_system.false)
+    let x = c.args in
+    three-long x.a.now x.x.now x.out.now (x.n * x.n) x.n x.n (met c.is_system.ensures c.if-not-is_system.false)
 
 returns : tie.Need-returns
 unfolding mat_vec_mul
 returns c =
-    let after-times-vector-by-width = c in
-    let else2 = after-times-vector-by-width in
-    let else1 = else2 in
-    rw (met else1.is_side.ensures else1.if-not-is_side.false, met else2.is_system.ensures else2.if-not-is_system.false) (done after-times-vector-by-width.times_vector_by_width.ensures)
+    rw (met c.is_side.ensures c.if-not-is_side.false, met c.is_system.ensures c.if-not-is_system.false) (done c.times_vector_by_width.ensures)
 
 pub mat_vec_mul_spec : {M : Type 1} → statement M
 mat_vec_mul_spec =

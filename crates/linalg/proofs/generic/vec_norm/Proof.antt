@@ -15,14 +15,12 @@ unfolding vec_norm
 returns-then-not-is_vector c = rw (met c.is_side.ensures c.if-not-is_side.false, unmet c.is_vector.ensures c.if-not-is_vector.true)
 
 norm-requires : tie.Need-norm-requires
-norm-requires c κs = let start = c in long-length start.args.x.now start.args.n (met c.is_vector.ensures c.if-not-is_vector.false)
+norm-requires c κs = long-length c.args.x.now c.args.n (met c.is_vector.ensures c.if-not-is_vector.false)
 
 returns : tie.Need-returns
 unfolding vec_norm
 returns c =
-    let after-is-vector = c in
-    let after-is-side = after-is-vector in
-    rw (met after-is-side.is_side.ensures after-is-vector.if-not-is_side.false, met after-is-vector.is_vector.ensures c.if-not-is_vector.false) (value c.norm.ensures)
+    rw (met c.is_side.ensures c.if-not-is_side.false, met c.is_vector.ensures c.if-not-is_vector.false) (value c.norm.ensures)
 
 pub vec_norm_spec : {M : Type 1} → statement M
 vec_norm_spec = tie.close (tie.spec (λ c κs. search rules) returns-then-not-is_side (λ c κs. search rules) returns-then-not-is_vector norm-requires returns)

@@ -19,23 +19,18 @@ subtract-requires c κs = (c.requires.1, c.requires.2, length-take-le _ _ (omega
 
 slice_bounds-delta-end-2 : tie.Need-slice_bounds-delta-end-2
 slice_bounds-delta-end-2 c =
-    let start = c in
-    omega (arith, length_front _ c.subtract.new.y start.args.n c.subtract.auto.y)
+    omega (arith, length_front _ c.subtract.new.y c.args.n c.subtract.auto.y)
 
 slice_bounds-quadratic_form-end : tie.Need-slice_bounds-quadratic_form-end
 slice_bounds-quadratic_form-end c = sym (ap length (front _ (length-tabulate _ _) c.subtract.ensures) ∙ length-tabulate _ _)
 
 quadratic_form-requires : tie.Need-quadratic_form-requires
 quadratic_form-requires c κs =
-    let after-subtract = c in
-    let start = after-subtract in
-    (ap length (front _ (length-tabulate _ _) after-subtract.subtract.ensures) ∙ length-tabulate _ _, start.requires.3)
+    (ap length (front _ (length-tabulate _ _) c.subtract.ensures) ∙ length-tabulate _ _, c.requires.3)
 
 returns : tie.Need-returns
 returns c =
-    let after-subtract = c in
-    let start = after-subtract in
-    c.quadratic_form.ensures ∙ ap (λ (d : List Float). quadratic_form d start.args.inv.now start.args.n) (front _ (length-tabulate _ _) after-subtract.subtract.ensures)
+    c.quadratic_form.ensures ∙ ap (λ (d : List Float). quadratic_form d c.args.inv.now c.args.n) (front _ (length-tabulate _ _) c.subtract.ensures)
 
 pub distance_with_inv_spec : {M : Type 1} → statement M
 distance_with_inv_spec =

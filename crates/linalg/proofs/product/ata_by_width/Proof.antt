@@ -16,7 +16,7 @@ returns-then-n-eq9 : tie.Need-returns-then-n-eq9
 returns-then-n-eq9 c = rw c.if-n-eq9.true c.ata-then-n-eq9.ensures
 
 ata-requires-then-n-eq16 : tie.Need-ata-requires-then-n-eq16
-ata-requires-then-n-eq16 c κs = let start = c in rw c.if-n-eq16.true at start.requires
+ata-requires-then-n-eq16 c κs = rw c.if-n-eq16.true at c.requires
 
 returns-then-n-eq16 : tie.Need-returns-then-n-eq16
 returns-then-n-eq16 c = rw c.if-n-eq16.true c.ata-then-n-eq16.ensures

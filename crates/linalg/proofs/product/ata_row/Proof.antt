@@ -19,7 +19,7 @@ abbrev decreases-loop-k : tie.decreases-loop-k
 decreases-loop-k a m n i y sums₀ k₀ sums k = m - k
 
 entry-requires : tie.Need-entry-requires invariant-loop-k decreases-loop-k
-entry-requires c κs = let start = c in omega (arith, cell start.args.m start.args.n c.loop-k-test.true start.requires.1)
+entry-requires c κs = omega (arith, cell c.args.m c.args.n c.loop-k-test.true c.requires.1)
 
 row-requires : tie.Need-row-requires invariant-loop-k decreases-loop-k
 row-requires c κs = let x = c.args in omega (arith, row_within x.m x.n c.loop-k-test.true)
@@ -29,20 +29,17 @@ add_scaled-requires c κs = (c.row.ensures.0, sums-lent c.loop-k.invariant)
 
 loop-k-preserved : tie.Need-loop-k-preserved invariant-loop-k decreases-loop-k
 loop-k-preserved c =
-    let after-row = c in
-    let turn = after-row in
-    let x = turn.args in
-    term_added turn.loop-k.invariant _ turn.loop-k-test.true c.add_scaled.ensures
-    (λ j h. scaled x.a.now x.n turn.loop-k.k j after-row.entry.ensures after-row.row.ensures.1 h)
+    let x = c.args in
+    term_added c.loop-k.invariant _ c.loop-k-test.true c.add_scaled.ensures
+    (λ j h. scaled x.a.now x.n c.loop-k.k j c.entry.ensures c.row.ensures.1 h)
 
 copy-requires : tie.Need-copy-requires invariant-loop-k decreases-loop-k
-copy-requires c κs = let at-loop = c in (sums-lent at-loop.loop-k.invariant, at-loop.requires.3)
+copy-requires c κs = (sums-lent c.loop-k.invariant, c.requires.3)
 
 returns : tie.Need-returns invariant-loop-k decreases-loop-k
 returns c =
-    let end = c in
-    let x = end.args in
-    c.copy.ensures ∙ every_term end.loop-k.invariant end.loop-k-test.false ∙ tabulate_ext _ _ _ (λ j h. ata-either x.a.now x.m x.n x.i j)
+    let x = c.args in
+    c.copy.ensures ∙ every_term c.loop-k.invariant c.loop-k-test.false ∙ tabulate_ext _ _ _ (λ j h. ata-either x.a.now x.m x.n x.i j)
 
 pub ata_row_spec : {M : Type 1} → statement M
 ata_row_spec =

@@ -10,13 +10,13 @@ returns-then-n-eq6 : tie.Need-returns-then-n-eq6
 returns-then-n-eq6 c = rw c.if-n-eq6.true c.product.ensures
 
 product-requires-then-n-eq9 : tie.Need-product-requires-then-n-eq9
-product-requires-then-n-eq9 c κs = let start = c in rw c.if-n-eq9.true at start.requires
+product-requires-then-n-eq9 c κs = rw c.if-n-eq9.true at c.requires
 
 returns-then-n-eq9 : tie.Need-returns-then-n-eq9
 returns-then-n-eq9 c = rw c.if-n-eq9.true c.product-then-n-eq9.ensures
 
 product-requires-then-n-eq16 : tie.Need-product-requires-then-n-eq16
-product-requires-then-n-eq16 c κs = let start = c in rw c.if-n-eq16.true at start.requires
+product-requires-then-n-eq16 c κs = rw c.if-n-eq16.true at c.requires
 
 returns-then-n-eq16 : tie.Need-returns-then-n-eq16
 returns-then-n-eq16 c = rw c.if-n-eq16.true c.product-then-n-eq16.ensures

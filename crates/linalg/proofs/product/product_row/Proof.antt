@@ -25,17 +25,15 @@ add_scaled-requires c κs = (c.row.ensures.0, sums-lent c.loop-l.invariant)
 
 loop-l-preserved : tie.Need-loop-l-preserved invariant-loop-l decreases-loop-l
 loop-l-preserved c =
-    let after-row = c in
-    let turn = after-row in
-    let x = turn.args in
-    term_added turn.loop-l.invariant _ turn.loop-l-test.true c.add_scaled.ensures
-    (λ j h. scaled x.b.now x.n turn.loop-l.l j after-row.entry.ensures after-row.row.ensures.1 h)
+    let x = c.args in
+    term_added c.loop-l.invariant _ c.loop-l-test.true c.add_scaled.ensures
+    (λ j h. scaled x.b.now x.n c.loop-l.l j c.entry.ensures c.row.ensures.1 h)
 
 copy-requires : tie.Need-copy-requires invariant-loop-l decreases-loop-l
-copy-requires c κs = let at-loop = c in (sums-lent at-loop.loop-l.invariant, at-loop.requires.3)
+copy-requires c κs = (sums-lent c.loop-l.invariant, c.requires.3)
 
 returns : tie.Need-returns invariant-loop-l decreases-loop-l
-returns c = let end = c in c.copy.ensures ∙ every_term end.loop-l.invariant end.loop-l-test.false
+returns c = c.copy.ensures ∙ every_term c.loop-l.invariant c.loop-l-test.false
 
 pub product_row_spec : {M : Type 1} → statement M
 product_row_spec =

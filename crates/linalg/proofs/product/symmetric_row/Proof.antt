@@ -22,9 +22,8 @@ entry-requires-in-loop-j c κs = let start = c.before.before.before.before.befor
 
 loop-j-preserved : tie.Need-loop-j-preserved invariant-loop-j decreases-loop-j
 loop-j-preserved c =
-    let turn = c in
-    let x = turn.args in
-    entry-written turn.loop-j.invariant turn.loop-j-test.true (mean x.a.now x.n x.i turn.loop-j.j c.entry.ensures c.entry-in-loop-j.ensures)
+    let x = c.args in
+    entry-written c.loop-j.invariant c.loop-j-test.true (mean x.a.now x.n x.i c.loop-j.j c.entry.ensures c.entry-in-loop-j.ensures)
 
 returns : tie.Need-returns invariant-loop-j decreases-loop-j
 returns c = every_entry c.loop-j.invariant c.loop-j-test.false

@@ -16,13 +16,12 @@ abbrev decreases-loop-i : tie.decreases-loop-i
 decreases-loop-i a x n y₀ i₀ y i = n - i
 
 row-requires : tie.Need-row-requires invariant-loop-i decreases-loop-i
-row-requires c κs = let start = c in omega (arith, row_within start.args.n start.args.n {i = c.loop-i.i} (omega arith))
+row-requires c κs = omega (arith, row_within c.args.n c.args.n {i = c.loop-i.i} (omega arith))
 
 loop-i-preserved : tie.Need-loop-i-preserved invariant-loop-i decreases-loop-i
 loop-i-preserved c =
-    let turn = c in
-    let x = turn.args in
-    entry-written turn.loop-i.invariant turn.loop-i-test.true (c.dot.ensures ∙ row-sum x.a.now x.x.now x.n turn.loop-i.i c.row.ensures.1)
+    let x = c.args in
+    entry-written c.loop-i.invariant c.loop-i-test.true (c.dot.ensures ∙ row-sum x.a.now x.x.now x.n c.loop-i.i c.row.ensures.1)
 
 returns : tie.Need-returns invariant-loop-i decreases-loop-i
 unfolding times

@@ -10,13 +10,13 @@ returns-then-n-eq6 : tie.Need-returns-then-n-eq6
 returns-then-n-eq6 c = rw c.if-n-eq6.true c.times_vector.ensures
 
 times_vector-requires-then-n-eq9 : tie.Need-times_vector-requires-then-n-eq9
-times_vector-requires-then-n-eq9 c κs = let start = c in rw c.if-n-eq9.true at start.requires
+times_vector-requires-then-n-eq9 c κs = rw c.if-n-eq9.true at c.requires
 
 returns-then-n-eq9 : tie.Need-returns-then-n-eq9
 returns-then-n-eq9 c = rw c.if-n-eq9.true c.times_vector-then-n-eq9.ensures
 
 times_vector-requires-then-n-eq16 : tie.Need-times_vector-requires-then-n-eq16
-times_vector-requires-then-n-eq16 c κs = let start = c in rw c.if-n-eq16.true at start.requires
+times_vector-requires-then-n-eq16 c κs = rw c.if-n-eq16.true at c.requires
 
 returns-then-n-eq16 : tie.Need-returns-then-n-eq16
 returns-then-n-eq16 c = rw c.if-n-eq16.true c.times_vector-then-n-eq16.ensures

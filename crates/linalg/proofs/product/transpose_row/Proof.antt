@@ -15,8 +15,7 @@ decreases-loop-j a m n i y₀ j₀ y j = m - j
 
 entry-requires : tie.Need-entry-requires invariant-loop-j decreases-loop-j
 entry-requires c κs =
-    let start = c in
-    omega (arith, cell start.args.m start.args.n {i = c.loop-j.j} {j = start.args.i} (omega arith) (omega arith))
+    omega (arith, cell c.args.m c.args.n {i = c.loop-j.j} {j = c.args.i} (omega arith) (omega arith))
 
 loop-j-preserved : tie.Need-loop-j-preserved invariant-loop-j decreases-loop-j
 loop-j-preserved c = entry-written c.loop-j.invariant c.loop-j-test.true c.entry.ensures

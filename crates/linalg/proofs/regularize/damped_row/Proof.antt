@@ -28,7 +28,7 @@ on_diagonal a n i alpha y h e r = by_entries n _ _ (length-set y i _ ∙ e) (λ 
     go q k (no s) = get_or-set_other y i q (add (nth y i) alpha) nan (λ w. s (sym w)) ∙ rw (ne_eqb i q s, entry q k)
 
 row-requires : tie.Need-row-requires
-row-requires c κs = let start = c in omega (arith, row_within start.args.n start.args.n start.requires.0)
+row-requires c κs = omega (arith, row_within c.args.n c.args.n c.requires.0)
 
 -- the row that is copied has n entries
 size : (c : tie.After-copy) → length c.copy.new.y ≡ c.args.n
@@ -36,11 +36,8 @@ size c = c.copy.auto.y ∙ c.requires.2
 
 returns : tie.Need-returns
 returns c =
-    let after-copy = c in
-    let after-row = after-copy in
-    let start = after-row in
-    let x = start.args in
-    on_diagonal x.a.now x.n x.i x.alpha _ start.requires.0 (size c.before.before.before) (after-copy.copy.ensures ∙ after-row.row.ensures.1)
+    let x = c.args in
+    on_diagonal x.a.now x.n x.i x.alpha _ c.requires.0 (size c.before.before.before) (c.copy.ensures ∙ c.row.ensures.1)
 
 pub damped_row_spec : {M : Type 1} → statement M
 damped_row_spec =

@@ -16,22 +16,17 @@ are_matrices-requires c κs = two_squares c.args.n (met c.is_side.ensures c.if-n
 
 returns-then-not-are_matrices : tie.Need-returns-then-not-are_matrices
 unfolding tikhonov
-returns-then-not-are_matrices c = let else1 = c in rw (met else1.is_side.ensures else1.if-not-is_side.false, unmet c.are_matrices.ensures c.if-not-are_matrices.true)
+returns-then-not-are_matrices c = rw (met c.is_side.ensures c.if-not-is_side.false, unmet c.are_matrices.ensures c.if-not-are_matrices.true)
 
 damped-requires : tie.Need-damped-requires
 damped-requires c κs =
-    let after-are-matrices = c in
-    let start = after-are-matrices in
-    let x = start.args in
-    two-long x.cov.now x.out.now (x.n * x.n) (x.n * x.n) (met after-are-matrices.are_matrices.ensures c.if-not-are_matrices.false)
+    let x = c.args in
+    two-long x.cov.now x.out.now (x.n * x.n) (x.n * x.n) (met c.are_matrices.ensures c.if-not-are_matrices.false)
 
 returns : tie.Need-returns
 unfolding tikhonov
 returns c =
-    let after-damped = c in
-    let else2 = after-damped in
-    let else1 = else2 in
-    rw (met else1.is_side.ensures else1.if-not-is_side.false, met else2.are_matrices.ensures else2.if-not-are_matrices.false) (done after-damped.damped.ensures)
+    rw (met c.is_side.ensures c.if-not-is_side.false, met c.are_matrices.ensures c.if-not-are_matrices.false) (done c.damped.ensures)
 
 pub tikhonov_spec : {M : Type 1} → statement M
 tikhonov_spec =

@@ -31,9 +31,7 @@ entry-requires-in-loop-k-2 c κs = let start = c.before.before.before.before.bef
 loop-k-preserved : tie.Need-loop-k-preserved invariant-loop-k decreases-loop-k
 unfolding sum_from
 loop-k-preserved c =
-    let after-entry = c in
-    let turn = after-entry in
-    turns_more turn.loop-k.invariant turn.loop-k-test.true (λ e. rw (e, after-entry.entry.ensures, c.entry-in-loop-k.ensures, c.entry-in-loop-k-2.ensures))
+    turns_more c.loop-k.invariant c.loop-k-test.true (λ e. rw (e, c.entry.ensures, c.entry-in-loop-k.ensures, c.entry-in-loop-k-2.ensures))
 
 returns : tie.Need-returns invariant-loop-k decreases-loop-k
 returns c = turns_all c.loop-k.invariant c.loop-k-test.false

@@ -17,12 +17,11 @@ slice_bounds-product-end : tie.Need-slice_bounds-product-end
 slice_bounds-product-end c = sym (length-take-le _ _ (omega arith))
 
 product-requires : tie.Need-product-requires
-product-requires c κs = let start = c in (side_of_area start.args.n (omega arith), start.requires.1, start.requires.2, length-take-le _ _ (omega arith))
+product-requires c κs = (side_of_area c.args.n (omega arith), c.requires.1, c.requires.2, length-take-le _ _ (omega arith))
 
 slice_bounds-m-end-2 : tie.Need-slice_bounds-m-end-2
 slice_bounds-m-end-2 c =
-    let start = c in
-    omega (arith, length_front _ c.product.new.out (start.args.n * start.args.n) c.product.auto.out)
+    omega (arith, length_front _ c.product.new.out (c.args.n * c.args.n) c.product.auto.out)
 
 slice_bounds-trace_cube-end : tie.Need-slice_bounds-trace_cube-end
 slice_bounds-trace_cube-end c = sym (ap length (front _ (length-product _ _ _ _ _) c.product.ensures) ∙ length-product _ _ _ _ _)
@@ -32,9 +31,7 @@ trace_cube-requires c κs = ap length (front _ (length-product _ _ _ _ _) c.prod
 
 returns : tie.Need-returns
 returns c =
-    let after-product = c in
-    let start = after-product in
-    c.trace_cube.ensures ∙ ap (λ (d : List Float). trace_cube d start.args.n) (front _ (length-product _ _ _ _ _) after-product.product.ensures)
+    c.trace_cube.ensures ∙ ap (λ (d : List Float). trace_cube d c.args.n) (front _ (length-product _ _ _ _ _) c.product.ensures)
 
 pub trace_cube_product_spec : {M : Type 1} → statement M
 trace_cube_product_spec =

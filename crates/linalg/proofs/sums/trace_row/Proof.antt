@@ -24,10 +24,9 @@ entry-requires c κs = let start = c.before.before.before.before in inside start
 
 entry-requires-in-loop-j : tie.Need-entry-requires-in-loop-j invariant-loop-j decreases-loop-j
 entry-requires-in-loop-j c κs =
-    let start = c in
-    let n = start.args.n in
+    let n = c.args.n in
     let taken = c.loop-j-test.true in
-    omega (arith, inside n start.requires.2 taken start.requires.0, inside n start.requires.2 start.requires.0 taken)
+    omega (arith, inside n c.requires.2 taken c.requires.0, inside n c.requires.2 c.requires.0 taken)
 
 loop-j-preserved : tie.Need-loop-j-preserved invariant-loop-j decreases-loop-j
 unfolding sum_from

@@ -35,11 +35,10 @@ overflow_add-count c = omega (arith, c.one_if-count.ensures.1, few c.before.befo
 loop-r-preserved : tie.Need-loop-r-preserved invariant-loop-r decreases-loop-r
 unfolding how_many
 loop-r-preserved c =
-    let turn = c in
-    let x = turn.args in
+    let x = c.args in
     let test = has x.rows.now x.n in
     let one = c.one_if-count.ensures.0 ∙ ap (λ (k : ℕ). cond (eqb k x.n) 1 0) c.tracks_among.ensures in
-    turns_more turn.loop-r.invariant (omega arith) (λ e. ap (λ (k : ℕ). turn.loop-r.count + k) one ∙ ap (λ (k : ℕ). k + cond (test turn.loop-r.r) 1 0) e)
+    turns_more c.loop-r.invariant (omega arith) (λ e. ap (λ (k : ℕ). c.loop-r.count + k) one ∙ ap (λ (k : ℕ). k + cond (test c.loop-r.r) 1 0) e)
 
 returns : tie.Need-returns invariant-loop-r decreases-loop-r
 returns c = turns_all c.loop-r.invariant c.loop-r-test.false

@@ -37,20 +37,18 @@ second c = there _ (start_of c).requires.second c.if-j-eq-NO_TRACK.false
 
 returns : tie.Need-returns
 returns c =
-    let e = c in
     let s = start_of c.before.before.before in
     let x = s.args in
-    let there-i = ne_eqb x.i 255 e.if-i-eq-NO_TRACK.false in
-    let there-j = ne_eqb x.j 255 e.if-j-eq-NO_TRACK.false in
-    let k = e in
+    let there-i = ne_eqb x.i 255 c.if-i-eq-NO_TRACK.false in
+    let there-j = ne_eqb x.j 255 c.if-j-eq-NO_TRACK.false in
     rw (there-i, there-j)
     (c.same_record.ensures
     ∙ ap (λ (u : List ℕ). same_bytes u c.track_record-y.result.now)
     (c.track_record-x.ensures.0 ∙ located-record (record { located = s.requires.of_first; index = first c.before.before.before }))
     ∙ ap (same_bytes (record_at x.a.now (offset x.a.now x.i)))
     (c.track_record-y.ensures.0 ∙ located-record (record { located = s.requires.of_second; index = second c.before.before.before }))
-    ∙ records_compared x.a.now x.b.now (λ n. omega (arith, k.shared_slice_known-1.given n))
-    (λ n. omega (arith, k.shared_slice_known-3-1.given n)) (held x.a.now) (held x.b.now) s.requires.of_first.accepted s.requires.of_second.accepted
+    ∙ records_compared x.a.now x.b.now (λ n. omega (arith, c.shared_slice_known-1.given n))
+    (λ n. omega (arith, c.shared_slice_known-3-1.given n)) (held x.a.now) (held x.b.now) s.requires.of_first.accepted s.requires.of_second.accepted
     s.requires.one_dimension_lem x.i x.j (first c.before.before.before) (second c.before.before.before))
 
 pub same_tracks_spec : {M : Type 1} → statement M

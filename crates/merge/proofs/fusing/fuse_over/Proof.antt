@@ -29,9 +29,8 @@ fuse_tracks-requires c κs =
 
 returns-then-not-fuse_tracks : tie.Need-returns-then-not-fuse_tracks
 returns-then-not-fuse_tracks c =
-    let call = c in
     let s = entered c.before.before.before in
-    rw (not_left (o s) _ call.fuse_tracks.ensures c.if-not-fuse_tracks.true)
+    rw (not_left (o s) _ c.fuse_tracks.ensures c.if-not-fuse_tracks.true)
 
 -- the part of the array that was lent is as long as a track
 long : (c : tie.Else-not-fuse_tracks) → length c.fuse_tracks.new.out ≡ (lent c).fields-f.result
@@ -50,11 +49,9 @@ copy-requires c κs =
 
 returns : tie.Need-returns
 returns c =
-    let call = c in
-    let e = call in
-    let w = e.fuse_tracks in
-    let copied = call.copy.ensures ∙ take_at w.new.out _ _ (long c.before.before.before.before.before) in
-    rw (is_left (o (entered (lent c.before.before.before.before.before))) _ w.ensures e.if-not-fuse_tracks.false) (λ x. (true, copied x))
+    let w = c.fuse_tracks in
+    let copied = c.copy.ensures ∙ take_at w.new.out _ _ (long c.before.before.before.before.before) in
+    rw (is_left (o (entered (lent c.before.before.before.before.before))) _ w.ensures c.if-not-fuse_tracks.false) (λ x. (true, copied x))
 
 pub fuse_over_spec : {M : Type 1} → statement M
 fuse_over_spec =

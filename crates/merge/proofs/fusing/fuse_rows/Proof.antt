@@ -45,8 +45,7 @@ number c = c.fields-f.ensures.0
 loop-i-init : tie.Need-loop-i-init invariant-loop-i decreases-loop-i
 unfolding tabulate
 loop-i-init c =
-    let s = c in
-    (no_turn refl, no_row (s.requires.of_base ∙ ap (λ (k : ℕ). s.args.sizes.base * k) (sym c.fields-f.ensures.0)))
+    (no_turn refl, no_row (c.requires.of_base ∙ ap (λ (k : ℕ). c.args.sizes.base * k) (sym c.fields-f.ensures.0)))
 
 fits : (c : tie.In-loop-i invariant-loop-i decreases-loop-i) → RowFits c.loop-i.invariant.1
 fits c = row_fits c.loop-i.invariant.1 c.loop-i-test.true
@@ -97,24 +96,21 @@ passing c =
 
 passed : (c : tie.After-verdict_after-v invariant-loop-i decreases-loop-i) → ◌≡◌ {A = ℕ × List Float} (c.verdict_after-v.result, c.verdict_after-v.new.base) (passing c.before.before)
 passed c =
-    let k = c in
     let t = turn c.before.before in
     let x = (begun t).args in
     let i = t.loop-i.i in
     let j = still t (4 * i + 1) (omega arith) in
     let l = still t (4 * i + 2) (omega arith) in
-    let slot = own t.loop-i.invariant.1 k.loop-i-test.true ∙ ap (λ (n : ℕ). row_of x.base_values.now n i) (number t) in
+    let slot = own t.loop-i.invariant.1 c.loop-i-test.true ∙ ap (λ (n : ℕ). row_of x.base_values.now n i) (number t) in
     c.verdict_after-v.ensures
     ∙ (λ z. after_fusion (still t (4 * i + 3) (omega arith) z) (j z) (l z) (fusion_of x.sizes.dimension x.floor (slot z) x.ours_values.now (j z) x.theirs_values.now (l z)) (slot z))
 
 loop-i-preserved : tie.Need-loop-i-preserved invariant-loop-i decreases-loop-i
 loop-i-preserved c =
-    let call = c in
-    let k = call in
     let t = turn c.before.before.before.before in
     let s = begun t in
     let i = t.loop-i in
-    let h = k.loop-i-test.true in
+    let h = c.loop-i-test.true in
     let room = s.requires.room in
     let p = passed c.before.before in
     let first = still t (4 * i.i) (omega arith) in
@@ -122,19 +118,18 @@ loop-i-preserved c =
     let third = still t (4 * i.i + 2) (omega arith) in
     let put = verdict-put i.rows (4 * i.i) first second third (ap (λ (z : ℕ × List Float). z.0) p) (omega (arith, i.invariant.0.long, room)) in
     let slot = ap (λ (z : ℕ × List Float). z.1) p in
-    let long = sym (ap length slot) ∙ call.verdict_after-v.auto.base ∙ row-lent i.invariant.1 h in
+    let long = sym (ap length slot) ∙ c.verdict_after-v.auto.base ∙ row-lent i.invariant.1 h in
     (tabulated_turn (at_row s) i.invariant.0 h room (appended_one true (at_row s i.i) refl refl put), row_written i.invariant.1 h (slot ∙ own_entries _ (passing c.before.before.before.before).1 long))
 
 returns : tie.Need-returns invariant-loop-i decreases-loop-i
 returns c =
-    let t = c in
     let x = (begun c.before).args in
     let slot : ℕ → ℕ → Float = λ r. nth (pass_at x.sizes.dimension x.floor x.base_values.now x.ours_values.now x.theirs_values.now x.rows.now r).1 in
-    ((every_turn t.loop-i.invariant.0 c.loop-i-test.false).bytes, every_row t.loop-i.invariant.1 c.loop-i-test.false ∙ ap (λ (n : ℕ). matrix x.sizes.base n slot) (number c.before))
+    ((every_turn c.loop-i.invariant.0 c.loop-i-test.false).bytes, every_row c.loop-i.invariant.1 c.loop-i-test.false ∙ ap (λ (n : ℕ). matrix x.sizes.base n slot) (number c.before))
 
 -- the turn's row lies in the buffer
 in_rows : (c : tie.In-loop-i invariant-loop-i decreases-loop-i) → (4 * c.loop-i.i + 3 < length c.loop-i.rows) × (c.loop-i.i < 32)
-in_rows c = let t = c in let w = (begun c.before).requires in (omega (arith, c.loop-i-test.true, t.loop-i.invariant.0.long, w.room), omega (arith, c.loop-i-test.true, w.few-base))
+in_rows c = let w = (begun c.before).requires in (omega (arith, c.loop-i-test.true, c.loop-i.invariant.0.long, w.room), omega (arith, c.loop-i-test.true, w.few-base))
 
 abbrev in-turn : tie.After-slice_known-in-loop-i-4-1 invariant-loop-i decreases-loop-i → tie.In-loop-i invariant-loop-i decreases-loop-i
 in-turn c = c.before.before.before.before.before.before.before

@@ -30,21 +30,18 @@ tests c = (eq-eqb _ 4 c.if-v-ne-CONFLICT.false, ap not (ne_eqb _ 255 c.if-j-eq-N
 
 row-o-requires : tie.Need-row-o-requires
 row-o-requires c κs =
-    let e = c in
     let x = (entered c.before).args in
     subst (λ (f : ℕ). x.j * f + f ≤ length x.ours_values.now) (sym c.fields-f.ensures.0) ((entered c.before).requires.of_ours (tests c.before).1)
 
 row-t-requires : tie.Need-row-t-requires
 row-t-requires c κs =
-    let e = c in
     let x = (entered c.before.before).args in
     subst (λ (f : ℕ). x.k * f + f ≤ length x.theirs_values.now) (sym c.fields-f.ensures.0) ((entered c.before.before).requires.of_theirs (tests c.before.before).2)
 
 fuse_over-requires : tie.Need-fuse_over-requires
 fuse_over-requires c κs =
-    let k = c in
     let w = (entered c.before.before.before.before).requires in
-    let f = k.fields-f.ensures.0 in
+    let f = c.fields-f.ensures.0 in
     let own : HasFields _ _ = record { sided = w.sided; long = w.of_base } in (
       record {
         of_base = own;
@@ -77,13 +74,11 @@ returns-then-k-eq-NO_TRACK c = rw (eq-eqb _ 4 c.if-v-ne-CONFLICT.false, ne_eqb _
 
 returns-then-fuse_over : tie.Need-returns-then-fuse_over
 returns-then-fuse_over c =
-    let call = c in
     let k = full c.before.before.before in
     rw ((tests k).0, (tests k).1, (tests k).2, is_left (fusion-at k) _ (tried c.before.before.before) c.if-fuse_over.true) refl
 
 returns : tie.Need-returns
 returns c =
-    let call = c in
     let k = full c.before.before.before in
     let x = (entered k).args in
     let untold = not_left (fusion-at k) _ (tried c.before.before.before) c.if-fuse_over.false in

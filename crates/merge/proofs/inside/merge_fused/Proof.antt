@@ -102,11 +102,10 @@ three-at c =
     let t = third c in
     let o = second t in
     let b = first o in
-    let k = b in
     let x = (start_of c).args in
-    let base : Bytes x.base.now = λ i. omega (arith, k.shared_slice_known-1.given i) in
-    let ours : Bytes x.ours.now = λ i. omega (arith, k.shared_slice_known-2-1.given i) in
-    let theirs : Bytes x.theirs.now = λ i. omega (arith, k.shared_slice_known-3-1.given i) in
+    let base : Bytes x.base.now = λ i. omega (arith, b.shared_slice_known-1.given i) in
+    let ours : Bytes x.ours.now = λ i. omega (arith, b.shared_slice_known-2-1.given i) in
+    let theirs : Bytes x.theirs.now = λ i. omega (arith, b.shared_slice_known-3-1.given i) in
     subst (ThreeAnswered-at c) (sym c.three_of-c.ensures)
     (three-answered _ _ _ _ _ _ _ _ _
     (list-answered x.base.now _ _ (start_of c).requires refl base b.read_with_offsets-b.result b.read_with_offsets-b.ensures)
@@ -129,7 +128,6 @@ on_lists c h =
 -- questions 18 and 19
 returns-then-not-is_floor_and_gate : tie.Need-returns-then-not-is_floor_and_gate
 returns-then-not-is_floor_and_gate c =
-    let k = c in
     let s = entered c.before.before in
     refusing s _ (on_lists c.before.before (asked_18 (lists s) s.args.floor s.args.gate (old s) (sym c.is_floor_and_gate.ensures ∙ c.if-not-is_floor_and_gate.true)))
 
@@ -145,7 +143,6 @@ number c = let z = sizes_of (read c) in omega (arith, z.of_base, z.of_ours, z.of
 
 returns-then-rows-sizes : tie.Need-returns-then-rows-sizes
 returns-then-rows-sizes c =
-    let e = c in
     let k = accepted-at c.before.before.before in
     let s = entered k in
     refusing s _ (on_lists k (asked_19 (lists s) s.args.floor s.args.gate (old s) (met_18 c.before.before.before) (omega (arith, number k, c.if-rows-sizes.true))))
@@ -168,7 +165,6 @@ paired c =
 
 write_merge-counts-requires : tie.Need-write_merge-counts-requires
 write_merge-counts-requires c κs =
-    let p = c in
     let r = roomy c.before.before in
     let k = accepted-at (asked r) in
     record { lists = located_of (read k); sized = sizes_of (read k); paired = paired c.before; room = omega (arith, r.if-rows-sizes.false) }
@@ -188,7 +184,6 @@ placed : (c : tie.After-write_merge-counts)
     let s = entered k in
     c.write_merge-counts.new.rows ≡ rows_left (rows_with_lem (lists s) s.args.floor s.args.gate (verdict_on (lists s))) (old s)
 placed c =
-    let p = c in
     let k = read_at c in
     let s = entered k in
     c.write_merge-counts.ensures.1 ∙ ap (λ (z : List Row). rows_left z (old s)) (rows_placed (verdict_on (lists s)) (paired c.before.before) (sizes_of (read k)))
@@ -209,19 +204,17 @@ few c = let k = read_at c in let s = entered k in (comparable (read k) s.args.fl
 
 fuse_rows-requires : tie.Need-fuse_rows-requires
 fuse_rows-requires c κs =
-    let t = c in
     let w = written c.before.before.before.before in
     let k = read_at w in
     let s = entered k in
-    to_fuse (read k) s.args.floor s.args.gate t.fields.ensures.0 (old s) (placed w)
+    to_fuse (read k) s.args.floor s.args.gate c.fields.ensures.0 (old s) (placed w)
     (omega (arith, w.write_merge-counts.auto.rows, (roomy w.before.before.before).if-rows-sizes.false))
 
 shape_of-values-else-rows-sizes : tie.Need-shape_of-values-else-rows-sizes
 shape_of-values-else-rows-sizes c =
-    let call = c in
     let t = lent c.before.before.before.before in
     let k = read_at (written t) in
-    length_front (base-values k) call.fuse_rows.new.base_values ((sizes k).base * t.fields.result) call.fuse_rows.auto.base_values ∙ values-kept k
+    length_front (base-values k) c.fuse_rows.new.base_values ((sizes k).base * t.fields.result) c.fuse_rows.auto.base_values ∙ values-kept k
 
 counts_same : {a b : Counts} → merged.Counts a ≡ merged.Counts b → a ≡ b
 counts_same e = cc
@@ -229,7 +222,6 @@ counts_same e = cc
 returns-else-rows-sizes : tie.Need-returns-else-rows-sizes
 unfolding merged_rows
 returns-else-rows-sizes c =
-    let call = c in
     let t = lent c.before.before.before.before in
     let w = written t in
     let k = read_at w in
@@ -238,7 +230,7 @@ returns-else-rows-sizes c =
     let r = roomy w.before.before.before in
     let a = read k in
     let n = t.fields.ensures.0 in
-    let passed = call.fuse_rows.ensures.0 in
+    let passed = c.fuse_rows.ensures.0 in
     let rows = all_passed a x.floor x.gate n (old s) (placed w) passed in
     let counts = w.write_merge-counts.ensures.0 ∙ ap counts_of (rows_placed (verdict_on (lists s)) (paired w.before.before) (sizes_of a))
     ∙ counts_alike (verdict_on (lists s)) (merged_verdict (lists s) x.floor) (pairings_of (lists s) x.floor x.gate) _ _ _ in
@@ -249,14 +241,13 @@ returns-else-rows-sizes c =
       e,
       λ told same q h v.
           let own : w.write_merge-counts.result ≡ told = counts_same same in
-          slot_stands a x.floor x.gate n (old s) (placed w) passed _ call.fuse_rows.ensures.1 q
+          slot_stands a x.floor x.gate n (old s) (placed w) passed _ c.fuse_rows.ensures.1 q
           (subst (λ (i : ℕ). q < i) total (subst (λ (z : Counts). q < z.full + z.half + z.single) (sym own ∙ counts) h))
           (row_fuses x.base.now x.ours.now x.theirs.now (d told same) q h v),
     )
 
 returns-in-Refused : tie.Need-returns-in-Refused
 returns-in-Refused c =
-    let k = c in
     let s = start_of c.before in
     let x = s.args in
     refusing s _ (lists-refused x.base.now x.ours.now x.theirs.now x.floor x.gate (old s) (subst (ThreeAnswered-at c.before) c.in-Refused.is (three-at c.before)))

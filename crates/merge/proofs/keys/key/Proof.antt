@@ -25,12 +25,10 @@ state c = length-state c.args.terms c.requires.track.compares c.args.v.now c.req
 
 track_covariance-requires : tie.Need-track_covariance-requires
 track_covariance-requires c κs =
-    let s = c in
-    covariance-room s.args.terms s.requires.track.compares s.args.v.now s.args.q.now s.requires.other s.requires.track.room
+    covariance-room c.args.terms c.requires.track.compares c.args.v.now c.args.q.now c.requires.other c.requires.track.room
 
 compare_tracks-c-requires : tie.Need-compare_tracks-c-requires
 compare_tracks-c-requires c κs =
-    let whole = c in
     let s = entered c.before.before in
     let h = s.requires.track in
     record {
@@ -38,19 +36,18 @@ compare_tracks-c-requires c κs =
       state-i = h.state;
       state-j = state s;
       covariance-i = h.covariance;
-      covariance-j = whole.track_covariance.auto.out ∙ h.room;
+      covariance-j = c.track_covariance.auto.out ∙ h.room;
     }
 
 returns : tie.Need-returns
 unfolding compared_with_report
 returns c =
-    let made = c in
     let whole = (filled c.before).track_covariance in
     let s = entered (filled c.before) in
     let x = s.args in
     let t = x.terms in
     c.rank.ensures
-    ∙ ap (λ (z : ComparisonReport). rank (candidacy_of z.comparison)) made.compare_tracks-c.ensures
+    ∙ ap (λ (z : ComparisonReport). rank (candidacy_of z.comparison)) c.compare_tracks-c.ensures
     ∙ ap (λ (q : List Float). rank (candidacy_of (compared x.mu.now (track_state t.d x.v.now) x.p.now q t.d t.floor t.gate)))
     whole.ensures
 

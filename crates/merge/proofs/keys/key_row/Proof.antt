@@ -73,10 +73,9 @@ put_keys-requires c κs =
 
 returns : tie.Need-returns
 returns c =
-    let made = c in
     let w = written c.before.before.before.before in
     let x = (start_of w).args in
-    made.put_keys.ensures
+    c.put_keys.ensures
     ∙ ap (λ (p : List Float). keys_from x.terms (eqb x.first nobody) (track_state x.terms.d x.u.now) p x.vs.now x.partners (length x.keys.now)) (in_front w _)
     ∙ ap (λ (n : ℕ). keys_from x.terms (eqb x.first nobody) (track_state x.terms.d x.u.now) (covariance (start_of w)) x.vs.now x.partners n) (start_of w).requires.room
 

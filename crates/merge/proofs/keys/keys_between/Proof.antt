@@ -55,26 +55,21 @@ row-u-requires c κs =
 
 key_row-requires : tie.Need-key_row-requires invariant-loop-i decreases-loop-i
 key_row-requires c κs =
-    let found = c in
-    let in-loop = found in
     let s = entered c.before.before in
     record {
       compares = s.requires.0.compares;
-      track = found.row-u.ensures.0;
+      track = c.row-u.ensures.0;
       others = s.requires.0.seconds;
-      room = length_part in-loop.loop-i.keys s.args.n in-loop.loop-i.i (within c.before.before);
+      room = length_part c.loop-i.keys s.args.n c.loop-i.i (within c.before.before);
     }
 
 loop-i-preserved : tie.Need-loop-i-preserved invariant-loop-i decreases-loop-i
 loop-i-preserved c =
-    let made = c in
-    let found = made in
-    let in-loop = found in
     let s = entered c.before.before.before.before.before in
-    let i = in-loop.loop-i.i in
-    let v = in-loop.loop-i.invariant in
+    let i = c.loop-i.i in
+    let v = c.loop-i.invariant in
     let row : List Float → List Float = λ u. tabulate s.args.n (key-at s u i) in
-    let rows = rows_more _ s.args.n i (within c.before.before.before.before.before) (made.key_row.ensures ∙ ap row found.row-u.ensures.1) v.rows in
+    let rows = rows_more _ s.args.n i (within c.before.before.before.before.before) (c.key_row.ensures ∙ ap row c.row-u.ensures.1) v.rows in
     record { turns = omega arith; long = v.long; rows = rows }
 
 shape_of-keys : tie.Need-shape_of-keys invariant-loop-i decreases-loop-i
@@ -82,11 +77,9 @@ shape_of-keys c = c.loop-i.invariant.rows.size
 
 returns : tie.Need-returns invariant-loop-i decreases-loop-i
 returns c =
-    let turn = c in
-    let s = turn in
-    let x = s.args in
-    let whole : ℕ → Type 0 = λ k. take (k * x.n) turn.loop-i.keys ≡ matrix k x.n (λ i. key-at c.before.before.before.before.before (row_of x.us.now x.terms.f i) i) in
-    let v = turn.loop-i.invariant in
+    let x = c.args in
+    let whole : ℕ → Type 0 = λ k. take (k * x.n) c.loop-i.keys ≡ matrix k x.n (λ i. key-at c.before.before.before.before.before (row_of x.us.now x.terms.f i) i) in
+    let v = c.loop-i.invariant in
     record { long = v.rows.size ∙ v.long; front = subst whole (le_antisymm v.turns c.loop-i-test.false) v.rows.done }
 
 pub keys_between_spec : {M : Type 1} → statement M

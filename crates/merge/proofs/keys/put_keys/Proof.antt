@@ -37,16 +37,14 @@ loop-j-init c = let p = c.requires in record { room = p.track.room; keys = no_en
 
 row-v-requires : tie.Need-row-v-requires invariant-loop-j decreases-loop-j
 row-v-requires c κs =
-    let turn = c in
     let s = entered c.before.before.before in
-    omega (arith, row_within (length s.args.keys.now) s.args.terms.f {i = turn.loop-j.j} (omega arith), s.requires.others.long)
+    omega (arith, row_within (length s.args.keys.now) s.args.terms.f {i = c.loop-j.j} (omega arith), s.requires.others.long)
 
 key-requires : tie.Need-key-requires invariant-loop-j decreases-loop-j
 key-requires c κs =
-    let turn = c in
     let h = (entered c.before.before.before.before.before).requires.track in
     record {
-      track = record { compares = h.compares; state = h.state; covariance = h.covariance; room = turn.loop-j.invariant.room };
+      track = record { compares = h.compares; state = h.state; covariance = h.covariance; room = c.loop-j.invariant.room };
       other = c.row-v.ensures.0;
     }
 
@@ -62,12 +60,10 @@ of_others k e t h = rw (sym e ∙ t) h
 
 loop-j-preserved : tie.Need-loop-j-preserved invariant-loop-j decreases-loop-j
 loop-j-preserved c =
-    let free = c in
-    let in-loop = free in
     let x = (entered c.before.before.before).args in
-    let v = in-loop.loop-j.invariant in
-    let h = in-loop.loop-j-test.true in
-    let e = free.both_free.ensures in
+    let v = c.loop-j.invariant in
+    let h = c.loop-j-test.true in
+    let e = c.both_free.ensures in
     elim c.if-both_free.branch [
       | then-both_free w ↦ record {
         room = ap length w.q-is ∙ w.key.auto.q ∙ v.room;

@@ -14,16 +14,14 @@ use Rattle.merge.proofs.pairings.pair_lists.Tie as tie
 -- the keys of two lists lie within the array
 partners_by-requires : tie.Need-partners_by-requires
 partners_by-requires c κs =
-    let k = c in
-    let p = k.requires in
-    record { few-firsts = p.firsts.few; few-seconds = p.seconds.few; long = omega (arith, k.keys_between.ensures.long, mul-le-mul p.firsts.few p.seconds.few) }
+    let p = c.requires in
+    record { few-firsts = p.firsts.few; few-seconds = p.seconds.few; long = omega (arith, c.keys_between.ensures.long, mul-le-mul p.firsts.few p.seconds.few) }
 
 returns : tie.Need-returns
 unfolding partners_between partners_in
 returns c =
-    let k = c in
-    let x = k.args in
-    c.partners_by.ensures ∙ ap (λ (keys : List Float). partners_in (from_keys keys x.m x.n)) k.keys_between.ensures.front
+    let x = c.args in
+    c.partners_by.ensures ∙ ap (λ (keys : List Float). partners_in (from_keys keys x.m x.n)) c.keys_between.ensures.front
 
 pub pair_lists_spec : {M : Type 1} → statement M
 pair_lists_spec = tie.close (tie.spec (λ c. search rules) (λ c κs. search rules) (λ c. search rules) partners_by-requires returns)

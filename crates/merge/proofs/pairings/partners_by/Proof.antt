@@ -16,16 +16,13 @@ in_front c = length-take-le _ c.args.keys.now c.requires.long
 
 pair_tracks-requires : tie.Need-pair_tracks-requires
 pair_tracks-requires c κs =
-    let s = c in
-    let p = s.requires in
+    let p = c.requires in
     (p.few-firsts, p.few-seconds, record { all_keys = in_front c.before.before.before; all_firsts = new_long p.few-firsts; all_seconds = new_long p.few-seconds })
 
 returns : tie.Need-returns
 returns c =
-    let made = c in
-    let s = made in
-    let x = s.args in
-    tables-front (from_keys (take (x.m * x.n) x.keys.now) x.m x.n) _ _ made.pair_tracks.ensures.0 made.pair_tracks.ensures.1
+    let x = c.args in
+    tables-front (from_keys (take (x.m * x.n) x.keys.now) x.m x.n) _ _ c.pair_tracks.ensures.0 c.pair_tracks.ensures.1
 
 pub partners_by_spec : {M : Type 1} → statement M
 partners_by_spec =

@@ -30,16 +30,14 @@ loop-i-init c = no_turn refl
 
 put_row-requires : tie.Need-put_row-requires invariant-loop-i decreases-loop-i
 put_row-requires c κs =
-    let turn = c in
     let room = (begun c.before.before).requires in
-    (omega (arith, room.few), omega (arith, room.room, turn.loop-i.invariant.long))
+    (omega (arith, room.few), omega (arith, room.room, c.loop-i.invariant.long))
 
 -- the turn's row is one more
 loop-i-preserved : tie.Need-loop-i-preserved invariant-loop-i decreases-loop-i
 loop-i-preserved c =
-    let turn = c in
     let s = begun c.before.before.before.before.before in
-    tabulated_turn (at_row s) turn.loop-i.invariant (omega arith) (omega (arith, s.requires.room)) c.put_row.ensures
+    tabulated_turn (at_row s) c.loop-i.invariant (omega arith) (omega (arith, s.requires.room)) c.put_row.ensures
 
 returns : tie.Need-returns invariant-loop-i decreases-loop-i
 returns c = (every_turn c.loop-i.invariant c.loop-i-test.false).bytes

@@ -41,7 +41,6 @@ put_row-r-requires c κs = let s = begun (turn c) in selected-room (wanted s) (a
 -- the turn's row is one more, or none is
 loop-j-preserved : tie.Need-loop-j-preserved invariant-loop-j decreases-loop-j
 loop-j-preserved c =
-    let t = c in
     let s = begun (turn c.before.before.before) in
     selected-turn (wanted s) (at_row s) (turn c.before.before.before).loop-j.invariant (omega arith) s.requires c.put_row-r.ensures
 

@@ -41,10 +41,9 @@ put_row-r-requires c κs = let s = begun (turn c) in selected-room (wanted s) (a
 -- the turn's row is one more, or none is
 loop-k-preserved : tie.Need-loop-k-preserved invariant-loop-k decreases-loop-k
 loop-k-preserved c =
-    let t = c in
     let i = (turn c.before.before.before).loop-k in
     let s = begun (turn c.before.before.before) in
-    let put = appended_if _ (wanted s i.k) (at_row s i.k) t.both_free.ensures c.put_row-r.ensures in
+    let put = appended_if _ (wanted s i.k) (at_row s i.k) c.both_free.ensures c.put_row-r.ensures in
     selected-turn (wanted s) (at_row s) i.invariant (omega arith) s.requires put
 
 returns : tie.Need-returns invariant-loop-k decreases-loop-k

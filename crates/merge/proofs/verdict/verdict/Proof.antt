@@ -19,14 +19,12 @@ returns-then-theirs_base-2 c = rw (c.if-base.true, c.if-ours.true, c.if-theirs.t
 returns-then-ours_theirs : tie.Need-returns-then-ours_theirs
 unfolding verdict
 returns-then-ours_theirs c =
-    let all = c in
-    rw (all.if-base.true, all.if-ours.true, all.if-theirs.true, c.if-ours_base.false, c.if-theirs_base-2.false, c.if-ours_theirs.true) refl
+    rw (c.if-base.true, c.if-ours.true, c.if-theirs.true, c.if-ours_base.false, c.if-theirs_base-2.false, c.if-ours_theirs.true) refl
 
 returns-then-theirs : tie.Need-returns-then-theirs
 unfolding verdict
 returns-then-theirs c =
-    let all = c in
-    rw (all.if-base.true, all.if-ours.true, all.if-theirs.true, c.if-ours_base.false, c.if-theirs_base-2.false, c.if-ours_theirs.false) refl
+    rw (c.if-base.true, c.if-ours.true, c.if-theirs.true, c.if-ours_base.false, c.if-theirs_base-2.false, c.if-ours_theirs.false) refl
 
 returns-then-ours_base-2 : tie.Need-returns-then-ours_base-2
 unfolding verdict

@@ -63,7 +63,6 @@ bounds-offsets-i c = let t = there c.before.before in omega (arith, few-located 
 
 returns-else-count-i : tie.Need-returns-else-count-i
 returns-else-count-i c =
-    let e = c in
     let k = read c.before.before.before in
     let l = list_of k in
     let i = (start_of (both k)).args.i in
@@ -74,12 +73,10 @@ returns-else-count-i c =
 
 returns-in-Refused-d : tie.Need-returns-in-Refused-d
 returns-in-Refused-d c =
-    let k = c in
     place-other-refused (list_of c.before) (other-of c.before) _ (located c.before).0.accepted (list-refused (other-of c.before) zeros refl (both c.before).track_offsets-d.ensures c.in-Refused-d.is)
 
 returns-in-Refused : tie.Need-returns-in-Refused
 returns-in-Refused c =
-    let a = c in
     let x = (start_of c.before).args in
     place-refused x.list.now x.other.now _ (list-refused x.list.now zeros refl (checked c.before).track_offsets-c.ensures c.in-Refused.is)
 

@@ -48,7 +48,7 @@ slice_bounds-result-end-in-Theirs : tie.Need-slice_bounds-result-end-in-Theirs
 slice_bounds-result-end-in-Theirs c = omega (arith, (in_theirs_lem c).within)
 
 returns-in-Nobody : tie.Need-returns-in-Nobody
-returns-in-Nobody c = let w = c in rw (sym w.winning-w.ensures ∙ c.in-Nobody.is) (refl, refl)
+returns-in-Nobody c = rw (sym c.winning-w.ensures ∙ c.in-Nobody.is) (refl, refl)
 
 returns-in-Ours : tie.Need-returns-in-Ours
 returns-in-Ours c = rw (is_ours c.before) ((in_ours_lem c.before).bytes, λ some. (refl, omega arith))

@@ -55,13 +55,12 @@ fitting c v a =
 
 write_rows-total-requires : tie.Need-write_rows-total-requires
 write_rows-total-requires c κs =
-    let s = c in
-    let z = s.requires.sized in
+    let z = c.requires.sized in
     record {
       few-base = omega (arith, few c.before.before.before.before.before, z.of_base);
       few-ours = omega (arith, few c.before.before.before.before.before, z.of_ours);
       few-theirs = omega (arith, few c.before.before.before.before.before, z.of_theirs);
-      room = s.requires.room;
+      room = c.requires.room;
     }
 
 -- the rows stand in the buffer, and then their verdicts
@@ -77,7 +76,6 @@ decided c =
 
 write_verdicts-requires : tie.Need-write_verdicts-requires
 write_verdicts-requires c κs =
-    let w = c in
     let s = begun c.before.before.before in
     let fit = fitting s undecided (placed c.before.before.before) in
     let is = indices_in_lem (lists s) s.requires.paired.floor s.requires.paired.gate (few s).0 (few s).1 (few s).2 (old s) undecided (placed c.before.before.before) in
@@ -85,12 +83,10 @@ write_verdicts-requires c κs =
 
 count_rows-requires : tie.Need-count_rows-requires
 count_rows-requires c κs =
-    let v = c in
     fitting (begun (written c.before.before)) (verdict_on (lists (begun (written c.before.before)))) (decided c.before.before)
 
 returns : tie.Need-returns
 returns c =
-    let v = c in
     let s = begun (written c.before.before.before) in
     let a = appended_same (sym (placed_with s (verdict_on (lists s)))) (decided c.before.before.before) in
     (c.count_rows.ensures ∙ counts_written a, a.bytes)

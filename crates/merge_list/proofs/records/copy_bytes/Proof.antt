@@ -47,8 +47,7 @@ shape_of-to c = c.loop-i.invariant.1.size
 returns : tie.Need-returns invariant-loop-i decreases-loop-i
 returns c =
     let l = c.loop-i in
-    let e = c in
-    let x = e.args in (
+    let x = c.args in (
       omega (arith, ap length (wanted c.before.before)),
       (laid_all l.invariant.1 (take_all l.i x.from.now c.loop-i-test.false ∙ sym (wanted c.before.before))).1,
     )

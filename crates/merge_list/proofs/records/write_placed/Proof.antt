@@ -47,10 +47,8 @@ write_track-requires c κs =
 
 returns : tie.Need-returns
 returns c =
-    let w = c in
-    let r = w in
     let x = (start_of c.before.before.before.before.before).args in
-    let e = w.write_track.ensures in
+    let e = c.write_track.ensures in
     (e.0 ∙ ap (λ (l : List ℕ). x.at + length l) (wanted c.before.before.before.before), e.1 ∙ ap (over x.out.now x.at) (wanted c.before.before.before.before))
 
 pub write_placed_spec : {M : Type 1} → statement M

@@ -124,7 +124,6 @@ write_placed-at-requires c κs =
 
 loop-r-preserved : tie.Need-loop-r-preserved invariant-loop-r decreases-loop-r
 loop-r-preserved c =
-    let last = c in
     record { turns = omega (arith, inside (first_of (third c.before.before.before))); laid = laid_fused c.before.before }
 
 -- the last table of offsets is an array of 33

@@ -66,11 +66,10 @@ shape_of-list c = c.write_records.auto.out ∙ simp length-set
 
 returns : tie.Need-returns
 returns c =
-    let w = c in
     let t = third c.before.before.before in
     let s = start_of t in
-    let e = w.write_records.ensures in
-    let kept : length w.write_records.new.out ≡ length s.args.list.now = w.write_records.auto.out ∙ simp length-set in (
+    let e = c.write_records.ensures in
+    let kept : length c.write_records.new.out ≡ length s.args.list.now = c.write_records.auto.out ∙ simp length-set in (
       (
         omega (arith, e.0, ap length (shape t)),
         e.1 ∙ over-two s.args.list.now s.args.count (dimension s.args.base.now) (records-of t) (omega (arith, room t)) ∙ ap (over s.args.list.now 0) (sym (shape t)),

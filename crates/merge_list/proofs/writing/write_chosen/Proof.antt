@@ -59,7 +59,6 @@ met_21 c = sym (conflicts c.before) ∙ c.if-conflicts-ne0.false
 
 returns-then-count-gt32 : tie.Need-returns-then-count-gt32
 returns-then-count-gt32 c =
-    let e = c in
     let s = start_of c.before.before in
     promised s (asked_22 (length s.args.out.now) (rows_of s) (list_of s) (met_21 c.before) (omega (arith, counted c.before.before, c.if-count-gt32.true))) refl refl
 
@@ -68,9 +67,8 @@ few c = omega (arith, counted c.before.before, c.if-count-gt32.false)
 
 put_list-length-requires : tie.Need-put_list-length-requires
 put_list-length-requires c κs =
-    let e = c in
     let p = (start_of c.before.before.before).requires in
-    record { takes = p.takes; counted = counted c.before.before.before; few = e.if-count-gt32.false; room = p.size (few c.before) }
+    record { takes = p.takes; counted = counted c.before.before.before; few = c.if-count-gt32.false; room = p.size (few c.before) }
 
 -- the list stands in the local array
 abbrev listed : tie.After-put_list-length → List ℕ
@@ -81,24 +79,21 @@ front c = let e = c.put_list-length.ensures.0 in ap (take c.put_list-length.resu
 
 returns-then-out-length : tie.Need-returns-then-out-length
 returns-then-out-length c =
-    let p = c in
     let s = start_of (met c.before.before).before in
-    promised s (asked_20 (length s.args.out.now) (rows_of s) (list_of s) (met_21 (met c.before.before)) (few c.before.before.before.before) (omega (arith, p.put_list-length.ensures.0.0, c.if-out-length.true))) refl refl
+    promised s (asked_20 (length s.args.out.now) (rows_of s) (list_of s) (met_21 (met c.before.before)) (few c.before.before.before.before) (omega (arith, c.put_list-length.ensures.0.0, c.if-out-length.true))) refl refl
 
 slice_bounds-copy_bytes-end : tie.Need-slice_bounds-copy_bytes-end
-slice_bounds-copy_bytes-end c = let p = c in omega (arith, p.put_list-length.ensures.0.0, ap length (front c.before.before.before))
+slice_bounds-copy_bytes-end c = omega (arith, c.put_list-length.ensures.0.0, ap length (front c.before.before.before))
 
 copy_bytes-requires : tie.Need-copy_bytes-requires
 copy_bytes-requires c κs =
-    let p = c in
-    omega (arith, p.put_list-length.ensures.0.0, ap length (front c.before.before.before.before), c.if-out-length.false)
+    omega (arith, c.put_list-length.ensures.0.0, ap length (front c.before.before.before.before), c.if-out-length.false)
 
 returns : tie.Need-returns
 returns c =
-    let p = c in
     let s = start_of (met c.before.before.before.before.before.before.before).before in
     let out = s.args.out.now in
-    let long : p.put_list-length.result ≡ length (listed c.before.before.before.before.before.before.before) = omega (arith, p.put_list-length.ensures.0.0) in
+    let long : c.put_list-length.result ≡ length (listed c.before.before.before.before.before.before.before) = omega (arith, c.put_list-length.ensures.0.0) in
     promised s (asked_list (length out) (rows_of s) (list_of s) (met_21 (met c.before.before.before.before.before.before.before)) (few c.before.before.before.before.before.before.before.before.before) (omega (arith, long, c.if-out-length.false))) (ap Length long)
     (c.copy_bytes.ensures.1 ∙ ap (over out 0) (front c.before.before.before.before.before.before.before))
 

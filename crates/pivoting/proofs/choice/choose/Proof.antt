@@ -25,9 +25,8 @@ consider-best-requires c κs = best_abs _ _ _ _ _ c.loop-i.invariant.1.state
 
 loop-i-preserved : tie.Need-loop-i-preserved invariant-loop-i decreases-loop-i
 loop-i-preserved c =
-    let turn = c in
-    let inv = turn.loop-i.invariant in
-    (omega arith, turns_more inv.1 turn.loop-i-test.true (λ e. best_more _ _ _ _ _ inv.0 e c.entry.ensures c.consider-best.ensures))
+    let inv = c.loop-i.invariant in
+    (omega arith, turns_more inv.1 c.loop-i-test.true (λ e. best_more _ _ _ _ _ inv.0 e c.entry.ensures c.consider-best.ensures))
 
 returns : tie.Need-returns invariant-loop-i decreases-loop-i
 returns c = turns_all c.loop-i.invariant.1 c.loop-i-test.false

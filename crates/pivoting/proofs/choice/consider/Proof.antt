@@ -14,31 +14,26 @@ returns-then-s c = rw c.if-s.true
 returns-then-ratio-best : tie.Need-returns-then-ratio-best
 unfolding consider
 returns-then-ratio-best c =
-    let else1 = c in
-    let b = else1.args.best in
-    let y = div else1.args.x else1.args.s in
-    rw (else1.if-s.false, ← (abs-ratio else1.args.x else1.args.s else1.if-s.false))
-    (first (λ (q : Float). record { ratio = q; row = else1.args.i }) b b.ratio y else1.requires c.if-ratio-best.true)
+    let b = c.args.best in
+    let y = div c.args.x c.args.s in
+    rw (c.if-s.false, ← (abs-ratio c.args.x c.args.s c.if-s.false))
+    (first (λ (q : Float). record { ratio = q; row = c.args.i }) b b.ratio y c.requires c.if-ratio-best.true)
 
 returns-then-ratio-best-2 : tie.Need-returns-then-ratio-best-2
 unfolding consider
 returns-then-ratio-best-2 c =
-    let else2 = c in
-    let else1 = else2 in
-    let b = else1.args.best in
-    let y = div else1.args.x else1.args.s in
-    rw (else1.if-s.false, ← (abs-ratio else1.args.x else1.args.s else1.if-s.false))
-    (second (λ (q : Float). record { ratio = q; row = else1.args.i }) b b.ratio y else1.requires else2.if-ratio-best.false c.if-ratio-best-2.true)
+    let b = c.args.best in
+    let y = div c.args.x c.args.s in
+    rw (c.if-s.false, ← (abs-ratio c.args.x c.args.s c.if-s.false))
+    (second (λ (q : Float). record { ratio = q; row = c.args.i }) b b.ratio y c.requires c.if-ratio-best.false c.if-ratio-best-2.true)
 
 returns : tie.Need-returns
 unfolding consider
 returns c =
-    let else2 = c in
-    let else1 = else2 in
-    let b = else1.args.best in
-    let y = div else1.args.x else1.args.s in
-    rw (else1.if-s.false, ← (abs-ratio else1.args.x else1.args.s else1.if-s.false))
-    (third (λ (q : Float). record { ratio = q; row = else1.args.i }) b b.ratio y else1.requires else2.if-ratio-best.false c.if-ratio-best-2.false)
+    let b = c.args.best in
+    let y = div c.args.x c.args.s in
+    rw (c.if-s.false, ← (abs-ratio c.args.x c.args.s c.if-s.false))
+    (third (λ (q : Float). record { ratio = q; row = c.args.i }) b b.ratio y c.requires c.if-ratio-best.false c.if-ratio-best-2.false)
 
 pub consider_spec : {M : Type 1} → statement M
 consider_spec = tie.close (tie.spec returns-then-s returns-then-ratio-best returns-then-ratio-best-2 returns)

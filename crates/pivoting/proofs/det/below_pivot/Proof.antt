@@ -37,20 +37,18 @@ decreases-loop-j x n k y₀ factor j₀ y j = n - j
 
 loop-j-init : tie.Need-loop-j-init invariant-loop-j decreases-loop-j
 loop-j-init c =
-    let start = c in
-    let x = start.args in
-    record { right = omega arith; factor = refl; entries = entries_there start.requires.right (omega arith) (λ q h. kept x.x.now x.y.now x.k q h) }
+    let x = c.args in
+    record { right = omega arith; factor = refl; entries = entries_there c.requires.right (omega arith) (λ q h. kept x.x.now x.y.now x.k q h) }
 
 loop-j-preserved : tie.Need-loop-j-preserved invariant-loop-j decreases-loop-j
 loop-j-preserved c =
-    let turn = c in
-    let l = turn.loop-j in
-    let x = turn.args in
+    let l = c.loop-j in
+    let x = c.args in
     let inv = l.invariant in
     record {
       right = omega arith;
       factor = inv.factor;
-      entries = entry-written inv.entries turn.loop-j-test.true (part x.x.now x.y.now l.y x.k l.j inv.right inv.factor (entry_old inv.entries));
+      entries = entry-written inv.entries c.loop-j-test.true (part x.x.now x.y.now l.y x.k l.j inv.right inv.factor (entry_old inv.entries));
     }
 
 returns : tie.Need-returns invariant-loop-j decreases-loop-j

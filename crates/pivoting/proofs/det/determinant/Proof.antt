@@ -13,8 +13,7 @@ size c = square-room 16 c.args.n c.requires.0
 
 determinant_in-requires : tie.Need-determinant_in-requires
 determinant_in-requires c κs =
-    let start = c in
-    (refl, start.requires.1, length-take-le _ _ (size c.before.before.before.before), length-take-le _ _ start.requires.0, length-take-le _ _ start.requires.0)
+    (refl, c.requires.1, length-take-le _ _ (size c.before.before.before.before), length-take-le _ _ c.requires.0, length-take-le _ _ c.requires.0)
 
 pub determinant_spec : {M : Type 1} → statement M
 determinant_spec =

@@ -17,21 +17,15 @@ started a m s n f g = rw (f, g)
 returns-then-not-some_scale : tie.Need-returns-then-not-some_scale
 unfolding determinant
 returns-then-not-some_scale c =
-    let after-row-norms = c in
-    let start = after-row-norms in
-    let x = start.args in
-    rw (unmet (c.some_scale.ensures ∙ ap (some_scale x.n) after-row-norms.row_norms.ensures) c.if-not-some_scale.true)
+    let x = c.args in
+    rw (unmet (c.some_scale.ensures ∙ ap (some_scale x.n) c.row_norms.ensures) c.if-not-some_scale.true)
 
 returns : tie.Need-returns
 unfolding determinant
 returns c =
-    let after-product = c in
-    let copied = after-product in
-    let scaled = copied in
-    let normed = scaled in
-    let x = normed.args in
-    rw (met (scaled.some_scale.ensures ∙ ap (some_scale x.n) normed.row_norms.ensures) scaled.if-not-some_scale.false)
-    (after-product.signed_product.ensures ∙ started x.a.now _ _ x.n copied.copy.ensures normed.row_norms.ensures)
+    let x = c.args in
+    rw (met (c.some_scale.ensures ∙ ap (some_scale x.n) c.row_norms.ensures) c.if-not-some_scale.false)
+    (c.signed_product.ensures ∙ started x.a.now _ _ x.n c.copy.ensures c.row_norms.ensures)
 
 pub determinant_in_spec : {M : Type 1} → statement M
 determinant_in_spec =

@@ -7,12 +7,8 @@ use Rattle.pivoting.proofs.det.forward_step.Tie as tie
 
 returns : tie.Need-returns
 returns c =
-    let after-reduce-below = c in
-    let after-copy-row = after-reduce-below in
-    let after-row-of = after-copy-row in
-    let start = after-row-of in
-    let x = start.args in
-    after-reduce-below.reduce_below.ensures ∙ forward_stepped x.m.now _ _ _ _ _ start.requires.column after-row-of.row_of.ensures after-copy-row.copy_row.ensures
+    let x = c.args in
+    c.reduce_below.ensures ∙ forward_stepped x.m.now _ _ _ _ _ c.requires.column c.row_of.ensures c.copy_row.ensures
 
 pub forward_step_spec : {M : Type 1} → statement M
 forward_step_spec = tie.close (tie.spec (λ c κs. search rules) (λ c κs. search rules) (λ c κs. search rules) (λ c. search rules) (λ c. search rules) returns)

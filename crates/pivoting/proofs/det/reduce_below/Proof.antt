@@ -24,9 +24,8 @@ decreases-loop-i x m₀ n k i₀ m i = n - i
 
 loop-i-init : tie.Need-loop-i-init invariant-loop-i decreases-loop-i
 loop-i-init c =
-    let start = c in
-    let x = start.args in
-    let pre = start.requires in
+    let x = c.args in
+    let pre = c.requires in
     record { below = omega arith; rows = rows_there pre.matrix (omega arith) (omega (arith, row_within x.n x.n pre.column)) (λ a j h l. rw (lt-ltb a x.k h)) }
 
 fits : (c : tie.In-loop-i invariant-loop-i decreases-loop-i) → RowFits c.loop-i.invariant.rows
@@ -37,15 +36,13 @@ pivot_or_below-requires c κs = record { column = omega arith; left = omega arit
 
 loop-i-preserved : tie.Need-loop-i-preserved invariant-loop-i decreases-loop-i
 loop-i-preserved c =
-    let turn = c in
-    let start = turn in
-    let x = start.args in
-    let inv = turn.loop-i.invariant in
+    let x = c.args in
+    let inv = c.loop-i.invariant in
     let made = c.pivot_or_below.ensures in
     let rows = inv.rows in
     record {
       below = omega arith;
-      rows = row_written rows turn.loop-i-test.true (made ∙ tabulate_ext _ _ _ (λ j h. rw (le-ltb _ x.k inv.below, row_old rows j h, row_old rows x.k start.requires.column)));
+      rows = row_written rows c.loop-i-test.true (made ∙ tabulate_ext _ _ _ (λ j h. rw (le-ltb _ x.k inv.below, row_old rows j h, row_old rows x.k c.requires.column)));
     }
 
 returns : tie.Need-returns invariant-loop-i decreases-loop-i

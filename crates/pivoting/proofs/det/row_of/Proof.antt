@@ -15,8 +15,7 @@ decreases-loop-j m n p y₀ j₀ y j = n - j
 
 entry-requires : tie.Need-entry-requires invariant-loop-j decreases-loop-j
 entry-requires c κs =
-    let start = c in
-    omega (arith, cell start.args.n start.args.n {i = start.args.p} {j = c.loop-j.j} (omega arith) (omega arith))
+    omega (arith, cell c.args.n c.args.n {i = c.args.p} {j = c.loop-j.j} (omega arith) (omega arith))
 
 loop-j-preserved : tie.Need-loop-j-preserved invariant-loop-j decreases-loop-j
 loop-j-preserved c = entry-written c.loop-j.invariant c.loop-j-test.true c.entry.ensures

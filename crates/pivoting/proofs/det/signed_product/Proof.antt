@@ -55,7 +55,6 @@ returns-then-not-is_taken c = let t = turn c.before.before in rw (columns_never 
 
 entry-det-requires : tie.Need-entry-det-requires invariant-loop-k decreases-loop-k
 entry-det-requires c κs =
-    let b = c in
     let n = (start c.before.before.before).args.n in
     omega (arith, cell n n (chosen c.before.before.before) (turn c.before.before.before).loop-k-test.true, (turn c.before.before.before).loop-k.invariant.reduced.lengths.rows)
 
@@ -67,26 +66,22 @@ forward_step-requires c κs = let b = choice c.before.before.before.before.befor
 
 loop-k-preserved : tie.Need-loop-k-preserved invariant-loop-k decreases-loop-k
 loop-k-preserved c =
-    let triangulated-here = c in
-    let swapped = triangulated-here in
-    let entry = swapped in
-    let flipped = entry in
     let b = choice c.before.before.before.before.before.before.before.before.before.before in
     let x = (start b).args in
     let f = triangulated x.n (stage x.m.now x.s.now) in
     let l = (turn b).loop-k in
     let inv = l.invariant in
     let here = inv.reduced.columns.here in
-    let kept = triangulated-here.forward_step.auto in
-    let next = triangulated_more _ _ l.k _ _ _ _ _ here b.choose-best.ensures triangulated-here.forward_step.ensures swapped.swap_norms.ensures in
+    let kept = c.forward_step.auto in
+    let next = triangulated_more _ _ l.k _ _ _ _ _ here b.choose-best.ensures c.forward_step.ensures c.swap_norms.ensures in
     record {
       reduced =
           record {
-            columns = columns_more inv.reduced.columns (turn b).loop-k-test.true (decided c.before.before.before.before.before.before.before.before.before.before.before.before.before.before) flipped.if-not-is_taken.false next;
-            lengths = lengths_kept inv.reduced.lengths kept.m swapped.swap_norms.auto.s kept.x;
+            columns = columns_more inv.reduced.columns (turn b).loop-k-test.true (decided c.before.before.before.before.before.before.before.before.before.before.before.before.before.before) c.if-not-is_taken.false next;
+            lengths = lengths_kept inv.reduced.lengths kept.m c.swap_norms.auto.s kept.x;
           };
-      sign = sign_more _ f l.k here b.choose-best.ensures inv.sign flipped.flipped-sign.ensures;
-      product = product_more _ f l.k here b.choose-best.ensures inv.product entry.entry-det.ensures;
+      sign = sign_more _ f l.k here b.choose-best.ensures inv.sign c.flipped-sign.ensures;
+      product = product_more _ f l.k here b.choose-best.ensures inv.product c.entry-det.ensures;
     }
 
 returns : tie.Need-returns invariant-loop-k decreases-loop-k

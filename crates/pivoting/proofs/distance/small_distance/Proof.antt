@@ -19,13 +19,11 @@ room c = augmented-room 4 (entered c).requires.1 (entered c).requires.1
 
 inverse_in-answer-requires : tie.Need-inverse_in-answer-requires
 inverse_in-answer-requires c κs =
-    let known = c in
     (refl, (entered c.before.before.before.before).requires.0.square, elimination_room _ _ _ _ _ (room c.before.before.before.before).size (room c.before.before.before.before).order (room c.before.before.before.before).width, length-take-le _ _ (room c.before.before.before.before).square)
 
 slice_bounds-inv-end-2 : tie.Need-slice_bounds-inv-end-2
 slice_bounds-inv-end-2 c =
-    let call = c in
-    front_fits _ _ call.inverse_in-answer.new.out (room (lent c.before.before.before.before)).square call.inverse_in-answer.auto.out
+    front_fits _ _ c.inverse_in-answer.new.out (room (lent c.before.before.before.before)).square c.inverse_in-answer.auto.out
 
 distance_under-requires : tie.Need-distance_under-requires
 distance_under-requires c κs =
@@ -34,10 +32,9 @@ distance_under-requires c κs =
 
 returns : tie.Need-returns
 returns c =
-    let call = c in
     let x = (entered (lent c.before.before.before.before.before.before)).args in
-    distance-over x.x.now x.mu.now x.cov.now x.n _ _ call.inverse_in-answer.new.out (room (lent c.before.before.before.before.before.before)).square
-    call.inverse_in-answer.auto.out call.inverse_in-answer.ensures c.distance_under.ensures
+    distance-over x.x.now x.mu.now x.cov.now x.n _ _ c.inverse_in-answer.new.out (room (lent c.before.before.before.before.before.before)).square
+    c.inverse_in-answer.auto.out c.inverse_in-answer.ensures c.distance_under.ensures
 
 pub small_distance_spec : {M : Type 1} → statement M
 small_distance_spec =

@@ -19,22 +19,19 @@ is_distance-requires c κs =
 returns-then-not-is_distance : tie.Need-returns-then-not-is_distance
 unfolding mahalanobis
 returns-then-not-is_distance c =
-    let else1 = c in
-    let sided = else1 in rw (met sided.is_side.ensures sided.if-not-is_side.false, unmet c.is_distance.ensures c.if-not-is_distance.true)
+    rw (met c.is_side.ensures c.if-not-is_side.false, unmet c.is_distance.ensures c.if-not-is_distance.true)
 
 distance-requires : tie.Need-distance-requires
 distance-requires c κs =
-    let sided = c in
-    let x = sided.args in
-    let s = met sided.is_side.ensures sided.if-not-is_side.false in
+    let x = c.args in
+    let s = met c.is_side.ensures c.if-not-is_side.false in
     let l = three-long x.x.now x.mu.now x.cov.now x.n x.n (x.n * x.n) (met c.is_distance.ensures c.if-not-is_distance.false) in
     (record { first = l.0; second = l.1; square = l.2 }, side_high x.n s)
 
 returns : tie.Need-returns
 unfolding mahalanobis
 returns c =
-    let sided = c in
-    rw (met sided.is_side.ensures sided.if-not-is_side.false, met c.is_distance.ensures c.if-not-is_distance.false) c.distance.ensures
+    rw (met c.is_side.ensures c.if-not-is_side.false, met c.is_distance.ensures c.if-not-is_distance.false) c.distance.ensures
 
 pub mahalanobis_distance_squared_spec : {M : Type 1} → statement M
 mahalanobis_distance_squared_spec = tie.close (tie.spec (λ c κs. search rules) returns-then-not-is_side is_distance-requires returns-then-not-is_distance distance-requires returns)

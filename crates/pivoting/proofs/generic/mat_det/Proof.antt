@@ -20,17 +20,13 @@ returns-then-not-is_matrix c = rw (met c.is_side.ensures c.if-not-is_side.false,
 
 determinant-requires : tie.Need-determinant-requires
 determinant-requires c κs =
-    let else1 = c in
-    let start = else1 in
-    let x = start.args in
-    (side_high x.n (met else1.is_side.ensures else1.if-not-is_side.false), long-length x.a.now (x.n * x.n) (met c.is_matrix.ensures c.if-not-is_matrix.false))
+    let x = c.args in
+    (side_high x.n (met c.is_side.ensures c.if-not-is_side.false), long-length x.a.now (x.n * x.n) (met c.is_matrix.ensures c.if-not-is_matrix.false))
 
 returns : tie.Need-returns
 unfolding mat_det
 returns c =
-    let after-is-matrix = c in
-    let after-is-side = after-is-matrix in
-    rw (met after-is-side.is_side.ensures after-is-matrix.if-not-is_side.false, met after-is-matrix.is_matrix.ensures c.if-not-is_matrix.false) (value c.determinant.ensures)
+    rw (met c.is_side.ensures c.if-not-is_side.false, met c.is_matrix.ensures c.if-not-is_matrix.false) (value c.determinant.ensures)
 
 pub mat_det_spec : {M : Type 1} → statement M
 mat_det_spec = tie.close (tie.spec (λ c κs. search rules) returns-then-not-is_side is_matrix-requires returns-then-not-is_matrix determinant-requires returns)

@@ -16,23 +16,18 @@ are_matrices-requires c κs = two_squares c.args.n (met c.is_side.ensures c.if-n
 returns-then-not-are_matrices : tie.Need-returns-then-not-are_matrices
 unfolding mat_inv
 returns-then-not-are_matrices c =
-    let else1 = c in
-    let sided = else1 in rw (met sided.is_side.ensures sided.if-not-is_side.false, unmet c.are_matrices.ensures c.if-not-are_matrices.true)
+    rw (met c.is_side.ensures c.if-not-is_side.false, unmet c.are_matrices.ensures c.if-not-are_matrices.true)
 
 inverse-requires : tie.Need-inverse-requires
 inverse-requires c κs =
-    let sided = c in
-    let x = sided.args in
+    let x = c.args in
     let l = two-long x.a.now x.out.now (x.n * x.n) (x.n * x.n) (met c.are_matrices.ensures c.if-not-are_matrices.false) in
-    (side_high x.n (met sided.is_side.ensures sided.if-not-is_side.false), l.0, l.1)
+    (side_high x.n (met c.is_side.ensures c.if-not-is_side.false), l.0, l.1)
 
 returns : tie.Need-returns
 unfolding mat_inv
 returns c =
-    let after-inverse = c in
-    let else2 = after-inverse in
-    let sided = else2 in
-    rw (met sided.is_side.ensures sided.if-not-is_side.false, met else2.are_matrices.ensures else2.if-not-are_matrices.false) after-inverse.inverse.ensures
+    rw (met c.is_side.ensures c.if-not-is_side.false, met c.are_matrices.ensures c.if-not-are_matrices.false) c.inverse.ensures
 
 pub mat_inv_spec : {M : Type 1} → statement M
 mat_inv_spec =

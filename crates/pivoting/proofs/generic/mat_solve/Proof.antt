@@ -13,33 +13,26 @@ returns-then-not-is_side c = rw (unmet c.is_side.ensures c.if-not-is_side.true)
 
 is_system-requires : tie.Need-is_system-requires
 is_system-requires c κs =
-    let after-is-side = c in
-    let start = after-is-side in
-    let n = start.args.n in
-    let s = met after-is-side.is_side.ensures c.if-not-is_side.false in
+    let n = c.args.n in
+    let s = met c.is_side.ensures c.if-not-is_side.false in
     area n n s s
 
 returns-then-not-is_system : tie.Need-returns-then-not-is_system
 unfolding mat_solve
 returns-then-not-is_system c =
-    let else1 = c in
-    let sided = else1 in rw (met sided.is_side.ensures sided.if-not-is_side.false, unmet c.is_system.ensures c.if-not-is_system.true)
+    rw (met c.is_side.ensures c.if-not-is_side.false, unmet c.is_system.ensures c.if-not-is_system.true)
 
 solve-requires : tie.Need-solve-requires
 solve-requires c κs =
-    let sided = c in
-    let x = sided.args in
+    let x = c.args in
     let l = three-long x.a.now x.b.now x.out.now (x.n * x.n) x.n x.n (met c.is_system.ensures c.if-not-is_system.false) in
-    let s = met sided.is_side.ensures sided.if-not-is_side.false in
+    let s = met c.is_side.ensures c.if-not-is_side.false in
     (side_high x.n s, side_low x.n s, record { matrix = l.0; sides = omega arith; solution = omega arith })
 
 returns : tie.Need-returns
 unfolding mat_solve
 returns c =
-    let after-solve = c in
-    let else2 = after-solve in
-    let sided = else2 in
-    rw (met sided.is_side.ensures sided.if-not-is_side.false, met else2.is_system.ensures else2.if-not-is_system.false) after-solve.solve.ensures
+    rw (met c.is_side.ensures c.if-not-is_side.false, met c.is_system.ensures c.if-not-is_system.false) c.solve.ensures
 
 pub mat_solve_spec : {M : Type 1} → statement M
 mat_solve_spec =

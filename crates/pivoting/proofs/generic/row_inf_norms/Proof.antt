@@ -24,30 +24,21 @@ returns-then-not-is_matrix c = rw (met c.is_side.ensures c.if-not-is_side.false,
 returns-then-not-is_vector : tie.Need-returns-then-not-is_vector
 unfolding row_inf_norms
 returns-then-not-is_vector c =
-    let else2 = c in
-    let else1 = else2 in
-    rw (met else1.is_side.ensures else1.if-not-is_side.false, met else2.is_matrix.ensures else2.if-not-is_matrix.false, unmet c.is_vector.ensures c.if-not-is_vector.true)
+    rw (met c.is_side.ensures c.if-not-is_side.false, met c.is_matrix.ensures c.if-not-is_matrix.false, unmet c.is_vector.ensures c.if-not-is_vector.true)
 
 row_norms-requires : tie.Need-row_norms-requires
 row_norms-requires c κs =
-    let after-is-vector = c in
-    let else2 = after-is-vector in
-    let start = else2 in
-    let x = start.args in (
-      long-length x.a.now (x.n * x.n) (met else2.is_matrix.ensures else2.if-not-is_matrix.false),
-      long-length x.out.now x.n (met after-is-vector.is_vector.ensures c.if-not-is_vector.false),
+    let x = c.args in (
+      long-length x.a.now (x.n * x.n) (met c.is_matrix.ensures c.if-not-is_matrix.false),
+      long-length x.out.now x.n (met c.is_vector.ensures c.if-not-is_vector.false),
     )
 
 returns : tie.Need-returns
 unfolding row_inf_norms
 returns c =
-    let after-row-norms = c in
-    let else3 = after-row-norms in
-    let else2 = else3 in
-    let else1 = else2 in
     rw
-    (met else1.is_side.ensures else1.if-not-is_side.false, met else2.is_matrix.ensures else2.if-not-is_matrix.false, met else3.is_vector.ensures else3.if-not-is_vector.false)
-    (done after-row-norms.row_norms.ensures)
+    (met c.is_side.ensures c.if-not-is_side.false, met c.is_matrix.ensures c.if-not-is_matrix.false, met c.is_vector.ensures c.if-not-is_vector.false)
+    (done c.row_norms.ensures)
 
 pub row_inf_norms_spec : {M : Type 1} → statement M
 row_inf_norms_spec =

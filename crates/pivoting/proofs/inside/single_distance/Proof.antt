@@ -26,9 +26,7 @@ consider-requires c κs = refl
 asked : (c : tie.After-is_taken) → let x = c.args in c.is_taken.result ≡ taken (consider unchosen (norm x.x x.mu x.cov) x.cov 0)
 unfolding of_bits
 asked c =
-    let chosen = c in
-    let normed = chosen in
-    c.is_taken.ensures ∙ ap taken chosen.consider.ensures ∙ ap (λ (s : Float). taken (consider unchosen s normed.args.cov 0)) normed.single_norm-norm.ensures
+    c.is_taken.ensures ∙ ap taken c.consider.ensures ∙ ap (λ (s : Float). taken (consider unchosen s c.args.cov 0)) c.single_norm-norm.ensures
 
 returns-then-not-is_taken : tie.Need-returns-then-not-is_taken
 returns-then-not-is_taken c =

@@ -27,11 +27,10 @@ join_identity-requires c κs = let pre = (entered c.before.before.before).requir
 
 eliminate-requires : tie.Need-eliminate-requires
 eliminate-requires c κs =
-    let j = c in
     let n = normed c.before.before.before.before.before.before in
     let pre = (entered n).requires in (
       pre.0,
-      record { matrix = j.join_identity.auto.m ∙ pre.2.matrix; norms = n.row_norms.auto.s ∙ pre.2.norms; row = pre.2.row },
+      record { matrix = c.join_identity.auto.m ∙ pre.2.matrix; norms = n.row_norms.auto.s ∙ pre.2.norms; row = pre.2.row },
       pre.3,
     )
 

@@ -20,7 +20,7 @@ joined_row-requires : tie.Need-joined_row-requires invariant-loop-i decreases-lo
 joined_row-requires c κs = (omega arith, omega arith, omega arith, row-lent c.loop-i.invariant c.loop-i-test.true)
 
 loop-i-preserved : tie.Need-loop-i-preserved invariant-loop-i decreases-loop-i
-loop-i-preserved c = let turn = c in row_written turn.loop-i.invariant turn.loop-i-test.true c.joined_row.ensures
+loop-i-preserved c = row_written c.loop-i.invariant c.loop-i-test.true c.joined_row.ensures
 
 returns : tie.Need-returns invariant-loop-i decreases-loop-i
 unfolding augmented

@@ -13,8 +13,7 @@ beyond n i j h k l = at-matrix n n unit_entry i (j - n) h (omega arith)
 
 entry-requires : tie.Need-entry-requires
 entry-requires c κs =
-    let start = c in
-    omega (arith, cell start.args.n start.args.n {i = start.args.i} {j = start.args.j} (omega arith) (omega arith))
+    omega (arith, cell c.args.n c.args.n {i = c.args.i} {j = c.args.j} (omega arith) (omega arith))
 
 returns-then-j-n : tie.Need-returns-then-j-n
 returns-then-j-n c = c.entry.ensures ∙ simp (lt-ltb _ _ c.if-j-n.true)

@@ -14,20 +14,16 @@ returns-then-not-is_taken c = record { answers = sym (unmet (c.is_taken.ensures 
 
 swap_norms-requires : tie.Need-swap_norms-requires
 swap_norms-requires c κs =
-    let after-choose = c in
-    let start = after-choose in
-    let x = start.args in
-    (start.requires.diagonal, pivot-row x.m.now x.s.now x.n x.w x.k start.requires.diagonal after-choose.choose-best.ensures, start.requires.room.norms)
+    let x = c.args in
+    (c.requires.diagonal, pivot-row x.m.now x.s.now x.n x.w x.k c.requires.diagonal c.choose-best.ensures, c.requires.room.norms)
 
 step-requires : tie.Need-step-requires
 step-requires c κs =
-    let after-choose = c in
-    let start = after-choose in
-    let x = start.args in
-    let pre = start.requires in (
+    let x = c.args in
+    let pre = c.requires in (
       pre.diagonal,
       record {
-        row = pivot-row x.m.now x.s.now x.n x.w x.k pre.diagonal after-choose.choose-best.ensures;
+        row = pivot-row x.m.now x.s.now x.n x.w x.k pre.diagonal c.choose-best.ensures;
         column = pre.column;
         matrix = pre.room.matrix;
         room = pre.room.row;
@@ -36,13 +32,9 @@ step-requires c κs =
 
 returns : tie.Need-returns
 returns c =
-    let after-step = c in
-    let after-swap-norms = after-step in
-    let else1 = after-swap-norms in
-    let after-choose = else1 in
     record {
-      answers = sym (met (else1.is_taken.ensures ∙ ap taken after-choose.choose-best.ensures) else1.if-not-is_taken.false);
-      reached = λ e. columned _ _ _ _ _ _ _ _ after-choose.choose-best.ensures after-step.step.ensures after-swap-norms.swap_norms.ensures;
+      answers = sym (met (c.is_taken.ensures ∙ ap taken c.choose-best.ensures) c.if-not-is_taken.false);
+      reached = λ e. columned _ _ _ _ _ _ _ _ c.choose-best.ensures c.step.ensures c.swap_norms.ensures;
     }
 
 pub reduce_column_spec : {M : Type 1} → statement M

@@ -31,11 +31,9 @@ reduce_row-requires c κs = record { column = omega arith; left = omega arith; r
 
 loop-i-preserved : tie.Need-loop-i-preserved invariant-loop-i decreases-loop-i
 loop-i-preserved c =
-    let turn = c in
-    let start = turn in
-    let inv = turn.loop-i.invariant in
-    row_written inv turn.loop-i-test.true
-    (c.reduce_row.ensures ∙ tabulate_ext _ _ _ (λ j h. rw (row_old inv j h, row_old inv start.args.k start.requires.column)))
+    let inv = c.loop-i.invariant in
+    row_written inv c.loop-i-test.true
+    (c.reduce_row.ensures ∙ tabulate_ext _ _ _ (λ j h. rw (row_old inv j h, row_old inv c.args.k c.requires.column)))
 
 returns : tie.Need-returns invariant-loop-i decreases-loop-i
 returns c = every_row c.loop-i.invariant c.loop-i-test.false

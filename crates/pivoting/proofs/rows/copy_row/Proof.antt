@@ -52,20 +52,18 @@ loop-j-init : tie.Need-loop-j-init invariant-loop-j decreases-loop-j
 loop-j-init c = (omega arith, copied_none _ _ _ _)
 
 -- entry j of row p lies within the matrix
-within : (c : tie.After-entry invariant-loop-j decreases-loop-j) → let at-loop = c in let x = at-loop.args in x.p * x.w + at-loop.loop-j.j < length at-loop.loop-j.m
+within : (c : tie.After-entry invariant-loop-j decreases-loop-j) → let x = c.args in x.p * x.w + c.loop-j.j < length c.loop-j.m
 within c =
-    let turn = c in
-    let x = turn.args in
-    omega (arith, turn.loop-j.invariant.1.size, cell x.n x.w {i = x.p} (omega arith) turn.loop-j-test.true)
+    let x = c.args in
+    omega (arith, c.loop-j.invariant.1.size, cell x.n x.w {i = x.p} (omega arith) c.loop-j-test.true)
 
 entry-requires : tie.Need-entry-requires invariant-loop-j decreases-loop-j
 entry-requires c κs =
-    let turn = c in
-    let x = turn.args in
-    omega (arith, turn.loop-j.invariant.1.size, cell x.n x.w {i = x.k} (omega arith) turn.loop-j-test.true)
+    let x = c.args in
+    omega (arith, c.loop-j.invariant.1.size, cell x.n x.w {i = x.k} (omega arith) c.loop-j-test.true)
 
 loop-j-preserved : tie.Need-loop-j-preserved invariant-loop-j decreases-loop-j
-loop-j-preserved c = let turn = c in (omega arith, copied_more _ _ _ turn.loop-j.j turn.loop-j-test.true (within c) c.entry.ensures turn.loop-j.invariant.1)
+loop-j-preserved c = (omega arith, copied_more _ _ _ c.loop-j.j c.loop-j-test.true (within c) c.entry.ensures c.loop-j.invariant.1)
 
 shape_of-m : tie.Need-shape_of-m invariant-loop-j decreases-loop-j
 shape_of-m c = c.loop-j.invariant.1.size

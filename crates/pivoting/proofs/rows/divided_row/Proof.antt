@@ -23,15 +23,14 @@ abbrev decreases-loop-j : tie.decreases-loop-j
 decreases-loop-j m n w p k y₀ d j₀ y j = w - j
 
 entry-d-requires : tie.Need-entry-d-requires invariant-loop-j decreases-loop-j
-entry-d-requires c κs = let start = c in omega (arith, cell start.args.n start.args.w {i = start.args.p} {j = start.args.k} (omega arith) (omega arith))
+entry-d-requires c κs = omega (arith, cell c.args.n c.args.w {i = c.args.p} {j = c.args.k} (omega arith) (omega arith))
 
 loop-j-init : tie.Need-loop-j-init invariant-loop-j decreases-loop-j
 loop-j-init c = record { divisor = c.entry-d.ensures; entries = no_entry c.requires.room }
 
 entry-requires : tie.Need-entry-requires invariant-loop-j decreases-loop-j
 entry-requires c κs =
-    let start = c in
-    omega (arith, cell start.args.n start.args.w {i = start.args.p} {j = c.loop-j.j} (omega arith) (omega arith))
+    omega (arith, cell c.args.n c.args.w {i = c.args.p} {j = c.loop-j.j} (omega arith) (omega arith))
 
 loop-j-preserved : tie.Need-loop-j-preserved invariant-loop-j decreases-loop-j
 loop-j-preserved c =

@@ -9,9 +9,7 @@ use Rattle.pivoting.proofs.rows.reduce_row.Tie as tie
 
 returns-then-i-k : tie.Need-returns-then-i-k
 returns-then-i-k c =
-    let after-copy = c in
-    let then1 = after-copy in
-    let taken = then1 in after-copy.copy.ensures ∙ own_entries _ _ taken.requires.left ∙ tabulate_ext _ _ _ (λ j k. rw (eq-eqb _ _ taken.if-i-k.true))
+    c.copy.ensures ∙ own_entries _ _ c.requires.left ∙ tabulate_ext _ _ _ (λ j k. rw (eq-eqb _ _ c.if-i-k.true))
 
 returns : tie.Need-returns
 returns c = c.subtract_scaled.ensures ∙ tabulate_ext _ _ _ (λ j k. rw (ne_eqb _ _ c.if-i-k.false))

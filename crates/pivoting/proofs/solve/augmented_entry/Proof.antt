@@ -9,16 +9,14 @@ use Rattle.pivoting.proofs.solve.augmented_entry.Tie as tie
 
 entry-requires : tie.Need-entry-requires
 entry-requires c κs =
-    let start = c in
-    omega (arith, cell start.args.n start.args.n {i = start.args.i} {j = start.args.j} (omega arith) (omega arith))
+    omega (arith, cell c.args.n c.args.n {i = c.args.i} {j = c.args.j} (omega arith) (omega arith))
 
 returns-then-j-n : tie.Need-returns-then-j-n
 returns-then-j-n c = c.entry.ensures ∙ simp (lt-ltb _ _ c.if-j-n.true)
 
 entry-requires-2 : tie.Need-entry-requires-2
 entry-requires-2 c κs =
-    let start = c in
-    omega (arith, cell start.args.n start.args.r {i = start.args.i} {j = start.args.j - start.args.n} (omega arith) (omega arith))
+    omega (arith, cell c.args.n c.args.r {i = c.args.i} {j = c.args.j - c.args.n} (omega arith) (omega arith))
 
 returns : tie.Need-returns
 returns c = c.entry-2.ensures ∙ simp (le-ltb _ _ c.if-j-n.false)

@@ -67,9 +67,8 @@ returns-then-not-reduce c = let t = refused-6 c in rw (met_5 t, unmet (t.reduce.
 
 right_part-requires : tie.Need-right_part-requires
 right_part-requires c κs =
-    let t = c in
     let pre = (start_of c.before.before.before.before.before.before.before.before).requires in
-    (pre.0, t.reduce.auto.m ∙ pre.1.matrix, pre.2)
+    (pre.0, c.reduce.auto.m ∙ pre.1.matrix, pre.2)
 
 returns : tie.Need-returns
 returns c =

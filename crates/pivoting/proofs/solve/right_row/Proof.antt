@@ -15,8 +15,7 @@ decreases-loop-j m n r i w y₀ j₀ y j = r - j
 
 entry-requires : tie.Need-entry-requires invariant-loop-j decreases-loop-j
 entry-requires c κs =
-    let start = c in
-    omega (arith, cell start.args.n start.args.w {i = start.args.i} {j = start.args.n + c.loop-j.j} (omega arith) (omega arith))
+    omega (arith, cell c.args.n c.args.w {i = c.args.i} {j = c.args.n + c.loop-j.j} (omega arith) (omega arith))
 
 loop-j-preserved : tie.Need-loop-j-preserved invariant-loop-j decreases-loop-j
 loop-j-preserved c = entry-written c.loop-j.invariant c.loop-j-test.true c.entry.ensures

@@ -26,11 +26,10 @@ augment-requires c κs = let pre = (entered c.before.before.before).requires in 
 
 eliminate-requires : tie.Need-eliminate-requires
 eliminate-requires c κs =
-    let j = c in
     let n = normed c.before.before.before.before.before.before in
     let pre = (entered n).requires in (
       refl,
-      record { matrix = j.augment.auto.m ∙ pre.room.matrix; norms = n.row_norms.auto.s ∙ pre.room.norms; row = pre.room.row },
+      record { matrix = c.augment.auto.m ∙ pre.room.matrix; norms = n.row_norms.auto.s ∙ pre.room.norms; row = pre.room.row },
       pre.system.solution,
     )
 

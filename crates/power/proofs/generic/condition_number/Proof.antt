@@ -27,8 +27,7 @@ condition-requires c κs = (sided c.before.before, long-length _ _ (met c.is_mat
 returns : tie.Need-returns
 unfolding condition_number
 returns c =
-    let else2 = c in
-    rw (sided c.before.before.before, met else2.is_matrix.ensures else2.if-not-is_matrix.false) (value c.condition.ensures)
+    rw (sided c.before.before.before, met c.is_matrix.ensures c.if-not-is_matrix.false) (value c.condition.ensures)
 
 pub condition_number_spec : {M : Type 1} → statement M
 condition_number_spec =

@@ -13,9 +13,8 @@ order c = side_high c.args.n c.requires.0
 
 dominant-requires : tie.Need-dominant-requires
 dominant-requires c κs =
-    let start = c in
     let o = order c.before.before.before.before in
-    record { order = start.requires.0; matrix = start.requires.1; left = start.requires.2; right = length-take-le _ _ (omega arith) }
+    record { order = c.requires.0; matrix = c.requires.1; left = c.requires.2; right = length-take-le _ _ (omega arith) }
 
 pub eigenvector_spec : {M : Type 1} → statement M
 eigenvector_spec =

@@ -16,11 +16,10 @@ size c = square_area c.args.n c.requires.0
 
 largest_in-requires : tie.Need-largest_in-requires
 largest_in-requires c κs =
-    let start = c in
     let o = order c.before.before.before.before in
     let s = size c.before.before.before.before in
     record {
-      matrices = record { order = start.requires.0; matrix = start.requires.1; room = length-take-le _ _ (omega arith) };
+      matrices = record { order = c.requires.0; matrix = c.requires.1; room = length-take-le _ _ (omega arith) };
       left = length-take-le _ _ (omega arith);
       right = length-take-le _ _ (omega arith);
     }

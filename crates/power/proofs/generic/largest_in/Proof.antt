@@ -15,16 +15,14 @@ made c = c.before.before.before.before.before
 
 dominant-requires : tie.Need-dominant-requires
 dominant-requires c κs =
-    let call = c in
     let pre = (entered c.before.before.before.before).requires in
-    record { order = pre.matrices.order; matrix = call.gram.auto.g ∙ pre.matrices.room; left = pre.left; right = pre.right }
+    record { order = pre.matrices.order; matrix = c.gram.auto.g ∙ pre.matrices.room; left = pre.left; right = pre.right }
 
 returns : tie.Need-returns
 returns c =
-    let call = c in
     let x = (entered (made c.before.before.before.before.before)).args in
     c.singular_value.ensures
-    ∙ ap (λ (p : Eigenpair). singular_value p.value) (call.dominant.ensures ∙ ap (λ (g : List _). dominant g x.n x.max_iter x.tol) (made c.before.before.before.before.before).gram.ensures)
+    ∙ ap (λ (p : Eigenpair). singular_value p.value) (c.dominant.ensures ∙ ap (λ (g : List _). dominant g x.n x.max_iter x.tol) (made c.before.before.before.before.before).gram.ensures)
 
 pub largest_in_spec : {M : Type 1} → statement M
 largest_in_spec =

@@ -32,8 +32,6 @@ returns-then-not-is_form c = rw (sided c.before.before, unmet c.is_form.ensures 
 
 eigenvector-requires : tie.Need-eigenvector-requires
 eigenvector-requires c κs =
-    let else2 = c in
-    let else1 = else2 in
     let x = (entered c.before.before.before).args in
     let l = two-long x.v.now x.a.now x.n (x.n * x.n) (shaped c.before) in
     (sided c.before.before.before, l.1, l.0)
@@ -41,7 +39,6 @@ eigenvector-requires c κs =
 returns : tie.Need-returns
 unfolding mat_eigenvector_max
 returns c =
-    let else2 = c in
     rw (sided c.before.before.before.before.before.before, shaped c.before.before.before.before) (ap (λ (p : Eigenpair). (Value p.value, p.vector)) c.eigenvector.ensures)
 
 pub mat_eigenvector_max_spec : {M : Type 1} → statement M

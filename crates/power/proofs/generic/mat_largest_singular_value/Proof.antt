@@ -27,8 +27,7 @@ largest-requires c κs = (sided c.before.before, long-length _ _ (met c.is_matri
 returns : tie.Need-returns
 unfolding mat_largest_singular_value
 returns c =
-    let else2 = c in
-    rw (sided c.before.before.before, met else2.is_matrix.ensures else2.if-not-is_matrix.false) (value c.largest.ensures)
+    rw (sided c.before.before.before, met c.is_matrix.ensures c.if-not-is_matrix.false) (value c.largest.ensures)
 
 pub mat_largest_singular_value_spec : {M : Type 1} → statement M
 mat_largest_singular_value_spec =

@@ -14,30 +14,26 @@ made c = c.before.before.before.before.before
 
 dominant-lambda-requires : tie.Need-dominant-lambda-requires
 dominant-lambda-requires c κs =
-    let call = c in
     let pre = (entered c.before.before.before.before).requires.0 in
-    record { order = pre.matrices.order; matrix = call.gram.auto.g ∙ pre.matrices.room; left = pre.left; right = pre.right }
+    record { order = pre.matrices.order; matrix = c.gram.auto.g ∙ pre.matrices.room; left = pre.left; right = pre.right }
 
 ratio_of-requires : tie.Need-ratio_of-requires
 ratio_of-requires c κs =
-    let call = c in
     let start = entered (made c.before.before.before.before.before.before) in
     let pre = start.requires.0 in (
       record {
         order = pre.matrices.order;
         matrix = (made c.before.before.before.before.before.before).gram.auto.g ∙ pre.matrices.room;
         left = start.requires.1;
-        right = call.dominant-lambda.auto.w ∙ pre.right;
+        right = c.dominant-lambda.auto.w ∙ pre.right;
       },
-      call.dominant-lambda.auto.v ∙ pre.left,
+      c.dominant-lambda.auto.v ∙ pre.left,
     )
 
 returns : tie.Need-returns
 returns c =
-    let last = c in
-    let call = last in
     let x = (entered (made c.before.before.before.before.before.before.before.before.before.before.before)).args in
-    conditioned x.a.now x.n (made c.before.before.before.before.before.before.before.before.before.before.before).gram.ensures call.dominant-lambda.ensures last.ratio_of.ensures
+    conditioned x.a.now x.n (made c.before.before.before.before.before.before.before.before.before.before.before).gram.ensures c.dominant-lambda.ensures c.ratio_of.ensures
 
 pub condition_in_spec : {M : Type 1} → statement M
 condition_in_spec =

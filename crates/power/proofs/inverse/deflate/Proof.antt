@@ -22,12 +22,11 @@ shape_of-y c = c.subtract_scaled.auto.y ∙ (written c.before.before.before.befo
 returns : tie.Need-returns
 unfolding deflated
 returns c =
-    let after-dot = c in
-    c.subtract_scaled.ensures ∙ rw (after-dot.dot-d.ensures, (written c.before.before.before.before).unit_vector.ensures)
+    c.subtract_scaled.ensures ∙ rw (c.dot-d.ensures, (written c.before.before.before.before).unit_vector.ensures)
 
 pub deflate_spec : {M : Type 1} → statement M
 deflate_spec =
     tie.close
     (tie.spec (λ c κs. let pre = c.requires in (pre.index, pre.room))
     (λ c κs. let call = c in (wide c.before.before, (entered c.before.before).requires.vector))
-    (λ c κs. let call = c in ((entered c.before.before.before.before).requires.vector, wide c.before.before.before.before)) shape_of-y returns)
+    (λ c κs. ((entered c.before.before.before.before).requires.vector, wide c.before.before.before.before)) shape_of-y returns)

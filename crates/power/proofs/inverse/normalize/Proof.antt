@@ -13,8 +13,7 @@ use Rattle.power.proofs.inverse.normalize.Tie as tie
 returns : tie.Need-returns
 unfolding normalized
 returns c =
-    let start = c in
-    c.multiply.ensures ∙ ap (λ (s : Float). tabulate start.args.n (λ i. mul (nth start.args.x.now i) (div one s))) start.requires.2
+    c.multiply.ensures ∙ ap (λ (s : Float). tabulate c.args.n (λ i. mul (nth c.args.x.now i) (div one s))) c.requires.2
 
 pub normalize_spec : {M : Type 1} → statement M
 normalize_spec = tie.close (tie.spec (λ c κs. search rules) (λ c. search rules) returns)

@@ -23,24 +23,20 @@ start-requires c κs = let pre = (entered c.before.before.before).requires in re
 
 returns-then-not-start : tie.Need-returns-then-not-start
 returns-then-not-start c =
-    let call = c in
     let x = (entered (high c.before.before.before.before.before.before)).args in
-    ratio_unstarted x.g.now x.n x.lambda x.v.now (high c.before.before.before.before.before.before).if-lambda.false call.sqrt-sigma.ensures
-    (starts_as x.v.now x.n c.if-not-start.true call.start.ensures) c.infinity-then-not-start.ensures
+    ratio_unstarted x.g.now x.n x.lambda x.v.now (high c.before.before.before.before.before.before).if-lambda.false c.sqrt-sigma.ensures
+    (starts_as x.v.now x.n c.if-not-start.true c.start.ensures) c.infinity-then-not-start.ensures
 
 rounds-requires : tie.Need-rounds-requires
 rounds-requires c κs =
-    let call = c in
     let room = (entered (high c.before.before.before.before.before.before.before)).requires.0 in
-    record { order = room.order; matrix = room.matrix; left = call.start.auto.x ∙ room.left; right = call.start.auto.y ∙ room.right }
+    record { order = room.order; matrix = room.matrix; left = c.start.auto.x ∙ room.left; right = c.start.auto.y ∙ room.right }
 
 returns : tie.Need-returns
 returns c =
-    let last = c in
-    let call = last in
     let x = (entered (high c.before.before.before.before.before.before.before.before.before.before.before.before)).args in
-    ratio_started x.g.now x.n x.lambda x.v.now (high c.before.before.before.before.before.before.before.before.before.before.before.before).if-lambda.false call.sqrt-sigma.ensures
-    (starts_as x.v.now x.n last.if-not-start.false call.start.ensures) last.rounds.ensures
+    ratio_started x.g.now x.n x.lambda x.v.now (high c.before.before.before.before.before.before.before.before.before.before.before.before).if-lambda.false c.sqrt-sigma.ensures
+    (starts_as x.v.now x.n c.if-not-start.false c.start.ensures) c.rounds.ensures
 
 pub ratio_of_spec : {M : Type 1} → statement M
 ratio_of_spec =

@@ -64,19 +64,16 @@ kept_y c = wide c ∙ sym (entered (this-turn c)).requires.right
 
 solve-requires : tie.Need-solve-requires invariant-loop-k decreases-loop-k
 solve-requires c κs =
-    let turn = c in
     let pre = (entered c.before.before).requires in
-    record { order = pre.order; matrix = pre.matrix; left = turn.loop-k.invariant.vector; right = turn.loop-k.invariant.room }
+    record { order = pre.order; matrix = pre.matrix; left = c.loop-k.invariant.vector; right = c.loop-k.invariant.room }
 
 returns-then-not-solve : tie.Need-returns-then-not-solve invariant-loop-k decreases-loop-k
 returns-then-not-solve c =
-    let call = c in
     let held = (this-turn c.before.before.before.before).loop-k.invariant in
-    ends_failed held (entered (this-turn c.before.before.before.before)).args.sigma (omega arith) (fails-refused held (unmet call.solve.ensures.0 c.if-not-solve.true)) c.infinity.ensures
+    ends_failed held (entered (this-turn c.before.before.before.before)).args.sigma (omega arith) (fails-refused held (unmet c.solve.ensures.0 c.if-not-solve.true)) c.infinity.ensures
 
 returns-then-size : tie.Need-returns-then-size invariant-loop-k decreases-loop-k
 returns-then-size c =
-    let after-norm = c in
     let turn = turn-of c.before.before in
     ends_failed turn.loop-k.invariant (entered turn).args.sigma (omega arith) (sym (norm-fails c.before.before) ∙ c.if-size.true) c.infinity-then-size.ensures
 
@@ -85,10 +82,9 @@ dot-next-requires c κs = let call = solved-at c.before in ((this-turn call).loo
 
 returns-then-is_steady : tie.Need-returns-then-is_steady invariant-loop-k decreases-loop-k
 returns-then-is_steady c =
-    let after-dot = c in
     let after-norm = normed c.before.before.before in
     let turn = turn-of after-norm in
-    ends_steady turn.loop-k.invariant (passed c.before.before.before) (solution-at after-norm) after-dot.dot-next.ensures (entered turn).args.sigma
+    ends_steady turn.loop-k.invariant (passed c.before.before.before) (solution-at after-norm) c.dot-next.ensures (entered turn).args.sigma
     (solved-at after-norm).loop-k-test.true (sym c.is_steady.ensures ∙ c.if-is_steady.true) c.ratio.ensures
 
 normalize-requires : tie.Need-normalize-requires invariant-loop-k decreases-loop-k
@@ -98,15 +94,12 @@ normalize-requires c κs =
 
 loop-k-preserved : tie.Need-loop-k-preserved invariant-loop-k decreases-loop-k
 loop-k-preserved c =
-    let after-normalize = c in
-    let tested = after-normalize in
-    let after-dot = tested in
     let after-norm = normed c.before.before.before.before.before.before in
-    goes_on (turn-of after-norm).loop-k.invariant (passed c.before.before.before.before.before.before) (solution-at after-norm) after-dot.dot-next.ensures (solved-at after-norm).loop-k-test.true
-    (sym tested.is_steady.ensures ∙ tested.if-is_steady.false) after-normalize.normalize.ensures (wide (solved-at after-norm))
+    goes_on (turn-of after-norm).loop-k.invariant (passed c.before.before.before.before.before.before) (solution-at after-norm) c.dot-next.ensures (solved-at after-norm).loop-k-test.true
+    (sym c.is_steady.ensures ∙ c.if-is_steady.false) c.normalize.ensures (wide (solved-at after-norm))
 
 returns : tie.Need-returns invariant-loop-k decreases-loop-k
-returns c = let turn = c in ends-after_all turn.loop-k.invariant (entered c.before.before).args.sigma c.loop-k-test.false c.infinity-2.ensures
+returns c = ends-after_all c.loop-k.invariant (entered c.before.before).args.sigma c.loop-k-test.false c.infinity-2.ensures
 
 pub rounds_spec : {M : Type 1} → statement M
 rounds_spec =
@@ -116,4 +109,4 @@ rounds_spec =
     (λ c κs. search rules) (λ c. kept_x (turn-of c.before.before)) (λ c. kept_y (solved-at c.before.before)) returns-then-size dot-next-requires (λ c κs. search rules)
     (λ c κs. search rules) (λ c. kept_x (turn-of (normed c.before.before.before))) (λ c. kept_y (solved-at (normed c.before.before.before))) returns-then-is_steady
     normalize-requires (λ c. omega arith) (λ c. omega arith) loop-k-preserved (λ c κs. search rules) (λ c. kept_x c.before.before)
-    (λ c. let turn = c in turn.loop-k.invariant.room ∙ sym (entered c.before.before).requires.right) returns)
+    (λ c. c.loop-k.invariant.room ∙ sym (entered c.before.before).requires.right) returns)

@@ -9,10 +9,10 @@ abbrev entered : tie.After-mat_solve → tie.Start
 entered c = c.before.before.before.before.before
 
 returns-in-Refused : tie.Need-returns-in-Refused
-returns-in-Refused c = let call = c in solve-refused (entered c.before.before.before).requires c.in-Refused.is call.mat_solve.ensures
+returns-in-Refused c = solve-refused (entered c.before.before.before).requires c.in-Refused.is c.mat_solve.ensures
 
 returns-in-Done : tie.Need-returns-in-Done
-returns-in-Done c = let call = c in solve-done (entered c.before.before.before).requires c.in-Done.is call.mat_solve.ensures
+returns-in-Done c = solve-done (entered c.before.before.before).requires c.in-Done.is c.mat_solve.ensures
 
 pub solve_spec : {M : Type 1} → statement M
 solve_spec =

@@ -45,13 +45,11 @@ loop-k-init : tie.Need-loop-k-init invariant-loop-k decreases-loop-k
 loop-k-init c = let pre = c.requires in record { at = stands-first refl; room = pre.room; start = pre.start }
 
 deflate-requires : tie.Need-deflate-requires invariant-loop-k decreases-loop-k
-deflate-requires c κs = let turn = c in record { index = omega arith; vector = (entered c.before.before).requires.vector; room = turn.loop-k.invariant.room }
+deflate-requires c κs = record { index = omega arith; vector = (entered c.before.before).requires.vector; room = c.loop-k.invariant.room }
 
 normalize-requires : tie.Need-normalize-requires invariant-loop-k decreases-loop-k
 normalize-requires c κs =
-    let after-norm = c in
-    let call = after-norm in
-    (wide c.before.before.before.before.before.before, (this-turn c.before.before.before.before.before.before).loop-k.invariant.start, after-norm.norm-size.ensures)
+    (wide c.before.before.before.before.before.before, (this-turn c.before.before.before.before.before.before).loop-k.invariant.start, c.norm-size.ensures)
 
 shape_of-y-then-is_start : tie.Need-shape_of-y-then-is_start invariant-loop-k decreases-loop-k
 shape_of-y-then-is_start c = let call = deflated-at (tested c.before.before) in wide call ∙ sym (entered (this-turn call)).requires.room
@@ -61,10 +59,9 @@ shape_of-x-then-is_start c = c.normalize.auto.y ∙ kept_x (this-turn (deflated-
 
 returns-then-is_start : tie.Need-returns-then-is_start invariant-loop-k decreases-loop-k
 returns-then-is_start c =
-    let after-normalize = c in
     let call = deflated-at (tested c.before.before) in
-    start-found (this-turn call).loop-k.invariant (omega arith) (sym (starts (tested c.before.before)) ∙ after-normalize.if-is_start.true) call.deflate.ensures
-    after-normalize.normalize.ensures
+    start-found (this-turn call).loop-k.invariant (omega arith) (sym (starts (tested c.before.before)) ∙ c.if-is_start.true) call.deflate.ensures
+    c.normalize.ensures
 
 loop-k-preserved : tie.Need-loop-k-preserved invariant-loop-k decreases-loop-k
 loop-k-preserved c =

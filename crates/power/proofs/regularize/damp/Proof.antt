@@ -6,8 +6,7 @@ use Rattle.power.proofs.regularize.damp.Tie as tie
 
 returns : tie.Need-returns
 returns c =
-    let start = c in
-    damped-left start.requires start.args.alpha c.tikhonov.ensures
+    damped-left c.requires c.args.alpha c.tikhonov.ensures
 
 pub damp_spec : {M : Type 1} → statement M
 damp_spec = tie.close (tie.spec (λ c κs. search rules) (λ c. search rules) returns)

@@ -55,23 +55,18 @@ condition-before-requires : tie.Need-condition-before-requires
 condition-before-requires c κs = (sided (first c), (lengths c).0)
 
 damp-requires : tie.Need-damp-requires
-damp-requires c κs = let else2 = c in record { order = sided (first c.before.before); matrix = (lengths c.before.before).0; room = (lengths c.before.before).1 }
+damp-requires c κs = record { order = sided (first c.before.before); matrix = (lengths c.before.before).0; room = (lengths c.before.before).1 }
 
 condition-after-requires : tie.Need-condition-after-requires
 condition-after-requires c κs =
-    let call = c in
-    let else2 = call in
-    (sided (first c.before.before.before.before.before), call.damp.auto.out ∙ (lengths c.before.before.before.before.before).1)
+    (sided (first c.before.before.before.before.before), c.damp.auto.out ∙ (lengths c.before.before.before.before.before).1)
 
 returns : tie.Need-returns
 unfolding tikhonov_with_report
 returns c =
-    let call = c in
-    let after-condition = call in
-    let else2 = after-condition in
     let x = (entered (first c.before.before.before.before.before.before)).args in
     rw (sided (first c.before.before.before.before.before.before), shaped c.before.before.before.before.before.before)
-    (reported x.cov.now x.alpha x.n after-condition.condition-before.ensures call.damp.ensures c.condition-after.ensures)
+    (reported x.cov.now x.alpha x.n c.condition-before.ensures c.damp.ensures c.condition-after.ensures)
 
 pub tikhonov_with_report_spec : {M : Type 1} → statement M
 tikhonov_with_report_spec =

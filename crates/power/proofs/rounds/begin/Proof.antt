@@ -15,13 +15,12 @@ use Rattle.power.proofs.rounds.begin.Tie as tie
 
 int_to_float-n : tie.Need-int_to_float-n
 unfolding in_float
-int_to_float-n c = let start = c in let h = side_high start.args.n start.requires.0 in le→leb start.args.n (2 ^ 53) (omega arith)
+int_to_float-n c = let h = side_high c.args.n c.requires.0 in le→leb c.args.n (2 ^ 53) (omega arith)
 
 returns : tie.Need-returns
 unfolding even_vector
 returns c =
-    let start = c in
-    c.fill.ensures ∙ ap (λ (s : Float). tabulate start.args.n (λ i. div one s)) c.sqrt-s.ensures
+    c.fill.ensures ∙ ap (λ (s : Float). tabulate c.args.n (λ i. div one s)) c.sqrt-s.ensures
 
 pub begin_spec : {M : Type 1} → statement M
 begin_spec = tie.close (tie.spec int_to_float-n (λ c κs. search rules) (λ c κs. search rules) (λ c. search rules) returns)

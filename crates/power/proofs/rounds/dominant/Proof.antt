@@ -23,33 +23,28 @@ wide c = c.begin.auto.v ∙ (entered c).requires.left
 
 times-requires : tie.Need-times-requires
 times-requires c κs =
-    let after-begin = c in
     let pre = (entered c.before.before.before).requires in
     record { order = pre.order; matrix = pre.matrix; left = wide c.before.before.before; right = pre.right }
 
 rounds-requires : tie.Need-rounds-requires
 rounds-requires c κs =
-    let after-times = c in
     let pre = (entered (started c.before.before.before.before)).requires in
-    record { order = pre.order; matrix = pre.matrix; vector = wide (started c.before.before.before.before); product = after-times.times.ensures }
+    record { order = pre.order; matrix = pre.matrix; vector = wide (started c.before.before.before.before); product = c.times.ensures }
 
 shape_of-v : tie.Need-shape_of-v
 shape_of-v c =
-    let call = c in
-    call.rounds.auto.v ∙ (started (multiplied c.before.before.before.before)).begin.auto.v
+    c.rounds.auto.v ∙ (started (multiplied c.before.before.before.before)).begin.auto.v
 
 shape_of-w : tie.Need-shape_of-w
 shape_of-w c =
-    let call = c in
-    call.rounds.auto.w ∙ (multiplied c.before.before.before.before).times.auto.y
+    c.rounds.auto.w ∙ (multiplied c.before.before.before.before).times.auto.y
 
 returns : tie.Need-returns
 unfolding dominant
 returns c =
-    let call = c in
     let after-begin = started (multiplied c.before.before.before.before) in
     let x = (entered after-begin).args in
-    call.rounds.ensures ∙ ap (λ (v : List Float). iterated x.a.now x.n x.max_iter x.tol v) after-begin.begin.ensures
+    c.rounds.ensures ∙ ap (λ (v : List Float). iterated x.a.now x.n x.max_iter x.tol v) after-begin.begin.ensures
 
 pub dominant_spec : {M : Type 1} → statement M
 dominant_spec =

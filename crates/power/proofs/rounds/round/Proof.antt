@@ -22,24 +22,20 @@ wide c = c.divide.auto.y ∙ (entered (summed c)).requires.multiplied.vector
 
 times-requires : tie.Need-times-requires
 times-requires c κs =
-    let after-divide = c in
     let held = (entered (summed c.before.before.before)).requires.multiplied in
     record { order = held.order; matrix = held.matrix; left = wide c.before.before.before; right = product-size held }
 
 residual-requires : tie.Need-residual-requires
 residual-requires c κs =
-    let after-times = c in
     let after-divide = divided c.before.before in
-    (after-times.times.auto.y ∙ product-size (entered (summed after-divide)).requires.multiplied, wide after-divide)
+    (c.times.auto.y ∙ product-size (entered (summed after-divide)).requires.multiplied, wide after-divide)
 
 returns : tie.Need-returns
 returns c =
-    let after-residual = c in
-    let after-times = after-residual in
     let after-divide = divided c.before.before.before.before in
     let after-dot = summed after-divide in
     round_made (entered after-dot).requires after-dot.dot.ensures after-divide.sign_of.ensures after-divide.divide.ensures
-    after-times.times.ensures after-residual.residual.ensures c.is_small.ensures
+    c.times.ensures c.residual.ensures c.is_small.ensures
 
 pub round_spec : {M : Type 1} → statement M
 round_spec =

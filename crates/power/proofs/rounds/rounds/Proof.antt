@@ -52,17 +52,15 @@ returns-then-size c = ends_vanished (this-turn c.before).loop-k.invariant (omega
 
 round-requires : tie.Need-round-requires invariant-loop-k decreases-loop-k
 round-requires c κs =
-    let after-norm = c in
     let turn = this-turn c.before.before.before in
     let pre = (entered turn).requires in
     let held = turn.loop-k.invariant in
-    record { multiplied = record { order = pre.order; matrix = pre.matrix; vector = held.vector; product = held.product }; measure = after-norm.norm-size.ensures }
+    record { multiplied = record { order = pre.order; matrix = pre.matrix; vector = held.vector; product = held.product }; measure = c.norm-size.ensures }
 
 dot-requires : tie.Need-dot-requires invariant-loop-k decreases-loop-k
 dot-requires c κs =
-    let call = c in
     let held = (this-turn (normed c.before.before.before.before.before)).loop-k.invariant in
-    (call.round.auto.v ∙ held.vector, call.round.auto.w ∙ wide held)
+    (c.round.auto.v ∙ held.vector, c.round.auto.w ∙ wide held)
 
 returns-then-round : tie.Need-returns-then-round invariant-loop-k decreases-loop-k
 returns-then-round c =
@@ -71,8 +69,7 @@ returns-then-round c =
 
 loop-k-preserved : tie.Need-loop-k-preserved invariant-loop-k decreases-loop-k
 loop-k-preserved c =
-    let call = c in
-    goes_on (this-turn (normed c.before.before.before.before.before)).loop-k.invariant (omega arith) (stands c.before.before.before.before.before) call.round.ensures c.if-round.false
+    goes_on (this-turn (normed c.before.before.before.before.before)).loop-k.invariant (omega arith) (stands c.before.before.before.before.before) c.round.ensures c.if-round.false
 
 returns : tie.Need-returns invariant-loop-k decreases-loop-k
 returns c = ends-after_all c.loop-k.invariant c.loop-k-test.false c.dot-2.ensures

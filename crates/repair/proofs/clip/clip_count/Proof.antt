@@ -31,8 +31,7 @@ loop-i-preserved c =
 
 returns : tie.Need-returns invariant-loop-i decreases-loop-i
 returns c =
-    let start = c in
-    let x = start.args in c.loop-i.invariant.2 ∙ ap (clip_count x.e.now x.floor) (le_antisymm c.loop-i.invariant.0 c.loop-i-test.false)
+    let x = c.args in c.loop-i.invariant.2 ∙ ap (clip_count x.e.now x.floor) (le_antisymm c.loop-i.invariant.0 c.loop-i-test.false)
 
 pub clip_count_spec : {M : Type 1} → statement M
 clip_count_spec =

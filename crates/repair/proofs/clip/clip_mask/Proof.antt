@@ -19,13 +19,11 @@ loop-i-init c = (omega arith, mask_none c.args.e.now c.args.floor)
 
 loop-i-preserved : tie.Need-loop-i-preserved invariant-loop-i decreases-loop-i
 loop-i-preserved c =
-    let at-loop = c in
-    (omega arith, mask_more at-loop.args.e.now at-loop.args.floor at-loop.loop-i.i (omega arith) at-loop.loop-i.invariant.1)
+    (omega arith, mask_more c.args.e.now c.args.floor c.loop-i.i (omega arith) c.loop-i.invariant.1)
 
 returns : tie.Need-returns invariant-loop-i decreases-loop-i
 returns c =
-    let start = c in
-    mask_all start.args.e.now start.args.floor start.args.n c.loop-i.i c.loop-i.invariant.0 c.loop-i-test.false c.loop-i.invariant.1
+    mask_all c.args.e.now c.args.floor c.args.n c.loop-i.i c.loop-i.invariant.0 c.loop-i-test.false c.loop-i.invariant.1
 
 pub clip_mask_spec : {M : Type 1} → statement M
 clip_mask_spec =

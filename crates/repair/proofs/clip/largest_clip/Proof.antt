@@ -21,14 +21,11 @@ loop-i-init c = (omega arith, refl)
 
 loop-i-preserved : tie.Need-loop-i-preserved invariant-loop-i decreases-loop-i
 loop-i-preserved c =
-    let at-loop = c in
-    let start = at-loop in
-    let x = start.args in (omega arith, clip_more x.e.now x.floor at-loop.loop-i.i at-loop.loop-i.invariant.1 c.greater_clip-g.ensures)
+    let x = c.args in (omega arith, clip_more x.e.now x.floor c.loop-i.i c.loop-i.invariant.1 c.greater_clip-g.ensures)
 
 returns : tie.Need-returns invariant-loop-i decreases-loop-i
 returns c =
-    let start = c in
-    let x = start.args in c.loop-i.invariant.1 ∙ ap (largest_clip x.e.now x.floor) (le_antisymm c.loop-i.invariant.0 c.loop-i-test.false)
+    let x = c.args in c.loop-i.invariant.1 ∙ ap (largest_clip x.e.now x.floor) (le_antisymm c.loop-i.invariant.0 c.loop-i-test.false)
 
 pub largest_clip_spec : {M : Type 1} → statement M
 largest_clip_spec =

@@ -17,9 +17,8 @@ decreases-loop-i e₀ n floor i₀ e i = n - i
 
 loop-i-preserved : tie.Need-loop-i-preserved invariant-loop-i decreases-loop-i
 loop-i-preserved c =
-    let at-loop = c in
-    let w = at-loop.loop-i.invariant in
-    entry-written w c.loop-i-test.true (c.raised.ensures ∙ ap (raised at-loop.args.floor) (entry_old w))
+    let w = c.loop-i.invariant in
+    entry-written w c.loop-i-test.true (c.raised.ensures ∙ ap (raised c.args.floor) (entry_old w))
 
 returns : tie.Need-returns invariant-loop-i decreases-loop-i
 returns c = every_entry c.loop-i.invariant c.loop-i-test.false

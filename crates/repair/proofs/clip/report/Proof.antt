@@ -6,9 +6,7 @@ use Rattle.repair.proofs.clip.report.Tie as tie
 
 returns : tie.Need-returns
 returns c =
-    let after-clip-count = c in
-    let start = after-clip-count in
-    report_made start.args.e.now start.args.floor start.args.n after-clip-count.clip_count.ensures c.largest_clip.ensures c.clip_mask.ensures
+    report_made c.args.e.now c.args.floor c.args.n c.clip_count.ensures c.largest_clip.ensures c.clip_mask.ensures
 
 pub report_spec : {M : Type 1} → statement M
 report_spec = tie.close (tie.spec (λ c κs. search rules) (λ c κs. search rules) (λ c κs. search rules) returns)

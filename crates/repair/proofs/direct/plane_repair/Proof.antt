@@ -26,36 +26,29 @@ paired c =
 
 returns-then-not-is_finite : tie.Need-returns-then-not-is_finite
 returns-then-not-is_finite c =
-    let asked = c in
-    rw (plane_repaired _ _ _ (paired c.before.before.before), unmet asked.is_finite.ensures c.if-not-is_finite.true, c.refused.ensures)
+    rw (plane_repaired _ _ _ (paired c.before.before.before), unmet c.is_finite.ensures c.if-not-is_finite.true, c.refused.ensures)
 
 returns-then-not-is_finite-2 : tie.Need-returns-then-not-is_finite-2
 returns-then-not-is_finite-2 c =
-    let asked = c in
-    let else1 = asked in
     rw (
       plane_repaired _ _ _ (paired c.before.before.before.before.before),
-      met else1.is_finite.ensures else1.if-not-is_finite.false,
-      unmet asked.is_finite-2.ensures c.if-not-is_finite-2.true,
+      met c.is_finite.ensures c.if-not-is_finite.false,
+      unmet c.is_finite-2.ensures c.if-not-is_finite-2.true,
       c.refused-then-not-is_finite-2.ensures,
     )
 
 returns : tie.Need-returns
 returns c =
-    let rebuilt = c in
-    let second = rebuilt in
-    let reported = second in
-    let else2 = reported in
     let else1 = first c.before.before.before.before.before.before.before.before in
     rw (
       plane_repaired _ _ _ (paired else1.before.before),
       met else1.is_finite.ensures else1.if-not-is_finite.false,
-      met else2.is_finite-2.ensures else2.if-not-is_finite-2.false,
+      met c.is_finite-2.ensures c.if-not-is_finite-2.false,
       c.done.ensures,
-      reported.plane_report-report.ensures,
-      rebuilt.rebuild_plane.ensures,
-      second.raised-f.ensures,
-      second.raised-e.ensures,
+      c.plane_report-report.ensures,
+      c.rebuild_plane.ensures,
+      c.raised-f.ensures,
+      c.raised-e.ensures,
     )
 
 pub plane_repair_spec : {M : Type 1} → statement M

@@ -20,10 +20,8 @@ overflow_add-count c =
 returns : tie.Need-returns
 unfolding clip_mask tabulate of_bits
 returns c =
-    let second = c in
-    let first = second in
-    let x = first.args in
-    report_made (x.x ∷ x.y ∷ []) x.floor 2 (plane_count x.x x.y x.floor first.clip.ensures second.clip-2.ensures)
+    let x = c.args in
+    report_made (x.x ∷ x.y ∷ []) x.floor 2 (plane_count x.x x.y x.floor c.clip.ensures c.clip-2.ensures)
     (plane_largest x.x x.y x.floor c.greater_clip.ensures c.greater_clip-2.ensures) refl
 
 pub plane_report_spec : {M : Type 1} → statement M

@@ -30,24 +30,20 @@ returns-then-not-are_matrices c = rw (single_asked _ _ _, unmet c.are_matrices.e
 
 returns-then-not-is_finite : tie.Need-returns-then-not-is_finite
 returns-then-not-is_finite c =
-    let asked = c in
-    rw (single_asked _ _ _, shaped c.before.before.before.before, single-refused _ _ (unmet asked.is_finite.ensures c.if-not-is_finite.true), c.refused-then-not-is_finite.ensures)
+    rw (single_asked _ _ _, shaped c.before.before.before.before, single-refused _ _ (unmet c.is_finite.ensures c.if-not-is_finite.true), c.refused-then-not-is_finite.ensures)
 
 returns : tie.Need-returns
 returns c =
-    let reported = c in
-    let stored = reported in
-    let else2 = stored in
     let x = (entered (first c.before.before.before)).args in
     let size = sizes (first c.before.before.before) in
     rw (
       single_asked x.cov.now x.floor x.out.now,
       shaped (first c.before.before.before),
-      single_repaired x.cov.now x.floor size.0 (met else2.is_finite.ensures else2.if-not-is_finite.false),
+      single_repaired x.cov.now x.floor size.0 (met c.is_finite.ensures c.if-not-is_finite.false),
       single-stored x.out.now _ size.1,
       c.done.ensures,
-      stored.single_rebuilt.ensures,
-      reported.single_report.ensures,
+      c.single_rebuilt.ensures,
+      c.single_report.ensures,
       sym (single-list x.cov.now size.0),
     )
 

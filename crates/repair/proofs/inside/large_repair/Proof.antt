@@ -17,16 +17,15 @@ size : (c : tie.Start) → c.args.n * c.args.n ≤ 256
 size c = square-size c.args.n (order c)
 
 repair_in-requires : tie.Need-repair_in-requires
-repair_in-requires c κs =
-    let start = c in (
-      start.requires,
-      record {
-        values-room = length-take-le _ _ (order c.before.before.before.before.before.before.before);
-        vectors-room = length-take-le _ _ (size c.before.before.before.before.before.before.before);
-        matrix-room = length-take-le _ _ (size c.before.before.before.before.before.before.before);
-        rows-room = length-take-le _ _ (size c.before.before.before.before.before.before.before);
-      },
-    )
+repair_in-requires c κs = (
+  c.requires,
+  record {
+    values-room = length-take-le _ _ (order c.before.before.before.before.before.before.before);
+    vectors-room = length-take-le _ _ (size c.before.before.before.before.before.before.before);
+    matrix-room = length-take-le _ _ (size c.before.before.before.before.before.before.before);
+    rows-room = length-take-le _ _ (size c.before.before.before.before.before.before.before);
+  },
+)
 
 pub large_repair_spec : {M : Type 1} → statement M
 large_repair_spec =

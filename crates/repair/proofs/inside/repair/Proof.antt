@@ -30,17 +30,15 @@ plane_repair-requires c κs =
 returns-then-n-eq2 : tie.Need-returns-then-n-eq2
 unfolding repair
 returns-then-n-eq2 c =
-    let called = c in
-    let two = called in
-    rw (bounded c.before.before.before.before.before, two.if-n-eq2.true) called.plane_repair.ensures
+    rw (bounded c.before.before.before.before.before, c.if-n-eq2.true) c.plane_repair.ensures
 
 returns-then-n-le4 : tie.Need-returns-then-n-le4
 unfolding repair
-returns-then-n-le4 c = let called = c in rw (bounded c.before.before.before.before.before.before) called.small_repair.ensures
+returns-then-n-le4 c = rw (bounded c.before.before.before.before.before.before) c.small_repair.ensures
 
 returns : tie.Need-returns
 unfolding repair
-returns c = let called = c in rw (bounded c.before.before.before.before.before.before) called.large_repair.ensures
+returns c = rw (bounded c.before.before.before.before.before.before) c.large_repair.ensures
 
 pub repair_spec : {M : Type 1} → statement M
 repair_spec =

@@ -16,12 +16,11 @@ paired c = c.before.before.before.before.before.before.before.before.before
 
 eigenpairs_in-requires : tie.Need-eigenpairs_in-requires
 eigenpairs_in-requires c κs =
-    let start = c in
-    let room = start.requires.1 in (
-      side_high start.args.n start.requires.0.order,
+    let room = c.requires.1 in (
+      side_high c.args.n c.requires.0.order,
       room.matrix-room,
       room.rows-room,
-      record { matrix-size = start.requires.0.matrix-size; values-size = room.values-room; vectors-size = room.vectors-room },
+      record { matrix-size = c.requires.0.matrix-size; values-size = room.values-room; vectors-size = room.vectors-room },
     )
 
 -- the eigenvalues keep their length
@@ -35,29 +34,22 @@ report-report-requires c κs =
 
 rebuild-requires : tie.Need-rebuild-requires
 rebuild-requires c κs =
-    let after-raise = c in
     let call = paired c.before.before.before.before.before.before in
     let pre = (entered call).requires in
-    (call.eigenpairs_in.auto.vectors ∙ pre.1.vectors-room, after-raise.raise.auto.e ∙ values-long call, pre.0.out_size)
+    (call.eigenpairs_in.auto.vectors ∙ pre.1.vectors-room, c.raise.auto.e ∙ values-long call, pre.0.out_size)
 
 returns-in-Refused : tie.Need-returns-in-Refused
 returns-in-Refused c =
-    let after-q = c in
-    let call = after-q in
     let x = (entered c.before.before.before.before.before.before.before.before.before.before).args in
-    repair-refused x.cov.now x.floor x.n x.e.now x.v.now x.out.now after-q.in-Refused.is call.eigenpairs_in.ensures.0
+    repair-refused x.cov.now x.floor x.n x.e.now x.v.now x.out.now c.in-Refused.is c.eigenpairs_in.ensures.0
     c.refused.ensures
 
 returns-in-Done : tie.Need-returns-in-Done
 returns-in-Done c =
-    let after-rebuild = c in
-    let after-raise = after-rebuild in
-    let after-report = after-raise in
-    let done = after-report in
     let call = paired c.before.before.before.before.before.before.before.before.before.before in
     let x = (entered call).args in
-    repair-done x.cov.now x.floor x.n x.e.now x.v.now x.out.now done.in-Done.is call.eigenpairs_in.ensures.0
-    after-report.report-report.ensures after-raise.raise.ensures after-rebuild.rebuild.ensures c.done.ensures
+    repair-done x.cov.now x.floor x.n x.e.now x.v.now x.out.now c.in-Done.is call.eigenpairs_in.ensures.0
+    c.report-report.ensures c.raise.ensures c.rebuild.ensures c.done.ensures
 
 pub repair_in_spec : {M : Type 1} → statement M
 repair_in_spec =

@@ -9,15 +9,13 @@ use Rattle.repair.proofs.inside.single_answer.Tie as tie
 
 returns-then-not-is_finite : tie.Need-returns-then-not-is_finite
 returns-then-not-is_finite c =
-    let asked = c in
-    let x = asked.args in
-    rw (single-refused (x.x ∷ []) x.floor (unmet asked.is_finite.ensures c.if-not-is_finite.true), c.refused.ensures)
+    let x = c.args in
+    rw (single-refused (x.x ∷ []) x.floor (unmet c.is_finite.ensures c.if-not-is_finite.true), c.refused.ensures)
 
 returns : tie.Need-returns
 returns c =
-    let else1 = c in
-    let x = else1.args in
-    rw (single_repaired (x.x ∷ []) x.floor refl (met else1.is_finite.ensures else1.if-not-is_finite.false), c.done.ensures, c.single_report.ensures)
+    let x = c.args in
+    rw (single_repaired (x.x ∷ []) x.floor refl (met c.is_finite.ensures c.if-not-is_finite.false), c.done.ensures, c.single_report.ensures)
 
 pub single_answer_spec : {M : Type 1} → statement M
 single_answer_spec =

@@ -16,16 +16,15 @@ size : (c : tie.Start) → c.args.n * c.args.n ≤ 16
 size c = small_size c.args.n (order c)
 
 repair_in-requires : tie.Need-repair_in-requires
-repair_in-requires c κs =
-    let start = c in (
-      start.requires.0,
-      record {
-        values-room = length-take-le _ _ (order c.before.before.before.before.before.before.before);
-        vectors-room = length-take-le _ _ (size c.before.before.before.before.before.before.before);
-        matrix-room = length-take-le _ _ (size c.before.before.before.before.before.before.before);
-        rows-room = length-take-le _ _ (size c.before.before.before.before.before.before.before);
-      },
-    )
+repair_in-requires c κs = (
+  c.requires.0,
+  record {
+    values-room = length-take-le _ _ (order c.before.before.before.before.before.before.before);
+    vectors-room = length-take-le _ _ (size c.before.before.before.before.before.before.before);
+    matrix-room = length-take-le _ _ (size c.before.before.before.before.before.before.before);
+    rows-room = length-take-le _ _ (size c.before.before.before.before.before.before.before);
+  },
+)
 
 pub small_repair_spec : {M : Type 1} → statement M
 small_repair_spec =

@@ -38,11 +38,9 @@ entry-y-requires c κs =
 
 loop-k-preserved : tie.Need-loop-k-preserved invariant-loop-k decreases-loop-k
 loop-k-preserved c =
-    let second = c in
-    let first = second in
-    let turn = first.loop-k in
-    let e = first.args.e.now in
-    let term = c.share-s.ensures ∙ ap₂ (λ (x y : Float). mul (mul x (nth e turn.k)) y) first.entry-x.ensures second.entry-y.ensures in
+    let turn = c.loop-k in
+    let e = c.args.e.now in
+    let term = c.share-s.ensures ∙ ap₂ (λ (x y : Float). mul (mul x (nth e turn.k)) y) c.entry-x.ensures c.entry-y.ensures in
     (omega arith, sum_more nought _ turn.k turn.invariant.1 term)
 
 returns : tie.Need-returns invariant-loop-k decreases-loop-k

@@ -34,7 +34,6 @@ returns-then-not-are_matrices c = rw (sided c.before.before.before, unmet c.are_
 
 repair-requires : tie.Need-repair-requires
 repair-requires c κs =
-    let else2 = c in
     let x = (entered (first c.before)).args in
     let l = two-long x.cov.now x.out.now _ _ (shaped c.before) in
     record { order = sided (first c.before); matrix-size = l.0; out_size = l.1 }
@@ -42,9 +41,7 @@ repair-requires c κs =
 returns : tie.Need-returns
 unfolding nearest_psd
 returns c =
-    let called = c in
-    let else2 = called in
-    rw (sided (first c.before.before.before.before), shaped c.before.before.before.before) called.repair.ensures
+    rw (sided (first c.before.before.before.before), shaped c.before.before.before.before) c.repair.ensures
 
 pub asked_repair_spec : {M : Type 1} → statement M
 asked_repair_spec =

@@ -34,7 +34,7 @@ old c = c.args.offsets.now
 
 returns-then-list-lt2 : tie.Need-returns-then-list-lt2
 unfolding contents
-returns-then-list-lt2 c = let s = c in refusal (list_of c.before) (old c.before) (old c.before) (simp (lt-leb 2 (length (list_of c.before)) c.if-list-lt2.true))
+returns-then-list-lt2 c = refusal (list_of c.before) (old c.before) (old c.before) (simp (lt-leb 2 (length (list_of c.before)) c.if-list-lt2.true))
 
 overflow_cast-n : tie.Need-overflow_cast-n
 overflow_cast-n c = omega (arith, c.shared_slice_known-2-1.given 0)
@@ -45,7 +45,6 @@ overflow_cast-d c = omega (arith, c.shared_slice_known-3-1.given 1)
 returns-then-not-count_met : tie.Need-returns-then-not-count_met
 unfolding contents
 returns-then-not-count_met c =
-    let s = c in
     refusal (list_of c.before.before.before.before.before) (old c.before.before.before.before.before) (old c.before.before.before.before.before) (simp (le-leb 2 (length (list_of c.before.before.before.before.before)) (omega arith), sym c.count_met.ensures ∙ c.if-not-count_met.true))
 
 -- questions 9 and 10 are met
@@ -58,16 +57,13 @@ counted c = sym c.count_met.ensures ∙ c.if-not-count_met.false
 returns-then-not-dimension_met : tie.Need-returns-then-not-dimension_met
 unfolding contents
 returns-then-not-dimension_met c =
-    let t = c in
     let l = list_of (begun c.before.before) in
     refusal l (old (begun c.before.before)) (old (begun c.before.before)) (simp (le-leb 2 (length l) (omega arith), counted c.before.before, sym c.dimension_met.ensures ∙ c.if-not-dimension_met.true))
 
 check_tracks-c-requires : tie.Need-check_tracks-c-requires
 check_tracks-c-requires c κs =
-    let s = c in
-    let t = s in
     record {
-      small = dimension-small _ (sym s.dimension_met.ensures ∙ s.if-not-dimension_met.false);
+      small = dimension-small _ (sym c.dimension_met.ensures ∙ c.if-not-dimension_met.false);
       head = omega arith;
       room = omega (arith, leb-true (count (list_of (begun c.before.before.before))) 32 (counted c.before.before.before));
     }
@@ -99,18 +95,15 @@ stored l before c a = ap (λ (n : ℕ). over before 0 (tabulate (n + 1) (offset 
 
 returns-then-end-list : tie.Need-returns-then-end-list
 returns-then-end-list c =
-    let t = c in
     let l = listed (met c.before.before.before.before) in
-    (decided c.before.before.before.before (tracks_ended l (sym (checked c.before.before.before.before) ∙ c.in-End.is) c.if-end-list.true), λ held a. t.check_tracks-c.ensures.1 ∙ stored l _ held a)
+    (decided c.before.before.before.before (tracks_ended l (sym (checked c.before.before.before.before) ∙ c.in-End.is) c.if-end-list.true), λ held a. c.check_tracks-c.ensures.1 ∙ stored l _ held a)
 
 returns-else-end-list : tie.Need-returns-else-end-list
 returns-else-end-list c =
-    let t = c in
     refusal _ _ _ (decided c.before.before.before.before (tracks_followed (listed (met c.before.before.before.before)) (sym (checked c.before.before.before.before) ∙ c.in-End.is) c.if-end-list.false))
 
 returns-in-Refused : tie.Need-returns-in-Refused
 returns-in-Refused c =
-    let t = c in
     refusal _ _ _ (decided c.before.before.before (tracks_stopped (listed (met c.before.before.before)) (sym (checked c.before.before.before) ∙ c.in-Refused.is)))
 
 pub check_offsets_spec : {M : Type 1} → statement M

@@ -33,9 +33,8 @@ spared c =
 returns-then-list-at : tie.Need-returns-then-list-at
 unfolding track
 returns-then-list-at c =
-    let m = c in
     let x = (start_of c.before).args in
-    simp (lt-leb (after_map x.d x.at) (length x.list.now) (omega (arith, m.map_bytes-size.ensures.0)))
+    simp (lt-leb (after_map x.d x.at) (length x.list.now) (omega (arith, c.map_bytes-size.ensures.0)))
 
 spare_clear-requires : tie.Need-spare_clear-requires
 spare_clear-requires c κs = let m = measured c in (omega (arith, m.map_bits-bits.ensures.1), omega (arith, there c, m.map_bits-bits.ensures.0))
@@ -43,13 +42,11 @@ spare_clear-requires c κs = let m = measured c in (omega (arith, m.map_bits-bit
 returns-then-not-spare_clear : tie.Need-returns-then-not-spare_clear
 unfolding track
 returns-then-not-spare_clear c =
-    let t = c in
     let x = (start_of (measured c.before.before)).args in
     simp (le-leb (after_map x.d x.at) (length x.list.now) (there c.before.before), spared c.before ∙ c.if-not-spare_clear.true)
 
 check_fields-requires : tie.Need-check_fields-requires
 check_fields-requires c κs =
-    let t = c in
     let x = (start_of (measured c.before.before.before)).args in
     record {
       small = omega (arith, c.fields.ensures.1);
@@ -60,15 +57,13 @@ check_fields-requires c κs =
 returns : tie.Need-returns
 unfolding track
 returns c =
-    let f = c in
-    let t = f in
     let m = measured c.before.before.before.before in
     let x = (start_of m).args in
     let l = x.list.now in
-    simp (le-leb (after_map x.d x.at) (length l) (there c.before.before.before.before), spared c.before.before.before ∙ f.if-not-spare_clear.false)
+    simp (le-leb (after_map x.d x.at) (length l) (there c.before.before.before.before), spared c.before.before.before ∙ c.if-not-spare_clear.false)
     (c.check_fields.ensures
-    ∙ ap (λ (k : ℕ). ends (items (field l x.at) k f.fields.result)) (ap (λ (k : ℕ). x.at + k) m.map_bytes-size.ensures.0)
-    ∙ ap (λ (k : ℕ). ends (items (field l x.at) (after_map x.d x.at) k)) f.fields.ensures.0
+    ∙ ap (λ (k : ℕ). ends (items (field l x.at) k c.fields.result)) (ap (λ (k : ℕ). x.at + k) m.map_bytes-size.ensures.0)
+    ∙ ap (λ (k : ℕ). ends (items (field l x.at) (after_map x.d x.at) k)) c.fields.ensures.0
     ∙ sym (ends_made track_of (items (field l x.at) (after_map x.d x.at) (fields x.d))))
 
 pub check_track_spec : {M : Type 1} → statement M

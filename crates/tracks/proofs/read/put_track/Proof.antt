@@ -47,18 +47,16 @@ loop-k-init c = record { turns = omega arith; taken = record { value = []; next 
 
 put_field-at-requires : tie.Need-put_field-at-requires invariant-loop-k decreases-loop-k
 put_field-at-requires c κs =
-    let t = c in
     let s = sized c.before in
     record {
       told = omega (arith, (whole s).there, s.fields-f.ensures.0, one_bit_each (start_of s).args.d);
-      room = omega (arith, t.loop-k.invariant.laid.size, (start_of s).requires.room, s.fields-f.ensures.0);
+      room = omega (arith, c.loop-k.invariant.laid.size, (start_of s).requires.room, s.fields-f.ensures.0);
       accepted = ((next c.before).item, (next c.before).here);
     }
 
 loop-k-preserved : tie.Need-loop-k-preserved invariant-loop-k decreases-loop-k
 loop-k-preserved c =
-    let t = c in
-    put_more t.loop-k.invariant (next c.before.before.before.before) (λ x. x ∷ []) t.loop-k-test.true refl (omega (arith, (start_of (sized c.before.before.before.before)).requires.room, (sized c.before.before.before.before).fields-f.ensures.0)) (omega arith)
+    put_more c.loop-k.invariant (next c.before.before.before.before) (λ x. x ∷ []) c.loop-k-test.true refl (omega (arith, (start_of (sized c.before.before.before.before)).requires.room, (sized c.before.before.before.before).fields-f.ensures.0)) (omega arith)
     c.put_field-at.ensures
 
 shape_of-values : tie.Need-shape_of-values invariant-loop-k decreases-loop-k
@@ -66,10 +64,9 @@ shape_of-values c = c.loop-k.invariant.laid.size
 
 returns : tie.Need-returns invariant-loop-k decreases-loop-k
 returns c t e =
-    let s = c in
     let x = (start_of c.before.before.before).args in
     put_all c.loop-k.invariant c.loop-k-test.false (item_of (λ u. u.values) t)
-    (ap (items (field x.list.now x.map) (after_map x.d x.map)) s.fields-f.ensures.0 ∙ (track_met _ _ _ _ e).read)
+    (ap (items (field x.list.now x.map) (after_map x.d x.map)) c.fields-f.ensures.0 ∙ (track_met _ _ _ _ e).read)
 
 pub put_track_spec : {M : Type 1} → statement M
 put_track_spec =

@@ -52,22 +52,19 @@ overflow_mul-count c = omega (arith, (list_known (known c)).few, c.fields-f.ensu
 
 returns-then-values-count : tie.Need-returns-then-values-count
 returns-then-values-count c =
-    let t = c in
     both (begun c.before) (reading_short _ _ (list_known (known c.before)).accepted (omega (arith, needed c.before, c.if-values-count.true)))
 
 put_tracks-requires : tie.Need-put_tracks-requires
 put_tracks-requires c κs =
-    let f = c in
     record {
       small = (list_known (known c.before.before)).small;
       few = (list_known (known c.before.before)).few;
-      room = omega (arith, c.if-values-count.false, ap (λ (k : ℕ). (known c.before.before).in-Read.count * k) f.fields-f.ensures.0);
+      room = omega (arith, c.if-values-count.false, ap (λ (k : ℕ). (known c.before.before).in-Read.count * k) c.fields-f.ensures.0);
       accepted = (_, read c.before.before);
     }
 
 returns-else-values-count : tie.Need-returns-else-values-count
 returns-else-values-count c =
-    let t = c in
     let a = list_known (known c.before.before.before.before.before) in
     let b = both (begun c.before.before.before.before.before) (reading-fits _ _ a.accepted (omega (arith, needed c.before.before.before.before.before, c.if-values-count.false))) in
     let answer = sym (known c.before.before.before.before.before).in-Read.is ∙ (known c.before.before.before.before.before).check_list-c.ensures in
@@ -75,8 +72,7 @@ returns-else-values-count c =
 
 returns-in-Refused : tie.Need-returns-in-Refused
 returns-in-Refused c =
-    let s = c in
-    both c.before.before.before.before (reading-refused _ _ (read_refused (contents s.args.list.now) (sym c.check_list-c.ensures ∙ c.in-Refused.is)))
+    both c.before.before.before.before (reading-refused _ _ (read_refused (contents c.args.list.now) (sym c.check_list-c.ensures ∙ c.in-Refused.is)))
 
 pub read_list_spec : {M : Type 1} → statement M
 read_list_spec =

@@ -66,24 +66,21 @@ overflow_mul-count c = omega (arith, (list_known c.before).few, c.fields-f.ensur
 
 returns-then-values-count : tie.Need-returns-then-values-count
 returns-then-values-count c =
-    let t = c in
     all_three (start_of (checked c.before.before)) (refused 2) (placed_short _ _ _ (list_known c.before.before).accepted (omega (arith, needed c.before, c.if-values-count.true))) refl refl refl
 
 returns-then-offsets-count : tie.Need-returns-then-offsets-count
 returns-then-offsets-count c =
-    let f = c in
     let a = list_known c.before.before.before in
     all_three (start_of (checked c.before.before.before)) (refused 2)
     (placed_few _ _ _ a.accepted (omega (arith, needed c.before.before, c.if-values-count.false)) (omega (arith, a.count, c.if-offsets-count.true))) refl refl refl
 
 put_tracks-requires : tie.Need-put_tracks-requires
 put_tracks-requires c κs =
-    let f = c in
     let t = list_known c.before.before.before.before in
     record {
       small = t.small;
       few = t.few;
-      room = omega (arith, c.if-values-count.false, ap (λ (k : ℕ). f.in-Read.count * k) f.fields-f.ensures.0);
+      room = omega (arith, c.if-values-count.false, ap (λ (k : ℕ). c.in-Read.count * k) c.fields-f.ensures.0);
       accepted = (_, known_tracks t);
     }
 
@@ -109,10 +106,9 @@ returns-else-offsets-count c =
 
 returns-in-Refused : tie.Need-returns-in-Refused
 returns-in-Refused c =
-    let k = c in
     let s = start_of c.before.before in
     all_three s (refused c.in-Refused.q)
-    (placed_refused _ _ _ (read_refused (contents s.args.list.now) (sym k.check_offsets-c.ensures.0 ∙ c.in-Refused.is))) refl refl refl
+    (placed_refused _ _ _ (read_refused (contents s.args.list.now) (sym c.check_offsets-c.ensures.0 ∙ c.in-Refused.is))) refl refl refl
 
 pub read_with_offsets_spec : {M : Type 1} → statement M
 read_with_offsets_spec =

@@ -40,20 +40,18 @@ left c =
 
 returns-then-here-at : tie.Need-returns-then-here-at invariant-loop decreases-loop
 returns-then-here-at c =
-    let t = c in
-    let x = t.args in
+    let x = c.args in
     let e = sym c.check_track-c.ensures ∙ c.in-End.is in
-    (sym (left c.before.before.before ∙ end_here _ _ _ _ _ e c.if-here-at.true), track-within x.list.now x.d t.loop.here _ e)
+    (sym (left c.before.before.before ∙ end_here _ _ _ _ _ e c.if-here-at.true), track-within x.list.now x.d c.loop.here _ e)
 
 returns-in-Refused : tie.Need-returns-in-Refused invariant-loop decreases-loop
 returns-in-Refused c = (sym (left c.before.before ∙ end_refused _ _ _ _ _ (sym c.check_track-c.ensures ∙ c.in-Refused.is)), omega arith)
 
 loop-preserved : tie.Need-loop-preserved invariant-loop decreases-loop
 loop-preserved c =
-    let t = c in
-    let x = t.args in
+    let x = c.args in
     let e = sym c.check_track-c.ensures ∙ c.in-End.is in
-    record { turns = omega arith; within = track-within x.list.now x.d t.loop.here _ e; among = left c.before.before.before ∙ end_later _ _ _ _ _ e c.if-here-at.false }
+    record { turns = omega arith; within = track-within x.list.now x.d c.loop.here _ e; among = left c.before.before.before ∙ end_later _ _ _ _ _ e c.if-here-at.false }
 
 returns : tie.Need-returns invariant-loop decreases-loop
 unfolding record_end

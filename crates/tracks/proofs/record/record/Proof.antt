@@ -45,9 +45,8 @@ find_end-end-requires c κs = ((list_known c).small, (list_known c).whole.two)
 
 returns-then-end-at : tie.Need-returns-then-end-at
 returns-then-end-at c =
-    let t = c in
     let x = (begun c.before).args in
-    let e : t.find_end-end.result - x.at ≡ 0 = omega (arith, c.if-end-at.true) in
+    let e : c.find_end-end.result - x.at ≡ 0 = omega (arith, c.if-end-at.true) in
     (sym (found c.before ∙ ap (λ (k : ℕ). take k (drop x.at x.list.now)) e), λ some. absurd (some refl))
 
 returns-else-end-at : tie.Need-returns-else-end-at

@@ -40,7 +40,6 @@ both c o {r} {new} e p q =
 
 returns-then-offsets-count : tie.Need-returns-then-offsets-count
 returns-then-offsets-count c =
-    let t = c in
     let a = list_known c.before in
     both (start_of (checked c.before)) (refused 2) (placing_short _ _ a.accepted (omega (arith, a.count, c.if-offsets-count.true))) refl refl
 
@@ -49,24 +48,21 @@ overflow_add-count c = omega (arith, (list_known c.before.before).few)
 
 copy_offsets-requires : tie.Need-copy_offsets-requires
 copy_offsets-requires c κs =
-    let t = c in
     let a = list_known c.before.before.before in
     (omega (arith, a.few, offsets-long (list_of c.before.before.before) _ _ (checked c.before.before.before).check_offsets-c.ensures.1 a.accepted refl), omega (arith, c.if-offsets-count.false))
 
 returns-else-offsets-count : tie.Need-returns-else-offsets-count
 returns-else-offsets-count c =
-    let t = c in
     let s = start_of (checked c.before.before.before.before.before.before) in
     let a = list_known c.before.before.before.before.before.before in
-    let answer = sym t.in-Read.is ∙ (checked c.before.before.before.before.before.before).check_offsets-c.ensures.0 ∙ ap read_answer a.accepted in
+    let answer = sym c.in-Read.is ∙ (checked c.before.before.before.before.before.before).check_offsets-c.ensures.0 ∙ ap read_answer a.accepted in
     both s (answered a.held) (placing-fits _ _ a.accepted (omega (arith, a.count, c.if-offsets-count.false))) answer
     (c.copy_offsets.ensures ∙ ap (over s.args.offsets.now 0) (known_front a _ _ (checked c.before.before.before.before.before.before).check_offsets-c.ensures.1))
 
 returns-in-Refused : tie.Need-returns-in-Refused
 returns-in-Refused c =
-    let k = c in
     let s = start_of c.before.before in
-    both s (refused c.in-Refused.q) (placing-refused _ _ (read_refused (contents s.args.list.now) (sym k.check_offsets-c.ensures.0 ∙ c.in-Refused.is))) refl refl
+    both s (refused c.in-Refused.q) (placing-refused _ _ (read_refused (contents s.args.list.now) (sym c.check_offsets-c.ensures.0 ∙ c.in-Refused.is))) refl refl
 
 pub track_offsets_spec : {M : Type 1} → statement M
 track_offsets_spec =

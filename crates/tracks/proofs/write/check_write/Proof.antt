@@ -109,14 +109,12 @@ fields-requires c κs = dimension-small _ (met_11 c)
 returns-then-v-n : tie.Need-returns-then-v-n
 unfolding written
 returns-then-v-n c =
-    let t = c in
     let v = (begun c.before).args.v.now in
     simp (met_10 (counted (sized c.before)), met_11 (sized c.before), ne_eqb (length (given c.before)) (needed c.before) (λ e. c.if-v-n.true (sym (length-patterns v) ∙ e ∙ sym (product c.before))))
 
 returns-then-not-all_finite : tie.Need-returns-then-not-all_finite
 unfolding written
 returns-then-not-all_finite c =
-    let t = c in
     simp (met_10 (counted (sized c.before.before.before)), met_11 (sized c.before.before.before), eq-eqb _ _ (met_2 c.before.before), sym c.all_finite.ensures ∙ c.if-not-all_finite.true)
 
 map_bytes-requires : tie.Need-map_bytes-requires

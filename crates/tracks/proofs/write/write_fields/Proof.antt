@@ -43,11 +43,10 @@ fits : (c : tie.After-bits_at invariant-loop-k decreases-loop-k) → let x = (st
 fits c = omega (arith, (start_of c).requires, stored-part (bits_of c) ((turn c).loop-k.k + 1))
 
 write_field-at-requires : tie.Need-write_field-at-requires invariant-loop-k decreases-loop-k
-write_field-at-requires c κs = let t = c in laid_room (turn c.before).loop-k.invariant.laid _ (next c.before) (fits c.before)
+write_field-at-requires c κs = laid_room (turn c.before).loop-k.invariant.laid _ (next c.before) (fits c.before)
 
 loop-k-preserved : tie.Need-loop-k-preserved invariant-loop-k decreases-loop-k
 loop-k-preserved c =
-    let t = c in
     let w = c.write_field-at.ensures in
     record { turns = omega arith; laid = laid_more (turn c.before.before.before.before).loop-k.invariant.laid _ (next c.before.before.before.before) (fits c.before.before.before.before) w.0 w.1 }
 

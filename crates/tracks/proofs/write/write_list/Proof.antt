@@ -77,7 +77,6 @@ bounds-out-1 c = simp length-set (omega (arith, room c))
 
 write_tracks-requires : tie.Need-write_tracks-requires
 write_tracks-requires c κs =
-    let t = c in
     record {
       small = (small c.before).1;
       few = (small c.before).0;
@@ -90,15 +89,13 @@ shape_of-out c = c.write_tracks.auto.out ∙ simp length-set
 
 returns-in-Length : tie.Need-returns-in-Length
 returns-in-Length c =
-    let t = c in
     let a = accepted c.before.before.before.before in
     (ap WrittenList.Length a.2 ∙ sym (ap write_answer a.1), left c.before.before.before.before c.write_tracks.ensures.1)
 
 returns-in-Refused : tie.Need-returns-in-Refused
 returns-in-Refused c =
-    let s = c in
     let e = write_refused (given c.before.before.before.before) (sym c.check_write-c.ensures ∙ c.in-Refused.is) in
-    (sym (ap write_answer e), sym (ap (λ (o : Outcome (List ℕ)). write_bytes o s.args.out.now) e))
+    (sym (ap write_answer e), sym (ap (λ (o : Outcome (List ℕ)). write_bytes o c.args.out.now) e))
 
 pub write_list_spec : {M : Type 1} → statement M
 write_list_spec =

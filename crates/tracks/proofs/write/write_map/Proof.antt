@@ -32,12 +32,11 @@ bounds-out-at c = omega (arith, c.loop-b.invariant.laid.size, c.map_bytes-n.ensu
 
 loop-b-preserved : tie.Need-loop-b-preserved invariant-loop-b decreases-loop-b
 loop-b-preserved c =
-    let m = c in
     let x = (start_of c.before.before.before).args in
     let l = c.loop-b in
     let t = track_of_doubles x.v.now in
     let more : tabulate (l.b + 1) (map_byte t) ≡ tabulate l.b (map_byte t) ++ (c.map_byte.result ∷ []) = rw c.map_byte.ensures (tabulate_more l.b (map_byte t)) in
-    record { turns = omega arith; laid = laid_set l.invariant.laid _ more (omega (arith, length-tabulate (l.b + 1) (map_byte t), m.map_bytes-n.ensures.0)) (omega arith) }
+    record { turns = omega arith; laid = laid_set l.invariant.laid _ more (omega (arith, length-tabulate (l.b + 1) (map_byte t), c.map_bytes-n.ensures.0)) (omega arith) }
 
 shape_of-out : tie.Need-shape_of-out invariant-loop-b decreases-loop-b
 shape_of-out c = c.loop-b.invariant.laid.size
@@ -45,12 +44,11 @@ shape_of-out c = c.loop-b.invariant.laid.size
 returns : tie.Need-returns invariant-loop-b decreases-loop-b
 unfolding map_of
 returns c =
-    let m = c in
     let x = (start_of c.before.before).args in
-    let n = m.map_bytes-n.result in
+    let n = c.map_bytes-n.result in
     let bytes = map_byte (track_of_doubles x.v.now) in
     let all = laying_all c.loop-b.invariant c.loop-b-test.false in
-    let same : tabulate n bytes ≡ map_of x.d (track_of_doubles x.v.now) = ap (λ (k : ℕ). tabulate k bytes) m.map_bytes-n.ensures.0 in
+    let same : tabulate n bytes ≡ map_of x.d (track_of_doubles x.v.now) = ap (λ (k : ℕ). tabulate k bytes) c.map_bytes-n.ensures.0 in
     (omega (arith, ap length same, length-tabulate n bytes), all.1 ∙ ap (over x.out.now x.at) same)
 
 pub write_map_spec : {M : Type 1} → statement M

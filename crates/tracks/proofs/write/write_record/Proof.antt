@@ -27,18 +27,16 @@ mapped c =
     laid_more laid_none (map_of d t) refl (omega (arith, (start_of c).requires.1, length-append (map_of d t) (stored_bytes t.values))) c.write_map-next.ensures.0 c.write_map-next.ensures.1
 
 write_map-next-requires : tie.Need-write_map-next-requires
-write_map-next-requires c κs = let s = c in (s.requires.0, omega (arith, s.requires.1, record-length s.args.d (track_of_doubles s.args.v.now)))
+write_map-next-requires c κs = (c.requires.0, omega (arith, c.requires.1, record-length c.args.d (track_of_doubles c.args.v.now)))
 
 write_fields-requires : tie.Need-write_fields-requires
 unfolding record_of
-write_fields-requires c κs = let m = c in laid_room (mapped c.before.before.before) (stored_bytes (track_of_lem c.before.before.before).values) refl (start_of c.before.before.before).requires.1
+write_fields-requires c κs = laid_room (mapped c.before.before.before) (stored_bytes (track_of_lem c.before.before.before).values) refl (start_of c.before.before.before).requires.1
 
 returns : tie.Need-returns
 unfolding record_of
 returns c =
-    let written = c in
-    let m = written in
-    let w = written.write_fields.ensures in
+    let w = c.write_fields.ensures in
     laid_all (laid_more (mapped c.before.before.before.before.before.before) (stored_bytes (track_of_lem c.before.before.before.before.before.before).values) refl (start_of c.before.before.before.before.before.before).requires.1 w.0 w.1) refl
 
 pub write_record_spec : {M : Type 1} → statement M

@@ -69,14 +69,12 @@ fits c = let x = (start_of c).args in omega (arith, (start_of c).requires.room, 
 write_record-at-requires : tie.Need-write_record-at-requires invariant-loop decreases-loop
 unfolding part
 write_record-at-requires c κs =
-    let t = c in
-    ((start_of c.before.before).requires.small, laid_room t.loop.invariant.1.laid _ (next c.before.before) (fits c.before.before))
+    ((start_of c.before.before).requires.small, laid_room c.loop.invariant.1.laid _ (next c.before.before) (fits c.before.before))
 
 loop-preserved : tie.Need-loop-preserved invariant-loop decreases-loop
 unfolding part
 loop-preserved c =
-    let t = c in
-    let l = t.loop in
+    let l = c.loop in
     let w = c.write_record-at.ensures in (
       omega (arith, row_next (fields (start_of c.before.before.before.before.before).args.d) l.counter, (sized c.before.before.before.before.before).fields-f.ensures.0),
       record { turns = omega arith; laid = laid_more l.invariant.1.laid _ (next c.before.before.before.before.before) (fits c.before.before.before.before.before) w.0 w.1 },
