@@ -46,9 +46,9 @@ pub record MergeRows (lists : ThreeLists) (floor gate : Float) (n : ℕ) (buffer
   pub earlier : (c d : TrackList) (p q : Pair) → In (candidates_of c d floor gate).candidate p → In (candidates_of c d floor gate).candidate q
       → T ((candidates_of c d floor gate).earlier p q) ↔ EarlierPair c d floor gate p q
   -- The pairs that the rows show are the three pairings. The third is drawn from the tracks of ours and theirs that the first two leave free.
-  pub base_ours_lem : OnlyUnblocked (candidates_of lists.base lists.ours floor gate) (base_with_ours buffer n)
-  pub base_theirs_lem : OnlyUnblocked (candidates_of lists.base lists.theirs floor gate) (base_with_theirs buffer n)
-  pub ours_theirs_lem : OnlyUnblocked
+  pub base_ours : OnlyUnblocked (candidates_of lists.base lists.ours floor gate) (base_with_ours buffer n)
+  pub base_theirs : OnlyUnblocked (candidates_of lists.base lists.theirs floor gate) (base_with_theirs buffer n)
+  pub ours_theirs : OnlyUnblocked
       (among (candidates_of lists.ours lists.theirs floor gate)
       (free_second (candidates_of lists.base lists.ours floor gate) (base_with_ours buffer n))
       (free_second (candidates_of lists.base lists.theirs floor gate) (base_with_theirs buffer n)))

@@ -269,7 +269,7 @@ pub record TwoIndices (a a-offsets : List ℕ) (i : ℕ) (b b-offsets : List ℕ
   pub first : Index a i
   pub of_second : Located b b-offsets
   pub second : Index b j
-  pub one_dimension_lem : (held a).dimension ≡ (held b).dimension
+  pub one_dimension : (held a).dimension ≡ (held b).dimension
 
 -- That these are indices of three lists, and that the lists are located too.
 pub record RowIndices (base ours theirs : List ℕ) (row : Indices) : Type 0 where

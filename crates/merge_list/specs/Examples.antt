@@ -59,17 +59,17 @@ unfolding reading word
 list-k_read = refl
 
 -- A list of one track of variance 1, whose state has these high bytes.
-abbrev one_track_lem : ℕ → List ℕ
-one_track_lem high = 1 ∷ 1 ∷ unit_track 0 high 0x40 []
+abbrev one_track : ℕ → List ℕ
+one_track high = 1 ∷ 1 ∷ unit_track 0 high 0x40 []
 
 -- 10 in base, 11 in ours and 12 in theirs: a full row of verdict 5, and the list of 13 with variance 1.
 unfoldable pub written-fused : Outcome WrittenMerge
 unfolding merging_list list_of_rows merging accepted_lists merged_lists contents floor_and_gate merged_rows pairings_of partners_in first_partners second_partners
     comparison candidacy compared track_covariance by_rank by_index rows_of selected tabulate
-written-fused = merging_list (one_track_lem 0x24) (one_track_lem 0x26) (one_track_lem 0x28) one gate-k 12 20
+written-fused = merging_list (one_track 0x24) (one_track 0x26) (one_track 0x28) one gate-k 12 20
 
 pub merge_list-fused : after_merge_list written-fused (replicate 12 7) (replicate 20 7)
-    ≡ (Written (record { full = 1; half = 0; single = 0 }) 19, (0 ∷ 0 ∷ 0 ∷ 5 ∷ replicate 8 7, one_track_lem 0x2A ++ (7 ∷ [])))
+    ≡ (Written (record { full = 1; half = 0; single = 0 }) 19, (0 ∷ 0 ∷ 0 ∷ 5 ∷ replicate 8 7, one_track 0x2A ++ (7 ∷ [])))
 unfolding written-fused chosen_list chosen with_verdict list_of records_of record_of map_of map_byte packed stored_bytes field_bytes bytes
     fusion fused merged_verdict verdict_on verdict equal_tracks same_bytes rows_with tracks_among flat_map over word of_bits to_bits
     Ieee.div Ieee.mul Ieee.sub Ieee.add Ieee.lt Ieee.le Ieee.eq Ieee.neg Ieee.is_nan

@@ -55,20 +55,20 @@ module _ (lists : ThreeLists) (floor gate : Float) where
   abbrev l : ℕ
   l = track_count t
 
-  abbrev base_ours_lem : Candidates
-  base_ours_lem = candidates_of b o floor gate
+  abbrev base_ours : Candidates
+  base_ours = candidates_of b o floor gate
 
-  abbrev base_theirs_lem : Candidates
-  base_theirs_lem = candidates_of b t floor gate
+  abbrev base_theirs : Candidates
+  base_theirs = candidates_of b t floor gate
 
-  abbrev ours_theirs_lem : Candidates
-  ours_theirs_lem = among (candidates_of o t floor gate) (is_free (partners_in base_ours_lem).seconds) (is_free (partners_in base_theirs_lem).seconds)
+  abbrev ours_theirs : Candidates
+  ours_theirs = among (candidates_of o t floor gate) (is_free (partners_in base_ours).seconds) (is_free (partners_in base_theirs).seconds)
 
-  third_ordered : Ordered ours_theirs_lem
-  third_ordered = among-ordered o t floor gate (is_free (partners_in base_ours_lem).seconds) (is_free (partners_in base_theirs_lem).seconds)
+  third_ordered : Ordered ours_theirs
+  third_ordered = among-ordered o t floor gate (is_free (partners_in base_ours).seconds) (is_free (partners_in base_theirs).seconds)
 
   abbrev pub pairings : Pairings
-  pairings = record { base_ours = partners_in base_ours_lem; base_theirs = partners_in base_theirs_lem; ours_theirs = partners_in ours_theirs_lem }
+  pairings = record { base_ours = partners_in base_ours; base_theirs = partners_in base_theirs; ours_theirs = partners_in ours_theirs }
 
   abbrev v : ℕ → ℕ → ℕ → ℕ
   v = merged_verdict lists floor
@@ -89,16 +89,16 @@ module _ (lists : ThreeLists) (floor gate : Float) where
       few-base = few-base;
       few-ours = few-ours;
       few-theirs = few-theirs;
-      base_ours = paired base_ours_lem;
-      base_theirs = paired base_theirs_lem;
-      ours_theirs = paired ours_theirs_lem;
-      of_base_ours = tabled base_ours_lem (candidates-ordered b o floor gate) few-base;
-      of_base_theirs = tabled base_theirs_lem (candidates-ordered b t floor gate) few-base;
-      of_ours_theirs = tabled ours_theirs_lem third_ordered few-ours;
+      base_ours = paired base_ours;
+      base_theirs = paired base_theirs;
+      ours_theirs = paired ours_theirs;
+      of_base_ours = tabled base_ours (candidates-ordered b o floor gate) few-base;
+      of_base_theirs = tabled base_theirs (candidates-ordered b t floor gate) few-base;
+      of_ours_theirs = tabled ours_theirs third_ordered few-ours;
       free_of_base = λ j k u.
-          let x = is_free (partners_in base_ours_lem).seconds j in
-          let y = is_free (partners_in base_theirs_lem).seconds k in
-          let c = right ((candidates_of o t floor gate).candidate j k) (x && y) ((paired_stable ours_theirs_lem third_ordered).pairing.candidates (pair j k) u) in
+          let x = is_free (partners_in base_ours).seconds j in
+          let y = is_free (partners_in base_theirs).seconds k in
+          let c = right ((candidates_of o t floor gate).candidate j k) (x && y) ((paired_stable ours_theirs third_ordered).pairing.candidates (pair j k) u) in
           (left x y c, right x y c);
       laid = laid u pairings m n l old;
     }
@@ -134,23 +134,23 @@ module _ (lists : ThreeLists) (floor gate : Float) where
 
     -- ---- the pairs that they show
 
-    shown_base_ours : base_with_ours new all ≡ paired base_ours_lem
+    shown_base_ours : base_with_ours new all ≡ paired base_ours
     unfolding given_with
     shown_base_ours = shows-base_ours v pairings m n l new given
 
-    shown_base_theirs : base_with_theirs new all ≡ paired base_theirs_lem
+    shown_base_theirs : base_with_theirs new all ≡ paired base_theirs
     unfolding given_with
     shown_base_theirs = shows-base_theirs v pairings m n l new given
 
-    shown_ours_theirs : ours_with_theirs new all ≡ paired ours_theirs_lem
+    shown_ours_theirs : ours_with_theirs new all ≡ paired ours_theirs
     unfolding given_with
     shown_ours_theirs = shows-ours_theirs v pairings m n l new given
 
-    free_of_base : among (candidates_of o t floor gate) (free_second base_ours_lem (base_with_ours new all)) (free_second base_theirs_lem (base_with_theirs new all)) ≡ ours_theirs_lem
+    free_of_base : among (candidates_of o t floor gate) (free_second base_ours (base_with_ours new all)) (free_second base_theirs (base_with_theirs new all)) ≡ ours_theirs
     free_of_base =
         among_alike (candidates_of o t floor gate) (candidates-ordered o t floor gate) _ _ _ _
-        (λ j h. ap (λ (s : Pairs). free_second base_ours_lem s j) shown_base_ours ∙ sym (free_alike base_ours_lem (candidates-ordered b o floor gate) few-base j h))
-        (λ k h. ap (λ (s : Pairs). free_second base_theirs_lem s k) shown_base_theirs ∙ sym (free_alike base_theirs_lem (candidates-ordered b t floor gate) few-base k h))
+        (λ j h. ap (λ (s : Pairs). free_second base_ours s j) shown_base_ours ∙ sym (free_alike base_ours (candidates-ordered b o floor gate) few-base j h))
+        (λ k h. ap (λ (s : Pairs). free_second base_theirs s k) shown_base_theirs ∙ sym (free_alike base_theirs (candidates-ordered b t floor gate) few-base k h))
 
     -- ---- the records
 
@@ -178,9 +178,9 @@ module _ (lists : ThreeLists) (floor gate : Float) where
       equal = equal-fields;
       candidate = λ c d. near_pairs c d floor gate;
       earlier = λ c d. nearest-first c d floor gate;
-      base_ours_lem = subst (OnlyUnblocked base_ours_lem) (sym shown_base_ours) (only-unblocked base_ours_lem (candidates-ordered b o floor gate));
-      base_theirs_lem = subst (OnlyUnblocked base_theirs_lem) (sym shown_base_theirs) (only-unblocked base_theirs_lem (candidates-ordered b t floor gate));
-      ours_theirs_lem = subst₂ OnlyUnblocked (sym free_of_base) (sym shown_ours_theirs) (only-unblocked ours_theirs_lem third_ordered);
+      base_ours = subst (OnlyUnblocked base_ours) (sym shown_base_ours) (only-unblocked base_ours (candidates-ordered b o floor gate));
+      base_theirs = subst (OnlyUnblocked base_theirs) (sym shown_base_theirs) (only-unblocked base_theirs (candidates-ordered b t floor gate));
+      ours_theirs = subst₂ OnlyUnblocked (sym free_of_base) (sym shown_ours_theirs) (only-unblocked ours_theirs third_ordered);
     }
 
     of_buffer : room_for lists (length old) ≡ true → RowBuffer all old new

@@ -59,28 +59,28 @@ module _ {lists : ThreeLists} {floor gate : Float} {rows : ℕ} {new : List ℕ}
   ot = ours_with_theirs new rows
 
   one-base_ours : bo ≡ paired base_ours-candidates
-  one-base_ours = one-unblocked base_ours-candidates (candidates-ordered lists.base lists.ours floor gate) bo d.base_ours_lem
+  one-base_ours = one-unblocked base_ours-candidates (candidates-ordered lists.base lists.ours floor gate) bo d.base_ours
 
   one-base_theirs : bt ≡ paired base_theirs-candidates
-  one-base_theirs = one-unblocked base_theirs-candidates (candidates-ordered lists.base lists.theirs floor gate) bt d.base_theirs_lem
+  one-base_theirs = one-unblocked base_theirs-candidates (candidates-ordered lists.base lists.theirs floor gate) bt d.base_theirs
 
   one-ours_theirs : ot ≡ paired (free floor gate lists bo bt)
   one-ours_theirs =
       one-unblocked (free floor gate lists bo bt)
-      (among-ordered lists.ours lists.theirs floor gate (free_second base_ours-candidates bo) (free_second base_theirs-candidates bt)) ot d.ours_theirs_lem
+      (among-ordered lists.ours lists.theirs floor gate (free_second base_ours-candidates bo) (free_second base_theirs-candidates bt)) ot d.ours_theirs
 
 -- ---- two buffers with the rows of one merge
 
 module _ {lists : ThreeLists} {floor gate : Float} {rows rows' : ℕ} {new new' : List ℕ} (f : FewTracks lists)
     (d : MergeRows lists floor gate rows new) (e : MergeRows lists floor gate rows' new') where
-  base_ours_lem : bo d ≡ bo e
-  base_ours_lem = one-base_ours d ∙ sym (one-base_ours e)
+  base_ours : bo d ≡ bo e
+  base_ours = one-base_ours d ∙ sym (one-base_ours e)
 
-  base_theirs_lem : bt d ≡ bt e
-  base_theirs_lem = one-base_theirs d ∙ sym (one-base_theirs e)
+  base_theirs : bt d ≡ bt e
+  base_theirs = one-base_theirs d ∙ sym (one-base_theirs e)
 
-  ours_theirs_lem : ot d ≡ ot e
-  ours_theirs_lem = one-ours_theirs d ∙ (λ x. paired (free floor gate lists (base_ours_lem x) (base_theirs_lem x))) ∙ sym (one-ours_theirs e)
+  ours_theirs : ot d ≡ ot e
+  ours_theirs = one-ours_theirs d ∙ (λ x. paired (free floor gate lists (base_ours x) (base_theirs x))) ∙ sym (one-ours_theirs e)
 
   -- ---- the same rows
 
@@ -88,7 +88,7 @@ module _ {lists : ThreeLists} {floor gate : Float} {rows rows' : ℕ} {new new' 
   Lists x y z = Listing (track_count lists.base) (track_count lists.ours) (track_count lists.theirs) x y z new' rows'
 
   there : Lists (bo d) (bt d) (ot d)
-  there = subst₃ Lists (sym base_ours_lem) (sym base_theirs_lem) (sym ours_theirs_lem) (listing f e)
+  there = subst₃ Lists (sym base_ours) (sym base_theirs) (sym ours_theirs) (listing f e)
 
   abbrev all_few : (track_count lists.base ≤ 32) × (track_count lists.ours ≤ 32) × (track_count lists.theirs ≤ 32)
   all_few = (f.base, f.ours, f.theirs)

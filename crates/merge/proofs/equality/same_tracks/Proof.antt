@@ -49,7 +49,7 @@ returns c =
     (c.track_record-y.ensures.0 ∙ located-record (record { located = s.requires.of_second; index = second c.before.before.before }))
     ∙ records_compared x.a.now x.b.now (λ n. omega (arith, c.shared_slice_known-1.given n))
     (λ n. omega (arith, c.shared_slice_known-3-1.given n)) (held x.a.now) (held x.b.now) s.requires.of_first.accepted s.requires.of_second.accepted
-    s.requires.one_dimension_lem x.i x.j (first c.before.before.before) (second c.before.before.before))
+    s.requires.one_dimension x.i x.j (first c.before.before.before) (second c.before.before.before))
 
 pub same_tracks_spec : {M : Type 1} → statement M
 same_tracks_spec = tie.close (tie.spec returns-then-i-eq-NO_TRACK returns-then-j-eq-NO_TRACK (λ c κs. search rules) (λ c κs. search rules) (λ c κs. search rules) returns)

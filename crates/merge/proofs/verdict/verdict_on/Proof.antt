@@ -15,18 +15,18 @@ start_of c = c.before.before.before.before.before.before
 same_tracks-ours_base-requires : tie.Need-same_tracks-ours_base-requires
 same_tracks-ours_base-requires c κs =
     let p = (start_of c).requires in
-    record { of_first = p.lists.of_ours; first = p.indices.of_ours; of_second = p.lists.of_base; second = p.indices.of_base; one_dimension_lem = p.lists.ours-dimension }
+    record { of_first = p.lists.of_ours; first = p.indices.of_ours; of_second = p.lists.of_base; second = p.indices.of_base; one_dimension = p.lists.ours-dimension }
 
 same_tracks-theirs_base-requires : tie.Need-same_tracks-theirs_base-requires
 same_tracks-theirs_base-requires c κs =
     let p = (start_of c.before).requires in
-    record { of_first = p.lists.of_theirs; first = p.indices.of_theirs; of_second = p.lists.of_base; second = p.indices.of_base; one_dimension_lem = p.lists.theirs-dimension }
+    record { of_first = p.lists.of_theirs; first = p.indices.of_theirs; of_second = p.lists.of_base; second = p.indices.of_base; one_dimension = p.lists.theirs-dimension }
 
 same_tracks-ours_theirs-requires : tie.Need-same_tracks-ours_theirs-requires
 same_tracks-ours_theirs-requires c κs =
     let p = (start_of c.before.before).requires in
     let one = p.lists.ours-dimension ∙ sym p.lists.theirs-dimension in
-    record { of_first = p.lists.of_ours; first = p.indices.of_ours; of_second = p.lists.of_theirs; second = p.indices.of_theirs; one_dimension_lem = one }
+    record { of_first = p.lists.of_ours; first = p.indices.of_ours; of_second = p.lists.of_theirs; second = p.indices.of_theirs; one_dimension = one }
 
 returns : tie.Need-returns
 unfolding verdict_on
