@@ -7,7 +7,7 @@ fn main() {
     let archive = root.join("target/staticlib/libbench_pairing.a");
     println!("cargo:rerun-if-changed={}", archive.display());
     let Ok(archive) = fs::canonicalize(archive) else {
-        println!("cargo:warning=no libbench_pairing.a: run `make archive name=bench_pairing` before the program is built");
+        println!("cargo:warning=no libbench_pairing.a: run `make archive name=bench_pairing` first");
         return;
     };
     println!("cargo:rustc-link-search=native={}", archive.parent().unwrap().display());
