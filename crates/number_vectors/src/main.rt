@@ -45,15 +45,10 @@ fn replay_all(s: &[u8], cases: &mut [u64; CALLS], differences: &mut [u64; CALLS]
 }
 
 // Reads a block of records and replays it.
-fn replay_block<R: Read>(
-    reader: &mut R,
-    cases: &mut [u64; CALLS],
-    differences: &mut [u64; CALLS],
-) -> io::Result<()> {
+fn replay_block<R: Read>(reader: &mut R, cases: &mut [u64; CALLS], differences: &mut [u64; CALLS]) {
     let mut buffer = [0u8; BLOCK];
-    let n = replay::read_full(reader, &mut buffer)?;
+    let n = replay::read_full(reader, &mut buffer);
     replay_all(&buffer[..n], cases, differences);
-    Ok(())
 }
 
 fn print_call(rt: &impl Print, name: &str, cases: u64, differences: u64) -> io::Result<()> {
@@ -64,8 +59,8 @@ fn main(rt: HostRuntime) -> io::Result<()> {
     let mut reader = rt.reader();
     let mut cases = [0u64; CALLS];
     let mut differences = [0u64; CALLS];
-    replay_block(&mut reader, &mut cases, &mut differences)?;
-    replay_block(&mut reader, &mut cases, &mut differences)?;
+    replay_block(&mut reader, &mut cases, &mut differences);
+    replay_block(&mut reader, &mut cases, &mut differences);
     print_call(&rt, "sqrt", cases[0], differences[0])?;
     print_call(&rt, "abs", cases[1], differences[1])?;
     print_call(&rt, "max", cases[2], differences[2])?;

@@ -2,29 +2,29 @@
 // is numbers of eight bytes, low byte first, and starts with how many it has; bytes in it are filled up with zeros to a whole number.
 #![tactic(auto)]
 
-ghost use Rattle.std.specs.Prelude.{◌≡◌, ◌+◌, ◌-◌, ◌*◌, ◌%◌, ◌^◌, ◌≤◌, length, from_bits};
+ghost use Rattle.std.specs.Prelude.{◌≡◌, ◌+◌, ◌-◌, ◌*◌, ◌%◌, ◌^◌, ◌≤◌, length, from_bits, take};
 ghost use Rattle.std.specs.Float.{binary64};
-ghost use Rattle.std.specs.Io.{ReadsAtMost};
 ghost use Rattle.kernel.specs.Bytes.{word};
 ghost use Rattle.replay.specs.Replay.{same, all_same, equal_bytes, bytes_at, bytes_after, record_size};
 
 use kernel::{bytes, constants};
-use std::io;
 use std::io::Read;
 
-// Reads until the buffer is full or the reader ends, and gives how many bytes were read. After an error some may stand in the buffer.
-pub fn read_full<R: Read>(reader: &mut R, buffer: &mut [u8]) -> io::Result<usize>
-    ensures { ReadsAtMost result buffer.new }
+// Reads until the buffer is full, the reader ends or a read fails, and gives how many bytes were read.
+pub fn read_full<R: Read>(reader: &mut R, buffer: &mut [u8]) -> usize
+    ensures { (result ≤ length buffer.new) × (result ≡ length (take result buffer.new)) }
 {
     let mut done = 0;
     for _ in 0..buffer.len() {
-        let n = reader.read(&mut buffer[done..])?;
+        let Ok(n) = reader.read(&mut buffer[done..]) else {
+            break;
+        };
         if n == 0 {
             break;
         }
         done += n;
     }
-    Ok(done)
+    done
 }
 
 // The double with the bit pattern p; of a NaN's pattern, a NaN.

@@ -3,8 +3,7 @@
 // covariance, row by row. A list that is refused is shown as `no`, the question's number and the question.
 #![tactic(auto)]
 
-ghost use Rattle.std.specs.Prelude.{◌≤◌};
-ghost use Rattle.std.specs.Io.{ReadsAtMost};
+ghost use Rattle.std.specs.Prelude.{◌≤◌, ◌≡◌, length, take};
 
 mod number;
 mod shortest;
@@ -18,6 +17,8 @@ use std::{env, io};
 use tracks::read::ReadList;
 use tracks::{inside, read};
 
+// The most bytes of a path.
+const LONGEST_PATH: usize = 4096;
 // The values of the largest list: 32 tracks of 54 fields.
 const VALUES: usize = 1728;
 
@@ -129,19 +130,21 @@ fn show(rt: &impl Print, list: &[u8], whole: bool) -> io::Result<()> {
     }
 }
 
-// Reads until the buffer is full or the reader ends, and gives how many bytes were read.
-fn read_full<R: Read>(reader: &mut R, buffer: &mut [u8]) -> io::Result<usize>
-    ensures { ReadsAtMost result buffer.new }
+// Reads until the buffer is full, the reader ends or a read fails, and gives how many bytes were read.
+fn read_full<R: Read>(reader: &mut R, buffer: &mut [u8]) -> usize
+    ensures { (result ≤ length buffer.new) × (result ≡ length (take result buffer.new)) }
 {
     let mut done = 0;
     for _ in 0..buffer.len() {
-        let n = reader.read(&mut buffer[done..])?;
+        let Ok(n) = reader.read(&mut buffer[done..]) else {
+            break;
+        };
         if n == 0 {
             break;
         }
         done += n;
     }
-    Ok(done)
+    done
 }
 
 // The list that begins with n bytes, once the rest is read after them. A list has at most 14,050 bytes, so what the buffer
@@ -156,7 +159,7 @@ fn show_rest<F: Read>(
     if list.len() < n {
         return Ok(());
     }
-    let more = read_full(file, &mut list[n..])?;
+    let more = read_full(file, &mut list[n..]);
     show(rt, &list[..n + more], whole)
 }
 
@@ -208,10 +211,16 @@ fn fail_usage(rt: &impl Eprint) -> io::Result<()> {
 }
 
 fn main(rt: HostRuntime) -> io::Result<()> {
-    let mut args = env::args(&rt)?.skip(1);
+    let Ok(all) = env::args(&rt) else {
+        return fail_usage(&rt);
+    };
+    let mut args = all.skip(1);
     let Some(path) = args.next() else {
         return fail_usage(&rt);
     };
+    if LONGEST_PATH < path.len() {
+        return fail_usage(&rt);
+    }
     let Some(word) = args.next() else {
         return show_file(&rt, &path, false);
     };

@@ -3,7 +3,7 @@
 // refused, it prints `no` and the question's number.
 #![tactic(auto)]
 
-ghost use Rattle.std.specs.Io.{ReadsAtMost};
+ghost use Rattle.std.specs.Prelude.{◌≡◌, ◌≤◌, length, take};
 
 use merge::{Merged, NO_TRACK};
 use std::fs::File;
@@ -11,29 +11,31 @@ use std::io;
 use std::io::Read;
 use std::rt::Files;
 
-// Reads until the buffer is full or the reader ends, and gives how many bytes were read.
-fn read_full<R: Read>(reader: &mut R, buffer: &mut [u8]) -> io::Result<usize>
-    ensures { ReadsAtMost result buffer.new }
+// Reads until the buffer is full, the reader ends or a read fails, and gives how many bytes were read.
+fn read_full<R: Read>(reader: &mut R, buffer: &mut [u8]) -> usize
+    ensures { (result ≤ length buffer.new) × (result ≡ length (take result buffer.new)) }
 {
     let mut done = 0;
     for _ in 0..buffer.len() {
-        let n = reader.read(&mut buffer[done..])?;
+        let Ok(n) = reader.read(&mut buffer[done..]) else {
+            break;
+        };
         if n == 0 {
             break;
         }
         done += n;
     }
-    Ok(done)
+    done
 }
 
 // Reads a file from its start into the buffer, and gives how many bytes there are. A file that can't be opened counts as
 // empty. A list has at most 14,050 bytes, so what a buffer of 65,536 does not hold of a longer file changes no answer.
-fn read_file(rt: &impl Files, path: &str, buffer: &mut [u8]) -> io::Result<usize>
-    ensures { ReadsAtMost result buffer.new }
+fn read_file(rt: &impl Files, path: &str, buffer: &mut [u8]) -> usize
+    ensures { (result ≤ length buffer.new) × (result ≡ length (take result buffer.new)) }
 {
     match File::open(rt, path) {
         Ok(mut file) => read_full(&mut file, buffer),
-        Err(_) => Ok(0),
+        Err(_) => 0,
     }
 }
 
@@ -79,9 +81,9 @@ fn main(rt: HostRuntime) -> io::Result<()> {
     let mut base = [0u8; 65536];
     let mut ours = [0u8; 65536];
     let mut theirs = [0u8; 65536];
-    let b = read_file(&rt, "base.trk", &mut base)?;
-    let o = read_file(&rt, "ours.trk", &mut ours)?;
-    let t = read_file(&rt, "theirs.trk", &mut theirs)?;
+    let b = read_file(&rt, "base.trk", &mut base);
+    let o = read_file(&rt, "ours.trk", &mut ours);
+    let t = read_file(&rt, "theirs.trk", &mut theirs);
     let mut rows = [0u8; 384];
     let m = merge::merge(&base[..b], &ours[..o], &theirs[..t], 1.0, 16.0, &mut rows);
     match m {
