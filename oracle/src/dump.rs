@@ -86,7 +86,7 @@ impl Program {
     }
 }
 
-/// Where the program stands: TRACKDUMP, or where `rt check trackdump` leaves it.
+/// Where the program stands: TRACKDUMP, or where `make programs` leaves it.
 fn place() -> PathBuf {
     let built = Path::new(env!("CARGO_MANIFEST_DIR")).join("../target/bin/trackdump");
     env::var_os("TRACKDUMP").map_or(built, PathBuf::from)
@@ -95,7 +95,7 @@ fn place() -> PathBuf {
 /// Runs the program, and answers the number of differences; a program that is not there is one.
 pub fn run(long: bool) -> u64 {
     let Ok(path) = place().canonicalize() else {
-        println!("trackdump: no program at {}: run `rt check trackdump` first", place().display());
+        println!("trackdump: no program at {}: run `make programs` first", place().display());
         return 1;
     };
     let folder = env::temp_dir().join(format!("oracle-trackdump-{}", process::id()));

@@ -104,7 +104,7 @@ fn printed(program: &Path, folder: &Path, files: &Files) -> String {
     }
 }
 
-/// Where the program stands: TRACKMERGE, or where `rt check trackmerge` leaves it.
+/// Where the program stands: TRACKMERGE, or where `make programs` leaves it.
 fn place() -> PathBuf {
     let built = Path::new(env!("CARGO_MANIFEST_DIR")).join("../target/bin/trackmerge");
     env::var_os("TRACKMERGE").map_or(built, PathBuf::from)
@@ -113,7 +113,7 @@ fn place() -> PathBuf {
 /// Runs the program in so many folders and answers the number of differences; a program that is not there is one.
 pub fn run(folders: u32) -> u64 {
     let Ok(program) = place().canonicalize() else {
-        println!("trackmerge: no program at {}: run `rt check trackmerge` first", place().display());
+        println!("trackmerge: no program at {}: run `make programs` first", place().display());
         return 1;
     };
     let at = env::temp_dir().join(format!("oracle-trackmerge-{}", process::id()));
