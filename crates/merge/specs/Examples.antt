@@ -54,7 +54,8 @@ outcome_k = merging base-k ours-k theirs-k one gate-k 33
 
 -- The three rows, then the bytes that stay, and two rows with three tracks, one with two.
 pub merge-k : after_merge outcome_k buffer_k ≡ (Counts (record { full = 2; half = 1; single = 0 }), 0 ∷ 0 ∷ 0 ∷ 0 ∷ 1 ∷ 255 ∷ 1 ∷ 3 ∷ 2 ∷ 1 ∷ 2 ∷ 2 ∷ replicate 21 7)
-unfolding outcome_k merged_verdict verdict_on verdict equal_tracks same_bytes rows_with tracks_among flat_map over word of_bits Ieee.div Ieee.mul Ieee.sub Ieee.add Ieee.lt Ieee.le Ieee.eq Ieee.neg Ieee.is_nan
+unfolding outcome_k merged_verdict verdict_on verdict equal_tracks same_bytes rows_with tracks_among flat_map over word of_bits Ieee.div Ieee.mul
+    Ieee.sub Ieee.add Ieee.lt Ieee.le Ieee.eq Ieee.neg Ieee.is_nan
 merge-k = refl
 
 -- A buffer of one byte less than they ask for is refused.

@@ -45,7 +45,8 @@ module _ (lists : ThreeLists) (floor : Float) (none : Row) where
   chosen-place (w ∷ rows) zero h t e = (omega (arith, takers-first w rows, one_track_lem lists floor w, ap length e), ap (λ (ts : List Track). get_or (ts ++ tracks_of_lem rows) 0 (track_of [])) e)
   chosen-place (w ∷ rows) (suc r) h t e =
       let q = chosen-place rows r (omega arith) t e in
-      let place : place_of (w ∷ rows) (suc r) ≡ length (chosen lists floor w) + place_of rows r = takers-first w (take r rows) ∙ ap (λ (n : ℕ). n + place_of rows r) (sym (one_track_lem lists floor w)) in (
+      let place : place_of (w ∷ rows) (suc r) ≡ length (chosen lists floor w) + place_of rows r = takers-first w (take r rows) ∙ ap (λ (n : ℕ). n + place_of rows r)
+      (sym (one_track_lem lists floor w)) in (
         omega (arith, q.0, takers-first w rows, takers-first w (take r rows)),
         ap (λ (n : ℕ). get_or (chosen lists floor w ++ tracks_of_lem rows) n (track_of [])) place ∙ get_or-append-add (chosen lists floor w) (tracks_of_lem rows) (place_of rows r) (track_of []) ∙ q.1,
       )

@@ -1,6 +1,7 @@
 -- The bytes of a block: those that are all there and those that are not (`bytes_there`, `bytes_missing`), how many they are (`bytes-within`), and
 -- what is left after others (`left_after`, `none_after`).
-use Rattle.std.proofs.Common.{◌≡◌, ℕ, ◌+◌, ◌-◌, ◌*◌, ◌/◌, ◌<◌, ◌≤◌, Bool, true, false, leb, List, [], length, take, drop, sym, refl, ap, ◌∙◌, arith, length-drop, drop_of_length-le, length-take-le, take_all, le-leb, leb-false, leb-true}
+use Rattle.std.proofs.Common.{◌≡◌, ℕ, ◌+◌, ◌-◌, ◌*◌, ◌/◌, ◌<◌, ◌≤◌, Bool, true, false, leb, List, [], length, take, drop, sym, refl}
+use Rattle.std.proofs.Common.{ap, ◌∙◌, arith, length-drop, drop_of_length-le, length-take-le, take_all, le-leb, leb-false, leb-true}
 use borrow.Author.Tests.{lt-leb}
 use Rattle.replay.specs.Replay.{bytes_at, bytes_after}
 

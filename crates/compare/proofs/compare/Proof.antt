@@ -63,4 +63,5 @@ returns c =
 
 pub compare_spec : {M : Type 1} → statement M
 compare_spec =
-    tie.close (tie.spec (λ c κs. search rules) returns-then-not-is_side are_tracks-requires returns-then-not-are_tracks (λ c κs. search rules) returns-then-not-is_floor_and_gate compare_tracks-report-requires returns)
+    tie.close (tie.spec (λ c κs. search rules) returns-then-not-is_side are_tracks-requires returns-then-not-are_tracks
+    (λ c κs. search rules) returns-then-not-is_floor_and_gate compare_tracks-report-requires returns)

@@ -74,5 +74,6 @@ returns c =
 pub fuse_spec : {M : Type 1} → statement M
 fuse_spec =
     tie.close
-    (tie.spec (λ c κs. search rules) returns-then-not-is_side (λ c κs. side_high _ (met_1 c)) (λ c κs. search rules) (λ c. search rules) returns-then-not-are_long fuse_tracks-requires (λ c. search rules)
+    (tie.spec (λ c κs. search rules) returns-then-not-is_side (λ c κs. side_high _ (met_1 c)) (λ c κs. search rules) (λ c. search rules) returns-then-not-are_long fuse_tracks-requires
+    (λ c. search rules)
     returns-then-fuse_tracks (λ c. search rules) returns)

@@ -47,5 +47,6 @@ returns c =
 pub mat3_solve_spec : {M : Type 1} → statement M
 mat3_solve_spec =
     tie.close
-    (tie.spec (λ c κs. search rules) (λ c. search rules) returns-then-not-is_3_by_3_system (λ c κs. (lengths c).0) is_regular-requires (λ c. search rules) returns-then-not-is_regular solution-x-requires
+    (tie.spec (λ c κs. search rules) (λ c. search rules) returns-then-not-is_3_by_3_system (λ c κs. (lengths c).0) is_regular-requires
+    (λ c. search rules) returns-then-not-is_regular solution-x-requires
     (λ c. search rules) copy-requires (λ c. search rules) returns)

@@ -114,5 +114,6 @@ loop-best-preserved c =
 pub pair_tracks_spec : {M : Type 1} → statement M
 pair_tracks_spec =
     tie.close
-    (tie.spec invariant-loop-best decreases-loop-best (λ c κs. omega arith) (λ c κs. omega arith) loop-best-init search-best-requires shape_of-firsts-then-not-best shape_of-seconds-then-not-best returns-then-not-best overflow_cast-firsts bounds-firsts-i
+    (tie.spec invariant-loop-best decreases-loop-best (λ c κs. omega arith)
+    (λ c κs. omega arith) loop-best-init search-best-requires shape_of-firsts-then-not-best shape_of-seconds-then-not-best returns-then-not-best overflow_cast-firsts bounds-firsts-i
     overflow_cast-seconds bounds-seconds-j loop-best-smaller loop-best-preserved)

@@ -68,5 +68,6 @@ loop-i-preserved c =
 pub are_same_spec : {M : Type 1} → statement M
 are_same_spec =
     tie.close
-    (tie.spec invariant-loop-i decreases-loop-i loop-i-init (λ c. omega arith) returns-then-s-at-lt8 (λ c. search rules) (λ c. omega arith) (λ c κs. search rules) (λ c κs. search rules) returns-then-not-is_same
+    (tie.spec invariant-loop-i decreases-loop-i loop-i-init (λ c. omega arith) returns-then-s-at-lt8 (λ c. search rules) (λ c. omega arith) (λ c κs. search rules)
+    (λ c κs. search rules) returns-then-not-is_same
     (λ c. omega arith) (λ c. omega arith) (λ c. omega arith) loop-i-preserved (λ c. none_left c.loop-i.invariant c.loop-i-test.false))

@@ -33,4 +33,6 @@ returns : tie.Need-returns invariant-loop-j decreases-loop-j
 returns c = at_end_lem (finite_entries c.before.before.before.args.x.now) c.before.loop-j.invariant.0 c.loop-j-test.false (sym c.before.loop-j.invariant.1)
 
 pub are_finite_spec : {M : Type 1} → statement M
-are_finite_spec = tie.close (tie.spec invariant-loop-j decreases-loop-j loop-j-init (λ c. omega arith) (λ c. omega arith) (λ c κs. search rules) returns-then-not-is_finite (λ c. omega arith) (λ c. omega arith) loop-j-preserved returns)
+are_finite_spec =
+    tie.close (tie.spec invariant-loop-j decreases-loop-j loop-j-init (λ c. omega arith) (λ c. omega arith) (λ c κs. search rules) returns-then-not-is_finite (λ c. omega arith)
+    (λ c. omega arith) loop-j-preserved returns)

@@ -59,7 +59,11 @@ eigenpairs-requires c κs =
 returns : tie.Need-returns
 unfolding mat_symmetric_eigen
 returns c =
-    rw (sided (first (second c.before.before.before.before.before.before.before)), shaped (second c.before.before.before.before.before.before.before), wide c.before.before.before.before.before.before.before) c.eigenpairs.ensures
+    rw (
+      sided (first (second c.before.before.before.before.before.before.before)),
+      shaped (second c.before.before.before.before.before.before.before),
+      wide c.before.before.before.before.before.before.before,
+    ) c.eigenpairs.ensures
 
 pub mat_symmetric_eigen_spec : {M : Type 1} → statement M
 mat_symmetric_eigen_spec =

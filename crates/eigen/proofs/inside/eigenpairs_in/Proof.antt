@@ -66,7 +66,8 @@ returns c =
     let made = symmetric (identified c.before.before.before.before.before.before.before.before.before.before.before.before.before.before.before) in
     let x = (entered made).args in
     let ends =
-    swept-from x.a.now x.n made.symmetrize.ensures (identified c.before.before.before.before.before.before.before.before.before.before.before.before.before.before.before).identity.ensures c.tolerance-tol.ensures
+    swept-from x.a.now x.n made.symmetrize.ensures
+    (identified c.before.before.before.before.before.before.before.before.before.before.before.before.before.before.before).identity.ensures c.tolerance-tol.ensures
     c.sweep_until.ensures in
     (answered-by x.a.now x.n x.values.now x.vectors.now ends c.pairs.ensures, ends)
 

@@ -81,5 +81,6 @@ told_spec =
     tie.close
     (tie.spec (λ c. omega (arith, square c)) square (λ c. sym (length-take-le _ _ (square c.before))) (λ c. square c.before)
     (λ c. sym (length-take-le _ _ (square c.before.before))) (λ c. side c.before.before) (λ c. sym (length-take-le _ _ (side c.before.before.before)))
-    both-requires (λ c. search rules) (λ c. search rules) returns-then-not-both slice_bounds-p-end-2 (λ c. sym (length-take-le _ _ (slice_bounds-p-end-2 c.before))) slice_bounds-n-end-2 (λ c. sym (length-take-le _ _ (slice_bounds-n-end-2 c.before)))
+    both-requires (λ c. search rules) (λ c. search rules) returns-then-not-both slice_bounds-p-end-2 (λ c. sym (length-take-le _ _ (slice_bounds-p-end-2 c.before))) slice_bounds-n-end-2
+    (λ c. sym (length-take-le _ _ (slice_bounds-n-end-2 c.before)))
     slice_bounds-z-end-2 (λ c. sym (length-take-le _ _ (slice_bounds-z-end-2 c.before))) without_base-requires (λ c. search rules) (λ c. search rules) returns)

@@ -15,7 +15,8 @@ returns-then-not-information c = let none = (call c.before).information.ensures.
 
 returns : tie.Need-returns
 returns c =
-    rw ((call c.before.before.before.before.before.before.before.before.before).information.ensures.one c.if-not-information.false) (gives_one (ap answered (informed c.subtract.ensures c.subtract-2.ensures)))
+    rw ((call c.before.before.before.before.before.before.before.before.before).information.ensures.one c.if-not-information.false)
+    (gives_one (ap answered (informed c.subtract.ensures c.subtract-2.ensures)))
 
 pub without_base_spec : {M : Type 1} → statement M
 without_base_spec =

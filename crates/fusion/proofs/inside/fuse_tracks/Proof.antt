@@ -53,8 +53,10 @@ slice_bounds-y-end-2 c =
     omega (arith, side (lent call), length_front _ call.told.new.y (entered (lent call)).args.d call.told.auto.y)
 
 write_told-requires : tie.Need-write_told-requires
-write_told-requires c κs =
-    ((entered (lent (first c.before.before.before.before))).requires.room, record { matrix = length-take-le _ _ (slice_bounds-m-end-2 c.before.before.before); vector = length-take-le _ _ (slice_bounds-y-end-2 c.before.before) })
+write_told-requires c κs = (
+  (entered (lent (first c.before.before.before.before))).requires.room,
+  record { matrix = length-take-le _ _ (slice_bounds-m-end-2 c.before.before.before); vector = length-take-le _ _ (slice_bounds-y-end-2 c.before.before) },
+)
 
 returns : tie.Need-returns
 returns c =

@@ -32,8 +32,12 @@ side c = side_high (entered c).args.d (entered c).requires.0.sided
 
 estimate-requires : tie.Need-estimate-requires
 estimate-requires c κs =
-    let pre = (entered c.before.before.before).requires in
-    (pre.0.sided, pre.1, length-take-le _ _ (square c.before.before.before), record { matrix = length-take-le _ _ (square c.before.before.before); vector = length-take-le _ _ (side c.before.before.before) })
+    let pre = (entered c.before.before.before).requires in (
+      pre.0.sided,
+      pre.1,
+      length-take-le _ _ (square c.before.before.before),
+      record { matrix = length-take-le _ _ (square c.before.before.before); vector = length-take-le _ _ (side c.before.before.before) },
+    )
 
 returns-then-not-estimate : tie.Need-returns-then-not-estimate
 returns-then-not-estimate c = rw ((first c.before).estimate.ensures.none c.if-not-estimate.true).1 refl
@@ -49,8 +53,10 @@ slice_bounds-p-end-2 c =
     omega (arith, square (lent call), length_front _ call.estimate.new.p (size (lent call)) call.estimate.auto.p)
 
 write_finite-requires : tie.Need-write_finite-requires
-write_finite-requires c κs =
-    ((entered (lent (first c.before.before.before.before))).requires.0, record { matrix = length-take-le _ _ (slice_bounds-p-end-2 c.before.before); vector = length-take-le _ _ (slice_bounds-x-end-2 c.before.before.before) })
+write_finite-requires c κs = (
+  (entered (lent (first c.before.before.before.before))).requires.0,
+  record { matrix = length-take-le _ _ (slice_bounds-p-end-2 c.before.before); vector = length-take-le _ _ (slice_bounds-x-end-2 c.before.before.before) },
+)
 
 returns : tie.Need-returns
 returns c =
@@ -67,5 +73,6 @@ write_told_spec =
     tie.close
     (tie.spec (λ c. omega (arith, square c)) square (λ c. sym (length-take-le _ _ (square c.before))) (λ c. side c.before)
     (λ c. sym (length-take-le _ _ (side c.before.before))) (λ c. square c.before.before) (λ c. sym (length-take-le _ _ (square c.before.before.before)))
-    estimate-requires returns-then-not-estimate slice_bounds-x-end-2 (λ c. sym (length-take-le _ _ (slice_bounds-x-end-2 c.before))) slice_bounds-p-end-2 (λ c. sym (length-take-le _ _ (slice_bounds-p-end-2 c.before)))
+    estimate-requires returns-then-not-estimate slice_bounds-x-end-2 (λ c. sym (length-take-le _ _ (slice_bounds-x-end-2 c.before))) slice_bounds-p-end-2
+    (λ c. sym (length-take-le _ _ (slice_bounds-p-end-2 c.before)))
     write_finite-requires (λ c. search rules) returns)

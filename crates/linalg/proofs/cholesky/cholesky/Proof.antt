@@ -44,8 +44,11 @@ copy-requires : tie.Need-copy-requires
 copy-requires c κs = (size c.before.before _, (start c.before.before).requires.2)
 
 returns : tie.Need-returns
-returns c =
-    (sym (met (called c.before.before.before.before.before).factor_rows.ensures.answers c.if-not-factor_rows.false), λ _. c.copy.ensures ∙ made c.before.before.before.before.before _, λ e. never (sym e))
+returns c = (
+  sym (met (called c.before.before.before.before.before).factor_rows.ensures.answers c.if-not-factor_rows.false),
+  λ _. c.copy.ensures ∙ made c.before.before.before.before.before _,
+  λ e. never (sym e),
+)
 
 pub cholesky_spec : {M : Type 1} → statement M
 cholesky_spec =

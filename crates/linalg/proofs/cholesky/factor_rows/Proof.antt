@@ -64,7 +64,12 @@ returns-then-not-factor_row c =
 loop-i-preserved : tie.Need-loop-i-preserved invariant-loop-i decreases-loop-i
 loop-i-preserved c =
     let taken : c.factor_row.result ≡ true = c.if-not-factor_row.false in
-    record { turns = omega arith; size = c.factor_row.auto.l ∙ (turn c.before.before.before).loop-i.invariant.size; pivots = pivots c.before.before.before ∙ taken; rows = c.factor_row.ensures.reached taken }
+    record {
+      turns = omega arith;
+      size = c.factor_row.auto.l ∙ (turn c.before.before.before).loop-i.invariant.size;
+      pivots = pivots c.before.before.before ∙ taken;
+      rows = c.factor_row.ensures.reached taken;
+    }
 
 returns : tie.Need-returns invariant-loop-i decreases-loop-i
 returns c =
@@ -83,4 +88,5 @@ returns c =
 pub factor_rows_spec : {M : Type 1} → statement M
 factor_rows_spec =
     tie.close
-    (tie.spec invariant-loop-i decreases-loop-i loop-i-init factor_row-requires shape_of-l-then-not-factor_row returns-then-not-factor_row (λ c. omega arith) (λ c. omega arith) loop-i-preserved (λ c. c.loop-i.invariant.size) returns)
+    (tie.spec invariant-loop-i decreases-loop-i loop-i-init factor_row-requires shape_of-l-then-not-factor_row returns-then-not-factor_row (λ c. omega arith)
+    (λ c. omega arith) loop-i-preserved (λ c. c.loop-i.invariant.size) returns)

@@ -24,5 +24,6 @@ returns-then-n-eq16 c = rw c.if-n-eq16.true c.product-then-n-eq16.ensures
 pub product_by_width_spec : {M : Type 1} → statement M
 product_by_width_spec =
     tie.close
-    (tie.spec product-requires (λ c. search rules) returns-then-n-eq6 product-requires-then-n-eq9 (λ c. search rules) returns-then-n-eq9 product-requires-then-n-eq16 (λ c. search rules) returns-then-n-eq16
+    (tie.spec product-requires (λ c. search rules) returns-then-n-eq6 product-requires-then-n-eq9 (λ c. search rules) returns-then-n-eq9 product-requires-then-n-eq16
+    (λ c. search rules) returns-then-n-eq16
     (λ c κs. search rules) (λ c. search rules) (λ c. search rules))

@@ -46,5 +46,6 @@ returns c = turns_all c.loop-r.invariant c.loop-r-test.false
 pub rows_with_spec : {M : Type 1} → statement M
 rows_with_spec =
     tie.close
-    (tie.spec invariant-loop-r decreases-loop-r loop-r-init (λ c. omega arith) (λ c. omega arith) (λ c. omega arith) (λ c. omega arith) (λ c. omega arith) (λ c. omega arith) (λ c. omega arith) (λ c. omega arith)
+    (tie.spec invariant-loop-r decreases-loop-r loop-r-init (λ c. omega arith) (λ c. omega arith) (λ c. omega arith) (λ c. omega arith) (λ c. omega arith) (λ c. omega arith)
+    (λ c. omega arith) (λ c. omega arith)
     (λ c κs. search rules) (λ c κs. search rules) overflow_add-count (λ c. omega arith) (λ c. omega arith) loop-r-preserved returns)

@@ -78,6 +78,7 @@ returns c = every_entry c.loop-j.invariant.keys c.loop-j-test.false
 pub put_keys_spec : {M : Type 1} → statement M
 put_keys_spec =
     tie.close
-    (tie.spec invariant-loop-j decreases-loop-j loop-j-init (λ c. omega (arith, (entered c.before).requires.others.few)) (λ c κs. search rules) row-v-requires key-requires (λ c. omega arith) (λ c. omega arith)
+    (tie.spec invariant-loop-j decreases-loop-j loop-j-init (λ c. omega (arith, (entered c.before).requires.others.few)) (λ c κs. search rules) row-v-requires key-requires
+    (λ c. omega arith) (λ c. omega arith)
     (λ c κs. search rules) (λ c. omega arith) (λ c. omega arith) (λ c. omega arith) (λ c. omega arith) loop-j-preserved
     (λ c. c.loop-j.invariant.room ∙ sym (entered c.before).requires.track.room) (λ c. c.loop-j.invariant.keys.entries.size) returns)

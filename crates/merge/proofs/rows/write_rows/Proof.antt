@@ -68,4 +68,5 @@ returns c =
 pub write_rows_spec : {M : Type 1} → statement M
 write_rows_spec =
     tie.close
-    (tie.spec (λ c κs. let p = (start_of c.before).requires in record { few = p.few-base; start = omega arith; room = omega (arith, p.room) }) ours_rows-r-requires theirs_rows-requires (λ c. search rules) returns)
+    (tie.spec (λ c κs. let p = (start_of c.before).requires in record { few = p.few-base; start = omega arith; room = omega (arith, p.room) }) ours_rows-r-requires theirs_rows-requires
+    (λ c. search rules) returns)

@@ -67,4 +67,6 @@ unfolding verdict
 returns c = rw (c.if-base.false, c.if-ours-2.false, c.if-theirs-4.false) refl
 
 pub verdict_spec : {M : Type 1} → statement M
-verdict_spec = tie.close (tie.spec returns-then-theirs_base returns-then-ours_base returns-then-theirs_base-2 returns-then-ours_theirs returns-then-theirs returns-then-ours_base-2 returns-then-ours returns-then-theirs_base-3 returns-then-theirs-2 returns-then-base returns-then-ours_theirs-2 returns-then-theirs-3 returns-then-ours-2 returns-then-theirs-4 returns)
+verdict_spec =
+    tie.close (tie.spec returns-then-theirs_base returns-then-ours_base returns-then-theirs_base-2 returns-then-ours_theirs returns-then-theirs returns-then-ours_base-2 returns-then-ours
+    returns-then-theirs_base-3 returns-then-theirs-2 returns-then-base returns-then-ours_theirs-2 returns-then-theirs-3 returns-then-ours-2 returns-then-theirs-4 returns)

@@ -80,7 +80,8 @@ front c = let e = c.put_list-length.ensures.0 in ap (take c.put_list-length.resu
 returns-then-out-length : tie.Need-returns-then-out-length
 returns-then-out-length c =
     let s = start_of (met c.before.before).before in
-    promised s (asked_20 (length s.args.out.now) (rows_of s) (list_of s) (met_21 (met c.before.before)) (few c.before.before.before.before) (omega (arith, c.put_list-length.ensures.0.0, c.if-out-length.true))) refl refl
+    promised s (asked_20 (length s.args.out.now) (rows_of s) (list_of s) (met_21 (met c.before.before)) (few c.before.before.before.before)
+    (omega (arith, c.put_list-length.ensures.0.0, c.if-out-length.true))) refl refl
 
 slice_bounds-copy_bytes-end : tie.Need-slice_bounds-copy_bytes-end
 slice_bounds-copy_bytes-end c = omega (arith, c.put_list-length.ensures.0.0, ap length (front c.before.before.before))
@@ -94,7 +95,8 @@ returns c =
     let s = start_of (met c.before.before.before.before.before.before.before).before in
     let out = s.args.out.now in
     let long : c.put_list-length.result ≡ length (listed c.before.before.before.before.before.before.before) = omega (arith, c.put_list-length.ensures.0.0) in
-    promised s (asked_list (length out) (rows_of s) (list_of s) (met_21 (met c.before.before.before.before.before.before.before)) (few c.before.before.before.before.before.before.before.before.before) (omega (arith, long, c.if-out-length.false))) (ap Length long)
+    promised s (asked_list (length out) (rows_of s) (list_of s) (met_21 (met c.before.before.before.before.before.before.before))
+    (few c.before.before.before.before.before.before.before.before.before) (omega (arith, long, c.if-out-length.false))) (ap Length long)
     (c.copy_bytes.ensures.1 ∙ ap (over out 0) (front c.before.before.before.before.before.before.before))
 
 pub write_chosen_spec : {M : Type 1} → statement M

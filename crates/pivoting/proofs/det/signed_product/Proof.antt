@@ -77,7 +77,8 @@ loop-k-preserved c =
     record {
       reduced =
           record {
-            columns = columns_more inv.reduced.columns (turn b).loop-k-test.true (decided c.before.before.before.before.before.before.before.before.before.before.before.before.before.before) c.if-not-is_taken.false next;
+            columns = columns_more inv.reduced.columns (turn b).loop-k-test.true
+                (decided c.before.before.before.before.before.before.before.before.before.before.before.before.before.before) c.if-not-is_taken.false next;
             lengths = lengths_kept inv.reduced.lengths kept.m c.swap_norms.auto.s kept.x;
           };
       sign = sign_more _ f l.k here b.choose-best.ensures inv.sign c.flipped-sign.ensures;

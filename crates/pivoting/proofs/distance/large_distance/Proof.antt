@@ -19,7 +19,12 @@ room c = augmented-room 16 (entered c).requires.1 (entered c).requires.1
 
 inverse_in-answer-requires : tie.Need-inverse_in-answer-requires
 inverse_in-answer-requires c κs =
-    (refl, (entered c.before.before.before.before).requires.0.square, elimination_room _ _ _ _ _ (room c.before.before.before.before).size (room c.before.before.before.before).order (room c.before.before.before.before).width, length-take-le _ _ (room c.before.before.before.before).square)
+    let r = room c.before.before.before.before in (
+      refl,
+      (entered c.before.before.before.before).requires.0.square,
+      elimination_room _ _ _ _ _ r.size r.order r.width,
+      length-take-le _ _ r.square,
+    )
 
 slice_bounds-inv-end-2 : tie.Need-slice_bounds-inv-end-2
 slice_bounds-inv-end-2 c =

@@ -19,7 +19,12 @@ room c = augmented-room 4 (entered c).requires.1 (entered c).requires.1
 
 inverse_in-answer-requires : tie.Need-inverse_in-answer-requires
 inverse_in-answer-requires c κs =
-    (refl, (entered c.before.before.before.before).requires.0.square, elimination_room _ _ _ _ _ (room c.before.before.before.before).size (room c.before.before.before.before).order (room c.before.before.before.before).width, length-take-le _ _ (room c.before.before.before.before).square)
+    let r = room c.before.before.before.before in (
+      refl,
+      (entered c.before.before.before.before).requires.0.square,
+      elimination_room _ _ _ _ _ r.size r.order r.width,
+      length-take-le _ _ r.square,
+    )
 
 slice_bounds-inv-end-2 : tie.Need-slice_bounds-inv-end-2
 slice_bounds-inv-end-2 c =
@@ -27,8 +32,10 @@ slice_bounds-inv-end-2 c =
 
 distance_under-requires : tie.Need-distance_under-requires
 distance_under-requires c κs =
-    let known = lent c.before.before.before.before.before in
-    (record { first = (entered known).requires.0.first; second = (entered known).requires.0.second; square = length-take-le _ _ (slice_bounds-inv-end-2 c.before) }, omega (arith, (entered known).requires.1))
+    let known = lent c.before.before.before.before.before in (
+      record { first = (entered known).requires.0.first; second = (entered known).requires.0.second; square = length-take-le _ _ (slice_bounds-inv-end-2 c.before) },
+      omega (arith, (entered known).requires.1),
+    )
 
 returns : tie.Need-returns
 returns c =

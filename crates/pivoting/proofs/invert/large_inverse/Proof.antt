@@ -11,7 +11,12 @@ room c = augmented-room 16 c.requires.0 c.requires.0
 
 inverse_in-requires : tie.Need-inverse_in-requires
 inverse_in-requires c κs =
-    (refl, c.requires.1, elimination_room _ _ _ _ _ (room c.before.before.before.before.before.before).size (room c.before.before.before.before.before.before).order (room c.before.before.before.before.before.before).width, c.requires.2)
+    let r = room c.before.before.before.before.before.before in (
+      refl,
+      c.requires.1,
+      elimination_room _ _ _ _ _ r.size r.order r.width,
+      c.requires.2,
+    )
 
 pub large_inverse_spec : {M : Type 1} → statement M
 large_inverse_spec =

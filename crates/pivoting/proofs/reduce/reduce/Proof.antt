@@ -27,7 +27,8 @@ turn c = (called c).before.before.before.before
 abbrev start : tie.After-slice_known-in-loop-k-3-1 invariant-loop-k decreases-loop-k → tie.Start invariant-loop-k decreases-loop-k
 start c = (turn c).before.before.before.before.before
 
-lengths : (c : tie.After-slice_known-in-loop-k-3-1 invariant-loop-k decreases-loop-k) → let x = (start c).args in let l = (called c).reduce_column.new in SameLengths x.m.now x.s.now x.x.now l.m l.s l.x
+lengths : (c : tie.After-slice_known-in-loop-k-3-1 invariant-loop-k decreases-loop-k)
+    → let x = (start c).args in let l = (called c).reduce_column.new in SameLengths x.m.now x.s.now x.x.now l.m l.s l.x
 lengths c = let kept = (called c).reduce_column.auto in lengths_kept (turn c).loop-k.invariant.lengths kept.m kept.s kept.x
 
 loop-k-init : tie.Need-loop-k-init invariant-loop-k decreases-loop-k

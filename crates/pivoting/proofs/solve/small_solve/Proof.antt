@@ -11,7 +11,12 @@ room c = augmented-room 4 c.requires.order c.requires.few
 
 solve_in-requires : tie.Need-solve_in-requires
 solve_in-requires c κs =
-    record { narrow = omega (arith, (room c.before.before.before.before.before.before.before).width); system = c.requires.system; room = elimination_room _ _ _ _ _ (room c.before.before.before.before.before.before.before).size (room c.before.before.before.before.before.before.before).order (room c.before.before.before.before.before.before.before).width }
+    let r = room c.before.before.before.before.before.before.before in
+    record {
+      narrow = omega (arith, r.width);
+      system = c.requires.system;
+      room = elimination_room _ _ _ _ _ r.size r.order r.width;
+    }
 
 pub small_solve_spec : {M : Type 1} → statement M
 small_solve_spec =

@@ -45,7 +45,8 @@ overflow_cast-d c = omega (arith, c.shared_slice_known-3-1.given 1)
 returns-then-not-count_met : tie.Need-returns-then-not-count_met
 unfolding contents
 returns-then-not-count_met c =
-    refusal (list_of c.before.before.before.before.before) (old c.before.before.before.before.before) (old c.before.before.before.before.before) (simp (le-leb 2 (length (list_of c.before.before.before.before.before)) (omega arith), sym c.count_met.ensures ∙ c.if-not-count_met.true))
+    refusal (list_of c.before.before.before.before.before) (old c.before.before.before.before.before) (old c.before.before.before.before.before)
+    (simp (le-leb 2 (length (list_of c.before.before.before.before.before)) (omega arith), sym c.count_met.ensures ∙ c.if-not-count_met.true))
 
 -- questions 9 and 10 are met
 abbrev begun : tie.Else-not-count_met → tie.After-slice_known-1
@@ -109,6 +110,7 @@ returns-in-Refused c =
 pub check_offsets_spec : {M : Type 1} → statement M
 check_offsets_spec =
     tie.close
-    (tie.spec returns-then-list-lt2 (λ c. search rules) overflow_cast-n (λ c. search rules) overflow_cast-d (λ c κs. search rules) returns-then-not-count_met (λ c κs. search rules) returns-then-not-dimension_met
+    (tie.spec returns-then-list-lt2 (λ c. search rules) overflow_cast-n (λ c. search rules) overflow_cast-d (λ c κs. search rules) returns-then-not-count_met
+    (λ c κs. search rules) returns-then-not-dimension_met
     check_tracks-c-requires (λ c. search rules) (λ c. search rules) (λ c. search rules) returns-then-end-list (λ c. search rules) returns-else-end-list
     (λ c. search rules) returns-in-Refused)

@@ -56,7 +56,8 @@ put_field-at-requires c κs =
 
 loop-k-preserved : tie.Need-loop-k-preserved invariant-loop-k decreases-loop-k
 loop-k-preserved c =
-    put_more c.loop-k.invariant (next c.before.before.before.before) (λ x. x ∷ []) c.loop-k-test.true refl (omega (arith, (start_of (sized c.before.before.before.before)).requires.room, (sized c.before.before.before.before).fields-f.ensures.0)) (omega arith)
+    put_more c.loop-k.invariant (next c.before.before.before.before) (λ x. x ∷ []) c.loop-k-test.true refl
+    (omega (arith, (start_of (sized c.before.before.before.before)).requires.room, (sized c.before.before.before.before).fields-f.ensures.0)) (omega arith)
     c.put_field-at.ensures
 
 shape_of-values : tie.Need-shape_of-values invariant-loop-k decreases-loop-k
@@ -72,4 +73,5 @@ pub put_track_spec : {M : Type 1} → statement M
 put_track_spec =
     tie.close
     (tie.spec invariant-loop-k decreases-loop-k (λ c κs. c.requires.small) (λ c κs. c.requires.small) overflow_add-at loop-k-init
-    (λ c. omega (arith, (start_of (sized c.before)).requires.room, (sized c.before).fields-f.ensures.0)) put_field-at-requires (λ c. omega arith) (λ c. omega arith) loop-k-preserved shape_of-values returns)
+    (λ c. omega (arith, (start_of (sized c.before)).requires.room, (sized c.before).fields-f.ensures.0)) put_field-at-requires (λ c. omega arith)
+    (λ c. omega arith) loop-k-preserved shape_of-values returns)

@@ -48,7 +48,11 @@ loop-init c = (sym (zero-mul _), record { turns = omega arith; taken = record { 
 
 put_track-at-requires : tie.Need-put_track-at-requires invariant-loop decreases-loop
 put_track-at-requires c κs =
-    record { small = (start_of c.before).requires.small; room = omega (arith, room c.before, c.loop.invariant.1.laid.size, (sized c.before).fields-f.ensures.0); accepted = ((next c.before).item, (next c.before).here) }
+    record {
+      small = (start_of c.before).requires.small;
+      room = omega (arith, room c.before, c.loop.invariant.1.laid.size, (sized c.before).fields-f.ensures.0);
+      accepted = ((next c.before).item, (next c.before).here);
+    }
 
 overflow_add-i : tie.Need-overflow_add-i invariant-loop decreases-loop
 overflow_add-i c = omega (arith, room c.before.before.before.before)
@@ -57,7 +61,8 @@ loop-preserved : tie.Need-loop-preserved invariant-loop decreases-loop
 loop-preserved c =
     let l = c.loop in (
       omega (arith, row_next (sized c.before.before.before.before).fields-f.result l.counter),
-      put_more l.invariant.1 (next c.before.before.before.before) (λ u. u.values) c.loop-test.true (joined_more _ _) (omega (arith, room c.before.before.before.before, long c.before.before.before.before)) (omega (arith, long c.before.before.before.before)) c.put_track-at.ensures,
+      put_more l.invariant.1 (next c.before.before.before.before) (λ u. u.values) c.loop-test.true (joined_more _ _)
+          (omega (arith, room c.before.before.before.before, long c.before.before.before.before)) (omega (arith, long c.before.before.before.before)) c.put_track-at.ensures,
     )
 
 shape_of-values : tie.Need-shape_of-values invariant-loop decreases-loop

@@ -100,7 +100,8 @@ returns-else-offsets-count c =
     let s = start_of (checked f.before) in
     let a = list_known f.before in
     let answer = sym t.in-Read.is ∙ (checked f.before).check_offsets-c.ensures.0 ∙ ap read_answer a.accepted in
-    all_three s (answered a.held) (placed_fits _ _ _ a.accepted (omega (arith, needed f, (asked (stored c)).if-values-count.false)) (omega (arith, a.count, (asked (stored c)).if-offsets-count.false))) answer
+    all_three s (answered a.held)
+    (placed_fits _ _ _ a.accepted (omega (arith, needed f, (asked (stored c)).if-values-count.false)) (omega (arith, a.count, (asked (stored c)).if-offsets-count.false))) answer
     ((stored c).put_tracks.ensures _ (known_tracks a)).1
     (c.copy_offsets.ensures ∙ ap (over s.args.offsets.now 0) (known_front a _ _ (checked f.before).check_offsets-c.ensures.1))
 

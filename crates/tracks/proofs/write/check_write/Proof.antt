@@ -149,5 +149,6 @@ returns c = ap WrittenList.Length (whole c.before) ∙ sym (ap write_answer (met
 pub check_write_spec : {M : Type 1} → statement M
 check_write_spec =
     tie.close
-    (tie.spec (λ c κs. search rules) returns-then-not-count_met (λ c κs. search rules) returns-then-not-dimension_met fields-requires (λ c. omega (arith, small c)) returns-then-v-n (λ c κs. search rules)
+    (tie.spec (λ c κs. search rules) returns-then-not-count_met (λ c κs. search rules) returns-then-not-dimension_met fields-requires (λ c. omega (arith, small c)) returns-then-v-n
+    (λ c κs. search rules)
     returns-then-not-all_finite map_bytes-requires overflow_mul-length overflow_add-length stored_length-requires overflow_add-length-2 returns-then-room-length returns)

@@ -34,7 +34,8 @@ abbrev bits_of : tie.After-bits_at invariant-loop-k decreases-loop-k → List �
 bits_of c = patterns (start_of c).args.v.now
 
 -- the bytes so far and the next field's, and that they fit
-next : (c : tie.After-bits_at invariant-loop-k decreases-loop-k) → let k = (turn c).loop-k.k in stored_bytes (take (k + 1) (bits_of c)) ≡ stored_bytes (take k (bits_of c)) ++ field_bytes c.bits_at.result
+next : (c : tie.After-bits_at invariant-loop-k decreases-loop-k)
+    → let k = (turn c).loop-k.k in stored_bytes (take (k + 1) (bits_of c)) ≡ stored_bytes (take k (bits_of c)) ++ field_bytes c.bits_at.result
 next c =
     let k = (turn c).loop-k.k in
     stored_more (bits_of c) k (omega (arith, length-patterns (start_of c).args.v.now)) ∙ ap (λ (b : ℕ). stored_bytes (take k (bits_of c)) ++ field_bytes b) (sym c.bits_at.ensures)

@@ -37,7 +37,8 @@ returns : tie.Need-returns
 unfolding record_of
 returns c =
     let w = c.write_fields.ensures in
-    laid_all (laid_more (mapped c.before.before.before.before.before.before) (stored_bytes (track_of_lem c.before.before.before.before.before.before).values) refl (start_of c.before.before.before.before.before.before).requires.1 w.0 w.1) refl
+    laid_all (laid_more (mapped c.before.before.before.before.before.before) (stored_bytes (track_of_lem c.before.before.before.before.before.before).values) refl
+    (start_of c.before.before.before.before.before.before).requires.1 w.0 w.1) refl
 
 pub write_record_spec : {M : Type 1} → statement M
 write_record_spec =
