@@ -3,4 +3,3 @@ pub mod Bytes
 pub mod Ends
 pub mod Walk
 pub mod Parts
-pub mod Reader
