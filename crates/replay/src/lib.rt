@@ -4,6 +4,7 @@
 
 ghost use Rattle.std.specs.Prelude.{◌≡◌, ◌+◌, ◌-◌, ◌*◌, ◌%◌, ◌^◌, ◌≤◌, length, from_bits, take};
 ghost use Rattle.std.specs.Float.{binary64};
+ghost use Rattle.std.specs.Io.KnownBytes.{Consumes};
 ghost use Rattle.kernel.specs.Bytes.{word};
 ghost use Rattle.replay.specs.Replay.{same, all_same, equal_bytes, bytes_at, bytes_after, record_size};
 
@@ -12,7 +13,8 @@ use std::io::Read;
 
 // Reads until the buffer is full, the reader ends or a read fails, and gives how many bytes were read.
 pub fn read_full<R: Read>(reader: &mut R, buffer: &mut [u8]) -> usize
-    ensures { (result ≤ length buffer.new) × (result ≡ length (take result buffer.new)) }
+    ensures prefix { (result ≤ length buffer.new) × (result ≡ length (take result buffer.new)) }
+    ensures bytes { Consumes (R.remaining reader.old) (R.remaining reader.new) (take result buffer.new) }
 {
     let mut done = 0;
     for _ in 0..buffer.len() {

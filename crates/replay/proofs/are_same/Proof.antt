@@ -1,6 +1,6 @@
 -- `are_same` meets its contract: before each turn, what is left of the values decides.
-use Rattle.std.proofs.Common.{◌≡◌, ℕ, ◌+◌, ◌-◌, ◌<◌, ◌≤◌, Bool, true, false, not, ◌&&◌, leb, List, length, get_or, drop, sym, refl, ap, ◌∙◌, le_antisymm, add-one, arith, drop-cons, rules, le-leb}
-use borrow.Author.Tests.{not-true, not-false, lt-leb}
+use Rattle.std.proofs.Common.{◌≡◌, ℕ, ◌+◌, ◌-◌, ◌<◌, ◌≤◌, Bool, true, false, ◌&&◌, leb, List, length, get_or, drop, sym, refl, ap, ◌∙◌, le_antisymm, add-one, arith, drop-cons, rules, le-leb}
+use borrow.Author.Tests.{lt-leb}
 use lib.Ieee.{Float, nan}
 use lib.Seq.{drop-length}
 use Rattle.kernel.specs.Bytes.{word}
