@@ -16,5 +16,5 @@ pub extern "C" fn bench_pair_tracks(
     requires { (m ≤ 32) × (n ≤ 32) × Shape keys.now m n firsts.old seconds.old }
     ensures { (firsts.new ≡ first_partners (from_keys keys.now m n)) × (seconds.new ≡ second_partners (from_keys keys.now m n)) }
 {
-    pair_tracks(keys, m, n, firsts, seconds);
+    pair_tracks(keys, firsts, seconds);
 }

@@ -3,5 +3,5 @@ pub mod Repairs
 pub mod Powers
 pub mod Comparisons
 pub mod Fusions
-pub mod Merges
 pub mod Private
+pub mod Merges

@@ -1,9 +1,11 @@
 // Comparisons of two tracks.
 ghost use Rattle.std.specs.Prelude.{◌≡◌};
-ghost use Rattle.compare.specs.Distance.{comparing, compare_answer};
+ghost use Rattle.compare.specs.Distance.{comparing};
 ghost use Rattle.capi.specs.Comparisons.{kind_and_distance, told_comparison};
 
-use compare::{Compared, Comparison};
+use crate::told::refused;
+use compare::Comparison;
+use kernel::question::Question;
 
 // The kind of a comparison, and its squared distance where it has one, into the two places.
 fn enter_kind(c: Comparison, kind: &mut u32, d2: &mut f64)
@@ -25,15 +27,15 @@ fn enter_kind(c: Comparison, kind: &mut u32, d2: &mut f64)
 }
 
 // The code of an answer, and its comparison into the two places.
-fn enter_comparison(answer: Compared, kind: &mut u32, d2: &mut f64) -> u32
+fn enter_comparison(answer: Result<Comparison, Question>, kind: &mut u32, d2: &mut f64) -> u32
     ensures { (result, (kind.new, d2.new)) ≡ told_comparison answer kind.old d2.old }
 {
     match answer {
-        Compared::Answered(c) => {
+        Ok(c) => {
             enter_kind(c, kind, d2);
             0
         }
-        Compared::Refused(question) => question as u32,
+        Err(question) => refused(question),
     }
 }
 
@@ -51,7 +53,7 @@ pub extern "C" fn pel_compare(
     d2: &mut f64,
 ) -> u32
     ensures { (result, (kind.new, d2.new))
-        ≡ told_comparison (compare_answer (comparing mu.now x.now p_i.now p_j.now n floor gate)) kind.old d2.old }
+        ≡ told_comparison (comparing mu.now x.now p_i.now p_j.now n floor gate) kind.old d2.old }
 {
     enter_comparison(compare::compare(mu, x, p_i, p_j, n, floor, gate), kind, d2)
 }

@@ -1,4 +1,6 @@
 // Eigenpairs.
+#![tactic(auto, using(crate::proofs::Laws::told_answers), unfolding(crate::specs::Told::Tells))]
+
 ghost use Rattle.eigen.specs.Eigen as Eigen;
 ghost use Rattle.capi.specs.Told.{Tells, pairs};
 

@@ -3,22 +3,24 @@ ghost use Rattle.std.specs.Prelude.{◌≡◌};
 ghost use Rattle.fusion.specs.Fusion.{fusing, after_fusing};
 ghost use Rattle.capi.specs.Fusions.{told_fusion};
 
+use crate::told::refused;
 use fusion::Fusion;
+use kernel::question::Question;
 
 // The code of an answer, and whether a track is fused into its place.
-fn enter_fusion(answer: Fusion, fused: &mut u32) -> u32
+fn enter_fusion(answer: Result<Fusion, Question>, fused: &mut u32) -> u32
     ensures { (result, fused.new) ≡ told_fusion answer fused.old }
 {
     match answer {
-        Fusion::Fused => {
+        Ok(Fusion::Fused) => {
             *fused = 1;
             0
         }
-        Fusion::NotFused => {
+        Ok(Fusion::NotFused) => {
             *fused = 0;
             0
         }
-        Fusion::Refused(question) => question as u32,
+        Err(question) => refused(question),
     }
 }
 

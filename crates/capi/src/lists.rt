@@ -5,9 +5,9 @@ ghost use Rattle.tracks.specs.Read as Read;
 ghost use Rattle.tracks.specs.Write as Write;
 ghost use Rattle.tracks.specs.Calls as Calls;
 ghost use Rattle.tracks.specs.Record as Record;
-ghost use Rattle.capi.specs.Told.{told_read, told_written};
+ghost use Rattle.capi.specs.Told.{told, told_read};
 
-use crate::told::{enter_length, enter_read};
+use crate::told::{enter, enter_read};
 use tracks::{read, record, write};
 
 // The tracks' fields of a list into values, and its count and dimension.
@@ -35,10 +35,10 @@ pub extern "C" fn pel_write_list(
     length: &mut usize,
 ) -> u32
     ensures length_after { (result, length.new)
-        ≡ told_written (Calls.write_answer (Write.written count dimension (Calls.patterns values.now) (ListN.length out.old))) length.old }
+        ≡ told (Calls.write_answer (Write.written count dimension (Calls.patterns values.now) (ListN.length out.old))) length.old }
     ensures out_after { out.new ≡ Calls.write_bytes (Write.written count dimension (Calls.patterns values.now) (ListN.length out.old)) out.old }
 {
-    enter_length(write::write_list(count, dimension, values, out), length)
+    enter(write::write_list(count, dimension, values, out), length)
 }
 
 // The record of a list at an offset: the offset, and the record's length, 0 where there is none.

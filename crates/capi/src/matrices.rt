@@ -1,4 +1,6 @@
 // The matrix calls.
+#![tactic(auto, using(crate::proofs::Laws::told_answers), unfolding(crate::specs::Told::Tells))]
+
 ghost use Rattle.std.specs.Prelude.{◌≡◌};
 ghost use Rattle.linalg.specs.Products as Products;
 ghost use Rattle.linalg.specs.Sums as Sums;

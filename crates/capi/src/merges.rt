@@ -5,27 +5,34 @@ ghost use Rattle.merge.specs.Merge as Merge;
 ghost use Rattle.merge_list.specs.MergeList as MergeList;
 ghost use Rattle.capi.specs.Merges.{told_merge, told_merged_list, in_numbers, told_winner};
 
-use merge::winner::WinningPart;
-use merge::{Merged, winner};
+use crate::told::refused;
+use kernel::question::Question;
+use merge::winner::{Part, WinningPart};
+use merge::{Counts, winner};
 use merge_list::MergedList;
 
 // The code of a merge, and its numbers of rows into their places.
-fn enter_counts(answer: Merged, full: &mut usize, half: &mut usize, single: &mut usize) -> u32
+fn enter_counts(
+    answer: Result<Counts, Question>,
+    full: &mut usize,
+    half: &mut usize,
+    single: &mut usize,
+) -> u32
     ensures { (result, (full.new, (half.new, single.new))) ≡ told_merge answer full.old half.old single.old }
 {
     match answer {
-        Merged::Counts(counts) => {
+        Ok(counts) => {
             *full = counts.full;
             *half = counts.half;
             *single = counts.single;
             0
         }
-        Merged::Refused(question) => question as u32,
+        Err(question) => refused(question),
     }
 }
 
-// Merges ours and theirs over their base. The rows go to the front of the slice, and the numbers of those with three, two and
-// one track to their places.
+// Merges ours and theirs over their base. The rows go to the front of the slice, and the numbers of those with three,
+// two and one track to their places.
 #[unsafe(no_mangle)]
 pub extern "C" fn pel_merge(
     base: &[u8],
@@ -54,7 +61,7 @@ pub extern "C" fn pel_merge(
 
 // The code of a merge with its list, and its numbers of rows and the list's length into their places.
 fn enter_merged_list(
-    answer: MergedList,
+    answer: Result<MergedList, Question>,
     full: &mut usize,
     half: &mut usize,
     single: &mut usize,
@@ -64,16 +71,16 @@ fn enter_merged_list(
         ≡ told_merged_list answer full.old half.old single.old length.old }
 {
     match answer {
-        MergedList::Written { counts, length: n } => {
-            *length = n;
-            enter_counts(Merged::Counts(counts), full, half, single)
+        Ok(merged) => {
+            *length = merged.length;
+            enter_counts(Ok(merged.counts), full, half, single)
         }
-        MergedList::Refused(question) => question as u32,
+        Err(question) => refused(question),
     }
 }
 
-// Merges as pel_merge does, and writes the merged list: the rows go to the front of their slice, the list to the front of out, and the
-// numbers of rows and the list's length to their places.
+// Merges as pel_merge does, and writes the merged list: the rows go to the front of their slice, the list to the front
+// of out, and the numbers of rows and the list's length to their places.
 #[unsafe(no_mangle)]
 pub extern "C" fn pel_merge_list(
     base: &[u8],
@@ -109,36 +116,28 @@ pub extern "C" fn pel_merge_list(
 }
 
 // A winner's list, start and length into their places.
-fn enter_winner(w: WinningPart, list: &mut u32, start: &mut usize, length: &mut usize)
-    ensures { (list.new, (start.new, length.new)) ≡ in_numbers w }
+fn enter_winner(winner: Option<WinningPart>, list: &mut u32, start: &mut usize, length: &mut usize)
+    ensures { (list.new, (start.new, length.new)) ≡ in_numbers winner }
 {
-    match w {
-        WinningPart::Nobody => {
-            *list = 0;
-            *start = 0;
-            *length = 0;
-        }
-        WinningPart::Ours {
-            start: s,
-            length: n,
-        } => {
-            *list = 1;
-            *start = s;
-            *length = n;
-        }
-        WinningPart::Theirs {
-            start: s,
-            length: n,
-        } => {
-            *list = 2;
-            *start = s;
-            *length = n;
-        }
-    }
+    let (number, part) = match winner {
+        None => (
+            0,
+            Part {
+                start: 0,
+                length: 0,
+            },
+        ),
+        Some(WinningPart::Ours(part)) => (1, part),
+        Some(WinningPart::Theirs(part)) => (2, part),
+    };
+    *list = number;
+    *start = part.start;
+    *length = part.length;
 }
 
-// The winner of a row of four bytes: its list, 1 for ours and 2 for theirs, and its start and length there. All three are 0
-// where there is none.
+// The winner of a row of four bytes: its list, 1 for ours and 2 for theirs, and its start and length there. All three
+// are 0 where there is none.
+#[tactic(auto, unfolding(crate::specs::Merges::told_winner))]
 #[unsafe(no_mangle)]
 pub extern "C" fn pel_winner(
     ours: &[u8],
@@ -150,11 +149,9 @@ pub extern "C" fn pel_winner(
 )
     ensures { (list.new, (start.new, length.new)) ≡ told_winner ours.now theirs.now row.now }
 {
-    if row.len() != 4 {
-        enter_winner(WinningPart::Nobody, list, start, length);
-        return;
-    }
-    let four = [row[0], row[1], row[2], row[3]];
-    let w = winner::winning(ours, theirs, four);
-    enter_winner(w, list, start, length);
+    let won = match <[u8; 4]>::try_from(row) {
+        Ok(four) => winner::winning(ours, theirs, four),
+        Err(_) => None,
+    };
+    enter_winner(won, list, start, length);
 }

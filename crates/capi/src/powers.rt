@@ -1,12 +1,15 @@
 // Power iteration and conditioning.
+#![tactic(auto, using(crate::proofs::Laws::told_answers, crate::proofs::Conditioned::eigenpair_tells), unfolding(crate::specs::Told::Tells))]
+
 ghost use Rattle.std.specs.Prelude.{◌≡◌};
 ghost use Rattle.power.specs.Power as Power;
 ghost use Rattle.power.specs.Condition as Condition;
 ghost use Rattle.capi.specs.Told.{Tells};
 ghost use Rattle.capi.specs.Powers.{told_damping};
 
-use crate::told::enter;
-use power::{Damped, generic, regularize};
+use crate::told::{enter, refused};
+use kernel::question::Question;
+use power::{TikhonovReport, generic, regularize};
 
 // The eigenvalue of a, n by n, that is greatest in size, into lambda, and its vector into v.
 #[unsafe(no_mangle)]
@@ -50,16 +53,16 @@ pub extern "C" fn pel_condition_number(a: &[f64], n: usize, out: &mut f64) -> u3
 }
 
 // The code of an answer, and its condition numbers into the two places.
-fn enter_damping(answer: Damped, before: &mut f64, after: &mut f64) -> u32
+fn enter_damping(answer: Result<TikhonovReport, Question>, before: &mut f64, after: &mut f64) -> u32
     ensures { (result, (before.new, after.new)) ≡ told_damping answer before.old after.old }
 {
     match answer {
-        Damped::Report(report) => {
+        Ok(report) => {
             *before = report.condition_number_before;
             *after = report.condition_number_after;
             0
         }
-        Damped::Refused(question) => question as u32,
+        Err(question) => refused(question),
     }
 }
 

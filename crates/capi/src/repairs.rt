@@ -3,8 +3,9 @@ ghost use Rattle.std.specs.Prelude.{◌≡◌};
 ghost use Rattle.repair.specs.Repair as Repair;
 ghost use Rattle.capi.specs.Repairs.{mask_bits, told_repair};
 
-use dense::Written;
-use repair::{Repaired, regularize};
+use crate::told::refused;
+use kernel::question::Question;
+use repair::{RegularizationReport, regularize};
 
 // The bits of a mask, that of entry k at bit k.
 fn mask_bits(mask: [bool; 16]) -> u32
@@ -12,6 +13,7 @@ fn mask_bits(mask: [bool; 16]) -> u32
 {
     let mut bits: u32 = 0;
     let mut weight: u32 = 1;
+    // A loop: a fold over the truths and their weights is no plainer.
     for k in 0..16 {
         if mask[k] {
             bits += weight;
@@ -23,7 +25,7 @@ fn mask_bits(mask: [bool; 16]) -> u32
 
 // The code of an answer, and its report into the three places.
 fn enter_report(
-    repaired: Repaired,
+    repaired: Result<RegularizationReport, Question>,
     n_clipped: &mut usize,
     max_clip_magnitude: &mut f64,
     clipped_indices: &mut u32,
@@ -31,17 +33,14 @@ fn enter_report(
     ensures { (result, (n_clipped.new, (max_clip_magnitude.new, clipped_indices.new)))
         ≡ told_repair repaired n_clipped.old max_clip_magnitude.old clipped_indices.old }
 {
-    let answer = repaired.answer;
-    match answer {
-        Written::Done => {
-            let report = repaired.report;
-            let mask = report.clipped_indices;
+    match repaired {
+        Ok(report) => {
             *n_clipped = report.n_clipped;
             *max_clip_magnitude = report.max_clip_magnitude;
-            *clipped_indices = mask_bits(mask);
+            *clipped_indices = mask_bits(report.clipped_indices);
             0
         }
-        Written::Refused(question) => question as u32,
+        Err(question) => refused(question),
     }
 }
 
@@ -86,10 +85,13 @@ pub extern "C" fn pel_eigenvalue_floor(
         n_clipped.old max_clip_magnitude.old clipped_indices.old }
     ensures out_after { out.new ≡ (Repair.after_repair (Repair.nearest_psd cov.now min_eig n out.old) out.old).1 }
 {
-    if n == 1 {
-        let single = regularize::eigenvalue_floor(cov, min_eig, n, out);
-        return enter_report(single, n_clipped, max_clip_magnitude, clipped_indices);
-    }
-    let repaired = regularize::eigenvalue_floor(cov, min_eig, n, out);
-    enter_report(repaired, n_clipped, max_clip_magnitude, clipped_indices)
+    pel_nearest_psd(
+        cov,
+        min_eig,
+        n,
+        out,
+        n_clipped,
+        max_clip_magnitude,
+        clipped_indices,
+    )
 }

@@ -1,4 +1,6 @@
 // The calls that pivot.
+#![tactic(auto, using(crate::proofs::Laws::told_answers), unfolding(crate::specs::Told::Tells))]
+
 ghost use Rattle.std.specs.Prelude.{◌≡◌};
 ghost use Rattle.pivoting.specs.Pivot as Pivot;
 ghost use Rattle.pivoting.specs.Solve as Solve;

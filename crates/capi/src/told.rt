@@ -1,61 +1,56 @@
 // A call's answer as C is told it: 0 for answered, or the number of the question that is not met.
 ghost use Rattle.std.specs.Prelude.{◌≡◌};
-ghost use Rattle.capi.specs.Private.{code, outcome_of};
-ghost use Rattle.capi.specs.Told.{told, told_read, told_written};
+ghost use Rattle.kernel.specs.Question.{question_number};
+ghost use Rattle.capi.specs.Told.{told, told_read};
+ghost use Rattle.capi.specs.Private.{code};
 
-use dense::{Number, Written};
-use tracks::read::ReadList;
-use tracks::write::WrittenList;
+use kernel::question::Question;
+use tracks::read::ListSize;
+
+// The code of a question.
+pub(crate) fn refused(question: Question) -> u32
+    ensures { result ≡ question_number question }
+{
+    u32::from(question.number())
+}
 
 // The code of an answer whose result has been written.
-pub(crate) fn code(answer: Written) -> u32
+pub(crate) fn code(answer: Result<(), Question>) -> u32
     ensures { result ≡ code answer }
 {
     match answer {
-        Written::Done => 0,
-        Written::Refused(question) => question as u32,
+        Ok(()) => 0,
+        Err(question) => refused(question),
     }
 }
 
-// The code of an answer, and its number into out.
-pub(crate) fn enter(answer: Number, out: &mut f64) -> u32
-    ensures { (result, out.new) ≡ told (outcome_of answer) out.old }
+// The code of an answer, and what it gives into its place.
+pub(crate) fn enter<T: Copy>(answer: Result<T, Question>, place: &mut T) -> u32
+    ensures { (result, place.new) ≡ told answer place.old }
 {
     match answer {
-        Number::Value(x) => {
-            *out = x;
+        Ok(given) => {
+            *place = given;
             0
         }
-        Number::Refused(question) => question as u32,
+        Err(question) => refused(question),
     }
 }
 
 // The code of an answer, and its count and dimension into their places.
-pub(crate) fn enter_read(answer: ReadList, count: &mut usize, dimension: &mut usize) -> u32
+pub(crate) fn enter_read(
+    answer: Result<ListSize, Question>,
+    count: &mut usize,
+    dimension: &mut usize,
+) -> u32
     ensures { (result, (count.new, dimension.new)) ≡ told_read answer count.old dimension.old }
 {
     match answer {
-        ReadList::Read {
-            count: n,
-            dimension: d,
-        } => {
-            *count = n;
-            *dimension = d;
+        Ok(size) => {
+            *count = size.count;
+            *dimension = size.dimension;
             0
         }
-        ReadList::Refused(question) => question as u32,
-    }
-}
-
-// The code of an answer, and its length into its place.
-pub(crate) fn enter_length(answer: WrittenList, length: &mut usize) -> u32
-    ensures { (result, length.new) ≡ told_written answer length.old }
-{
-    match answer {
-        WrittenList::Length(n) => {
-            *length = n;
-            0
-        }
-        WrittenList::Refused(question) => question as u32,
+        Err(question) => refused(question),
     }
 }

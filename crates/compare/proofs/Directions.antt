@@ -9,7 +9,7 @@ use mathlib.Core.Path.{◌≡◌, refl, ap, ◌∙◌}
 use lib.Dec.{T}
 use lib.Ieee.{Float, binary64, fits, of_bits}
 use lib.Ieee.Fits.{add-fits, mul-fits}
-use Rattle.kernel.specs.Answer.{Outcome, refused, answered, ask, and_then, through}
+use Rattle.kernel.specs.Answer.{Outcome, ask, and_then, through}
 use Rattle.kernel.specs.Constants.{nought}
 use Rattle.kernel.specs.Number.{add, sub, mul}
 use Rattle.dense.specs.Matrix.{sum_from, sum_rows_from, nth, at, is_side, has_length}
@@ -23,6 +23,8 @@ use Rattle.compare.specs.Distance.{joint_repair, squared_distance, comparison_of
 use Rattle.compare.proofs.Joint.{repair-symmetric}
 use Rattle.kernel.proofs.Doubles.Opposite.{Opposite, EqualOrZero, sub_opposite, opposite_product}
 use Rattle.kernel.proofs.Doubles.SumsFromZero.{minus_zero, add-either, add_signed}
+use Rattle.std.specs.Prelude.{Ok, Err}
+use Rattle.kernel.specs.declared.question.Question.TheVariants as question
 
 -- ---- sums
 
@@ -65,12 +67,12 @@ quadratic_turned d e a n h =
 -- ---- distances
 
 through_same : {A B : Type 0} (f g : A → B) → ((v : A) → f v ≡ g v) → (o : Outcome A) → through f o ≡ through g o
-through_same f g h (refused k) = refl
-through_same f g h (answered v) = ap answered (h v)
+through_same f g h (Err k) = refl
+through_same f g h (Ok v) = ap Ok (h v)
 
 and_then-same : {A B : Type 0} (f g : A → Outcome B) → ((v : A) → f v ≡ g v) → (o : Outcome A) → and_then o f ≡ and_then o g
-and_then-same f g h (refused k) = refl
-and_then-same f g h (answered v) = h v
+and_then-same f g h (Err k) = refl
+and_then-same f g h (Ok v) = h v
 
 module _ (x mu : List Float) (n : ℕ) where
   turned : (i : ℕ) → i < n → Opposite (nth (difference x mu n) i) (nth (difference mu x n) i)
@@ -98,9 +100,10 @@ module _ (mu x p q : List Float) (n : ℕ) (floor gate : Float) where
   pub comparing-turned : comparing mu x p q n floor gate ≡ comparing x mu q p n floor gate
   unfolding comparing
   comparing-turned =
-      ap (λ (b : Bool). ask 1 (is_side n) (ask 2 b (ask 18 (floor_and_gate floor gate) (answered (compared mu x p q n floor gate)))))
+      ap (λ (b : Bool). ask question.Side (is_side n) (ask question.Length b (ask question.FloorAndGate (floor_and_gate floor gate) (Ok (compared mu x p q n floor gate)))))
       (and_exchanged (has_length mu n) (has_length x n) (has_length p (n * n) && has_length q (n * n))
       ∙ ap (λ (b : Bool). has_length x n && (has_length mu n && b)) (and_comm (has_length p (n * n)) (has_length q (n * n))))
       ∙ ap
-      (λ (c : Comparison). ask 1 (is_side n) (ask 2 (has_length x n && (has_length mu n && (has_length q (n * n) && has_length p (n * n)))) (ask 18 (floor_and_gate floor gate) (answered c))))
+      (λ (c : Comparison). ask question.Side (is_side n)
+      (ask question.Length (has_length x n && (has_length mu n && (has_length q (n * n) && has_length p (n * n)))) (ask question.FloorAndGate (floor_and_gate floor gate) (Ok c))))
       compared-turned

@@ -1,4 +1,4 @@
--- `joint-sums`: the sums of the entries of two matrices, one after the other, are their joint covariance. `joint-symmetric`: it is the same,
+-- `joint_sums`: the sums of the entries of two matrices, one after the other, are their joint covariance. `joint-symmetric`: it is the same,
 -- bit for bit, whichever track comes first, and so is its repair, `repair-symmetric`.
 use Prim.Native.Nat.{ℕ, ◌*◌}
 use mathlib.Core.List.{List}
@@ -8,14 +8,14 @@ use Rattle.kernel.specs.Lists.{tabulate}
 use Rattle.kernel.specs.Number.{add}
 use Rattle.kernel.proofs.Lists.{length-tabulate}
 use Rattle.dense.specs.Matrix.{nth, at}
-use Rattle.dense.proofs.Laws.{cell, nth-tabulate, matrix-by-entries, matrix_ext}
+use Rattle.dense.proofs.Laws.{cell, nth-tabulate, matrix_by_entries, matrix_ext}
 use Rattle.kernel.proofs.Doubles.Commute.{add_float_comm}
 use Rattle.repair.specs.Repair.{repair}
 use Rattle.compare.specs.Distance.{joint_covariance, joint_repair}
 
-pub joint-sums : (p q : List Float) (n : ℕ) → tabulate (n * n) (λ k. add (nth p k) (nth q k)) ≡ joint_covariance p q n
+pub joint_sums : (p q : List Float) (n : ℕ) → tabulate (n * n) (λ k. add (nth p k) (nth q k)) ≡ joint_covariance p q n
 unfolding joint_covariance
-joint-sums p q n = matrix-by-entries n n _ _ (length-tabulate (n * n) _) (λ i j h k. nth-tabulate (n * n) _ _ (cell n n h k))
+joint_sums p q n = matrix_by_entries n n _ _ (length-tabulate (n * n) _) (λ i j h k. nth-tabulate (n * n) _ _ (cell n n h k))
 
 pub joint-symmetric : (p q : List Float) (n : ℕ) → joint_covariance p q n ≡ joint_covariance q p n
 unfolding joint_covariance

@@ -2,7 +2,7 @@
 use Rattle.std.specs.Prelude.{ℕ, ◌*◌, Bool, not, cond, ◌&&◌, List, Float}
 use Rattle.std.specs.Float.Ieee.{lt, le}
 use Rattle.kernel.specs.Number.{add, finite}
-use Rattle.kernel.specs.Answer.{Outcome, refused, answered, ask, and_then}
+use Rattle.kernel.specs.Answer.{Outcome, ask, and_then}
 use Rattle.kernel.specs.Constants.{nought}
 use Rattle.dense.specs.Matrix.{at, matrix, is_side, has_length}
 use Rattle.pivoting.specs.Solve.{distance}
@@ -10,8 +10,8 @@ use Rattle.repair.specs.Repair.{Repair, repair, repair_answer}
 use Rattle.compare.specs.declared.Comparison.{Comparison}
 use Rattle.compare.specs.declared.Comparison.TheVariants.{Near, Far, NoDistance}
 use Rattle.compare.specs.declared.ComparisonReport.{ComparisonReport}
-use Rattle.compare.specs.declared.Compared.{Compared}
-use Rattle.compare.specs.declared.Compared.TheVariants as answer
+use Rattle.std.specs.Prelude.{Ok, Err}
+use Rattle.kernel.specs.declared.question.Question.TheVariants as question
 
 -- p_i + p_j, entry by entry
 unfoldable pub joint_covariance : List Float → List Float → ℕ → List Float
@@ -34,8 +34,8 @@ by_gate d2 gate = cond (finite d2 && not (lt d2 nought)) (cond (le d2 gate) (Nea
 
 -- The same of an outcome: what is refused has no distance.
 abbrev pub comparison_of : Outcome Float → Float → Comparison
-comparison_of (refused q) gate = NoDistance
-comparison_of (answered d2) gate = by_gate d2 gate
+comparison_of (Err q) gate = NoDistance
+comparison_of (Ok d2) gate = by_gate d2 gate
 
 -- The comparison of two tracks.
 unfoldable pub compared : List Float → List Float → List Float → List Float → ℕ → Float → Float → Comparison
@@ -55,12 +55,7 @@ floor_and_gate floor gate = finite floor && (lt nought floor && (finite gate && 
 unfoldable pub comparing : List Float → List Float → List Float → List Float → ℕ → Float → Float → Outcome Comparison
 unfolding compared is_side has_length floor_and_gate
 comparing mu x p-i p-j n floor gate =
-    ask 1 (is_side n)
-    (ask 2 (has_length mu n && (has_length x n && (has_length p-i (n * n) && has_length p-j (n * n))))
-    (ask 18 (floor_and_gate floor gate)
-    (answered (compared mu x p-i p-j n floor gate))))
-
--- What the call answers.
-abbrev pub compare_answer : Outcome Comparison → Compared
-compare_answer (refused q) = answer.Refused q
-compare_answer (answered c) = answer.Answered c
+    ask question.Side (is_side n)
+    (ask question.Length (has_length mu n && (has_length x n && (has_length p-i (n * n) && has_length p-j (n * n))))
+    (ask question.FloorAndGate (floor_and_gate floor gate)
+    (Ok (compared mu x p-i p-j n floor gate))))

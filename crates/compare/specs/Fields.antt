@@ -1,8 +1,10 @@
 -- The state and the covariance of a track, from its fields in the order of the list record.
 use Rattle.std.specs.Prelude.{ℕ, ◌+◌, ◌*◌, ◌/◌, cond, ◌&&◌, List, leb, length, take, Float}
-use Rattle.kernel.specs.Answer.{Outcome, answered, ask}
+use Rattle.kernel.specs.Answer.{Outcome, ask}
 use Rattle.tracks.specs.Layout.{fields}
 use Rattle.dense.specs.Matrix.{nth, matrix, is_side, has_length}
+use Rattle.std.specs.Prelude.{Ok}
+use Rattle.kernel.specs.declared.question.Question.TheVariants as question
 
 -- the d values of the state
 abbrev pub track_state : ℕ → List Float → List Float
@@ -25,6 +27,6 @@ track_covariance d v = matrix d d (covariance_entry d v)
 unfoldable pub whole_covariance : List Float → ℕ → List Float → Outcome (List Float)
 unfolding track_covariance is_side has_length fields
 whole_covariance v d out =
-    ask 1 (is_side d)
-    (ask 2 (leb (fields d) (length v) && has_length out (d * d))
-    (answered (track_covariance d v)))
+    ask question.Side (is_side d)
+    (ask question.Length (leb (fields d) (length v) && has_length out (d * d))
+    (Ok (track_covariance d v)))

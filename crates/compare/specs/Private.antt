@@ -1,10 +1,9 @@
 -- What the functions for our own crates, and the private ones, ask of two tracks, of a track's fields and of the slices that they write. No definition of a call needs these.
-use Rattle.std.specs.Prelude.{ℕ, ◌*◌, ◌<◌, ◌≤◌, true, List, ◌≡◌, Float, length}
-use Rattle.kernel.specs.Answer.{Outcome, refused}
+use Rattle.std.specs.Prelude.{ℕ, ◌*◌, ◌≤◌, true, List, ◌≡◌, Float, length}
+use Rattle.kernel.specs.Answer.{Outcome}
 use Rattle.dense.specs.Matrix.{is_side}
-use Rattle.dense.specs.declared.Written.{Written}
-use Rattle.dense.specs.declared.Written.TheVariants as written
 use Rattle.tracks.specs.Layout.{fields}
+use Rattle.std.specs.Prelude.{Ok, Err}
 
 -- two tracks of dimension n: questions 1 and 2 are met
 pub record TwoTracks (mu x p-i p-j : List Float) (n : ℕ) : Type 0 where
@@ -14,23 +13,17 @@ pub record TwoTracks (mu x p-i p-j : List Float) (n : ℕ) : Type 0 where
   pub covariance-i : length p-i ≡ n * n
   pub covariance-j : length p-j ≡ n * n
 
--- what follows a call that wrote: its refusal stays
-abbrev pub after_written : {A : Type 0} → Written → Outcome A → Outcome A
-after_written (written.Refused q) o = refused q
-after_written written.Done o = o
+-- what follows a repair: its refusal stays
+abbrev pub after_repaired : {R A : Type 0} → Outcome R → Outcome A → Outcome A
+after_repaired (Err q) o = Err q
+after_repaired (Ok r) o = o
 
 -- the fields of a track of dimension d stand first in v
 pub record HasFields (d : ℕ) (v : List Float) : Type 0 where
   pub few : d ≤ 16
   pub enough : fields d ≤ length v
 
--- the same with room for row i of the covariance
-pub record RowRoom (d i : ℕ) (v y : List Float) : Type 0 where
-  pub track : HasFields d v
-  pub index : i < d
-  pub room : length y ≡ d
-
--- and with room for the whole of it
+-- the same with room for the covariance
 pub record CovarianceRoom (d : ℕ) (v out : List Float) : Type 0 where
   pub track : HasFields d v
   pub room : length out ≡ d * d

@@ -1,18 +1,17 @@
 // A track's covariance from its fields.
 ghost use Rattle.std.specs.Prelude.{◌≡◌, ◌&&◌, ◌*◌, ◌<◌, ◌≤◌, leb, length};
-ghost use Rattle.kernel.specs.Lists.{tabulate};
 ghost use Rattle.dense.specs.Answer.{Leaves};
 ghost use Rattle.dense.specs.Matrix.{has_length};
 ghost use Rattle.tracks.specs.Layout.{fields};
 ghost use Rattle.compare.specs.Fields.{lower_field, covariance_entry, track_covariance, whole_covariance};
-ghost use Rattle.compare.specs.Private.{HasFields, RowRoom};
+ghost use Rattle.compare.specs.Private.{HasFields};
 
 use crate::inside::track_covariance;
-use dense::Written;
 use dense::shape::{is_matrix, is_side};
-use kernel::question::{LENGTH, SIDE};
+use kernel::question::Question;
 
 // The place of column j of row i of the lower triangle. A row d would start where the fields end.
+#[tactic(auto, using(crate::proofs::Covariance::row_product))]
 fn lower_field(d: usize, i: usize, j: usize) -> usize
     requires { (i ≤ d) × (j ≤ i) × (d ≤ 16) }
     ensures { result ≡ lower_field d i j }
@@ -21,49 +20,37 @@ fn lower_field(d: usize, i: usize, j: usize) -> usize
 }
 
 // Entry (i, j) of the covariance of the track of dimension d whose fields are v.
-fn covariance_entry(v: &[f64], d: usize, i: usize, j: usize) -> f64
+#[tactic(auto, using(crate::proofs::Covariance::field_within))]
+pub(crate) fn covariance_entry(v: &[f64], d: usize, i: usize, j: usize) -> f64
     requires { HasFields d v.now × (i < d) × (j < d) }
     ensures { result ≡ covariance_entry d v.now i j }
 {
     if j <= i {
-        let at = lower_field(d, i, j);
-        return v[at];
-    }
-    let at = lower_field(d, j, i);
-    v[at]
-}
-
-// Writes row i of that covariance.
-pub(crate) fn covariance_row(v: &[f64], d: usize, i: usize, y: &mut [f64])
-    requires { RowRoom d i v.now y.old }
-    ensures { y.new ≡ tabulate d (covariance_entry d v.now i) }
-{
-    for j in 0..d {
-        y[j] = covariance_entry(v, d, i, j);
+        v[lower_field(d, i, j)]
+    } else {
+        v[lower_field(d, j, i)]
     }
 }
 
 // Whether v holds the fields of a track of dimension d, and out is a d by d matrix.
+#[tactic(auto, unfolding(tracks::specs::Layout::fields))]
 fn is_track(v: &[f64], d: usize, out: &[f64]) -> bool
     requires { d ≤ 16 }
     ensures { result ≡ (leb (fields d) (length v.now) && has_length out.now (d * d)) }
 {
-    if v.len() < lower_field(d, d, 0) {
-        return false;
-    }
-    is_matrix(out, d, d)
+    lower_field(d, d, 0) <= v.len() && is_matrix(out, d, d)
 }
 
 // The covariance of the track of dimension d whose fields stand first in v, as a whole matrix, into out.
-pub fn whole_covariance(v: &[f64], d: usize, out: &mut [f64]) -> Written
+pub fn whole_covariance(v: &[f64], d: usize, out: &mut [f64]) -> Result<(), Question>
     ensures { Leaves (whole_covariance v.now d out.old) out.old result out.new }
 {
     if !is_side(d) {
-        return Written::Refused(SIDE);
+        return Err(Question::Side);
     }
     if !is_track(v, d, out) {
-        return Written::Refused(LENGTH);
+        return Err(Question::Length);
     }
     track_covariance(v, d, out);
-    Written::Done
+    Ok(())
 }

@@ -2,7 +2,7 @@
 #![tactic(auto)]
 
 ghost use Rattle.std.specs.Prelude.{◌≡◌};
-ghost use Rattle.compare.specs.Distance.{comparing, compare_answer};
+ghost use Rattle.compare.specs.Distance.{comparing};
 
 pub mod fields;
 mod gate;
@@ -12,11 +12,11 @@ pub mod questions;
 use crate::inside::compare_tracks;
 use crate::questions::{are_tracks, is_floor_and_gate};
 use dense::shape::is_side;
-use kernel::question::{FLOOR_AND_GATE, LENGTH, SIDE};
-use repair::Repaired;
+use kernel::question::Question;
+use repair::RegularizationReport;
 
 // What a comparison answers: the squared distance, near or far by the gate, or that there is none.
-#[derive(Clone, Copy)]
+#[derive(Clone, Copy, Debug)]
 pub enum Comparison {
     Near(f64),
     Far(f64),
@@ -24,20 +24,14 @@ pub enum Comparison {
 }
 
 // A comparison with what its repair answered, for the merge.
-#[derive(Clone, Copy)]
+#[derive(Clone, Copy, Debug)]
 pub struct ComparisonReport {
     pub comparison: Comparison,
-    pub repair: Repaired,
-}
-
-// The answer of the call.
-#[derive(Clone, Copy)]
-pub enum Compared {
-    Answered(Comparison),
-    Refused(u8),
+    pub repair: Result<RegularizationReport, Question>,
 }
 
 // Compares track i, with the state mu and the covariance p_i, with track j, with x and p_j; n is their dimension.
+#[tactic(auto, using(dense::proofs::Tests::area), unfolding(dense::specs::Matrix::has_length, crate::specs::Distance::compared_with_report, crate::specs::Distance::comparing))]
 pub fn compare(
     mu: &[f64],
     x: &[f64],
@@ -46,19 +40,18 @@ pub fn compare(
     n: usize,
     floor: f64,
     gate: f64,
-) -> Compared
-    ensures { result ≡ compare_answer (comparing mu.now x.now p_i.now p_j.now n floor gate) }
+) -> Result<Comparison, Question>
+    ensures { result ≡ comparing mu.now x.now p_i.now p_j.now n floor gate }
 {
     if !is_side(n) {
-        return Compared::Refused(SIDE);
+        return Err(Question::Side);
     }
     if !are_tracks(mu, x, p_i, p_j, n) {
-        return Compared::Refused(LENGTH);
+        return Err(Question::Length);
     }
     if !is_floor_and_gate(floor, gate) {
-        return Compared::Refused(FLOOR_AND_GATE);
+        return Err(Question::FloorAndGate);
     }
     let report = compare_tracks(mu, x, p_i, p_j, n, floor, gate);
-    let comparison = report.comparison;
-    Compared::Answered(comparison)
+    Ok(report.comparison)
 }

@@ -11,27 +11,13 @@ pub(crate) fn are_tracks(mu: &[f64], x: &[f64], p_i: &[f64], p_j: &[f64], n: usi
     requires { n * n ≤ 256 }
     ensures { result ≡ (has_length mu.now n && (has_length x.now n && (has_length p_i.now (n * n) && has_length p_j.now (n * n)))) }
 {
-    if !is_vector(mu, n) {
-        return false;
-    }
-    if !is_vector(x, n) {
-        return false;
-    }
-    are_matrices(p_i, n, n, p_j, n, n)
+    is_vector(mu, n) && is_vector(x, n) && are_matrices(p_i, n, n, p_j, n, n)
 }
 
 // Whether the floor is finite and above 0, and the gate finite and not below it.
+#[tactic(auto, unfolding(crate::specs::Distance::floor_and_gate))]
 pub fn is_floor_and_gate(floor: f64, gate: f64) -> bool
     ensures { result ≡ floor_and_gate floor gate }
 {
-    if !is_finite(floor) {
-        return false;
-    }
-    if !is_finite(gate) {
-        return false;
-    }
-    if !(0.0 <= gate) {
-        return false;
-    }
-    0.0 < floor
+    is_finite(floor) && 0.0 < floor && is_finite(gate) && 0.0 <= gate
 }

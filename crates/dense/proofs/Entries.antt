@@ -8,7 +8,7 @@ use lib.ListN.{length, set}
 use lib.Ieee.{Float}
 use Rattle.kernel.specs.Lists.{tabulate}
 use Rattle.dense.specs.Matrix.{nth}
-use Rattle.dense.proofs.Fill.{Filled}
+use Rattle.dense.proofs.Filled.{Filled}
 use Rattle.dense.proofs.Laws.{filled_none, filled_more, filled_next, filled_all}
 
 -- the entries before i are those of f, and the others are still those of old

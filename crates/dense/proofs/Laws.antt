@@ -1,5 +1,5 @@
 -- Laws of sums, of vectors and matrices made by a rule, and of slices that are filled in order; all over the order. `cell`: where a cell
--- lies. `sum_more`: one term more; `sum_ext`: equal terms. `at-matrix` and `matrix-by-entries`: a matrix and its entries. `filled_none`, `filled_more` and
+-- lies. `sum_more`: one term more; `sum_ext`: equal terms. `at-matrix` and `matrix_by_entries`: a matrix and its entries. `filled_none`, `filled_more` and
 -- `filled_all`, and `rows_none`, `rows_more` and `rows_all`: a slice that is filled entry by entry and row by row.
 use Prim.Native.Nat.{ℕ, zero, suc, ◌+◌, ◌*◌, ◌-◌, ◌/◌, ◌%◌, ◌<◌, ◌≤◌}
 use native.Mathlib.Omega.{arith}
@@ -18,7 +18,7 @@ use Rattle.kernel.specs.Constants.{nought}
 use Rattle.dense.specs.Matrix.{sum_from, nth, at, row_of, matrix}
 use Rattle.kernel.specs.Lists.{tabulate}
 use Rattle.kernel.proofs.Lists.{length-tabulate, get_d_tabulate, by_elements, tabulate_ext}
-use Rattle.dense.proofs.Fill.{Filled, FilledRows}
+use Rattle.dense.proofs.Filled.{Filled, FilledRows}
 
 -- ---- places
 
@@ -84,9 +84,9 @@ matrix_ext zero n f g h = refl
 matrix_ext (suc m) n f g h = rw (matrix_ext m n f g (λ i j k l. h i j (omega arith) l), tabulate_ext n (f m) (g m) (λ j l. h m j (omega arith) l))
 
 -- a list is the matrix of its entries
-pub matrix-by-entries : (m n : ℕ) (f : ℕ → ℕ → Float) (l : List Float) → length l ≡ m * n → ((i j : ℕ) → i < m → j < n → at l n i j ≡ f i j) → l ≡ matrix m n f
-matrix-by-entries m zero f l e h = ext_get_or nan l (matrix m zero f) (e ∙ sym (length-matrix m zero f)) (λ x k. absurd (omega (arith, mul-zero m)))
-matrix-by-entries m (suc n) f l e h =
+pub matrix_by_entries : (m n : ℕ) (f : ℕ → ℕ → Float) (l : List Float) → length l ≡ m * n → ((i j : ℕ) → i < m → j < n → at l n i j ≡ f i j) → l ≡ matrix m n f
+matrix_by_entries m zero f l e h = ext_get_or nan l (matrix m zero f) (e ∙ sym (length-matrix m zero f)) (λ x k. absurd (omega (arith, mul-zero m)))
+matrix_by_entries m (suc n) f l e h =
     ext_get_or nan l (matrix m (suc n) f) (e ∙ sym (length-matrix m (suc n) f)) (λ x k.
     let i : x / suc n < m = (div-lt_iff_lt-mul (zero-lt-suc n)).1 (omega arith) in
     let j : x % suc n < suc n = mod-lt x (zero-lt-suc n) in

@@ -1,6 +1,6 @@
 pub mod Tests
 pub mod Answers
-pub mod Fill
+pub mod Filled
 pub mod Laws
 pub mod Signs
 pub mod Matrices
@@ -8,3 +8,4 @@ pub mod Entries
 pub mod Rows
 pub mod Sums
 pub mod Finite
+pub mod Cells

@@ -13,8 +13,8 @@ use lib.Ieee.{Float, nan}
 use Rattle.kernel.specs.Lists.{tabulate}
 use Rattle.kernel.proofs.Lists.{length-tabulate, row_within}
 use Rattle.dense.specs.Matrix.{nth, at, matrix}
-use Rattle.dense.proofs.Fill.{FilledRows}
-use Rattle.dense.proofs.Laws.{cell, length_part, matrix-by-entries, rows_none, rows_more, rows_all}
+use Rattle.dense.proofs.Filled.{FilledRows}
+use Rattle.dense.proofs.Laws.{cell, length_part, matrix_by_entries, rows_none, rows_more, rows_all}
 
 -- the rows before row i are those of f, and the others are still those of old
 pub record RowByRow (f : ℕ → ℕ → Float) (m n : ℕ) (old : List Float) (i : ℕ) (new : List Float) : Type 0 where
@@ -32,7 +32,7 @@ pub rows_there : {f : ℕ → ℕ → Float} {m n i : ℕ} {l : List Float} → 
 rows_there {f} {m} {n} {i} {l} e h k w = record { turns = h; room = e; rows = record { size = refl; done = done }; rest = refl }
   where
     done : take (i * n) l ≡ matrix i n f
-    done = matrix-by-entries i n f (take (i * n) l) (length-take-le (i * n) l k) (λ a j p q. get_or-take (i * n) l (a * n + j) nan (cell i n p q) ∙ w a j p q)
+    done = matrix_by_entries i n f (take (i * n) l) (length-take-le (i * n) l k) (λ a j p q. get_or-take (i * n) l (a * n + j) nan (cell i n p q) ∙ w a j p q)
 
 -- there is room for row i
 abbrev pub RowFits : {f : ℕ → ℕ → Float} {m n : ℕ} {old : List Float} {i : ℕ} {l : List Float} → RowByRow f m n old i l → Type 0

@@ -1,5 +1,5 @@
 -- |y| against a number without a sign, by tests of y and of -y (`first`, `second`, `third`: the three ways out), and the greatest |entry|, which has
--- no sign (`max_abs-abs`).
+-- no sign (`max_abs_has_no_sign`).
 use Prim.Native.Nat.{ℕ, zero, suc}
 use mathlib.Core.Bool.{Bool, true, false, cond}
 use mathlib.Core.List.{List}
@@ -45,10 +45,10 @@ third f z x y e p q = rw (p, q) at (tested_abs f z x y e)
 
 -- ---- the greatest |entry|
 
-pub max_abs-abs : (a : List Float) (n : ℕ) → abs (max_abs a n) ≡ max_abs a n
+pub max_abs_has_no_sign : (a : List Float) (n : ℕ) → abs (max_abs a n) ≡ max_abs a n
 unfolding max_abs abs of_bits
-max_abs-abs a zero = refl
-max_abs-abs a (suc n) = either (lt (max_abs a n) (abs (nth a n))) (abs-abs (nth a n)) (max_abs-abs a n)
+max_abs_has_no_sign a zero = refl
+max_abs_has_no_sign a (suc n) = either (lt (max_abs a n) (abs (nth a n))) (abs-abs (nth a n)) (max_abs_has_no_sign a n)
   where
     either : (t : Bool) {u v : Float} → abs u ≡ u → abs v ≡ v → abs (cond t u v) ≡ cond t u v
     either true p q = p

@@ -3,36 +3,29 @@ ghost use Rattle.std.specs.Prelude.{◌≡◌, ◌&&◌, ◌+◌, ◌*◌, ◌<�
 ghost use Rattle.dense.specs.Matrix.{is_side, has_length, at, row_of};
 
 // Whether n is a side that a matrix may have.
+#[tactic(auto, unfolding(crate::specs::Matrix::is_side))]
 pub fn is_side(n: usize) -> bool
     ensures { result ≡ is_side n }
 {
-    if n < 1 {
-        return false;
-    }
-    n <= 16
+    1 <= n && n <= 16
 }
 
 // Whether m and n are such sides.
 pub fn are_sides(m: usize, n: usize) -> bool
     ensures { result ≡ (is_side m && is_side n) }
 {
-    if !is_side(m) {
-        return false;
-    }
-    is_side(n)
+    is_side(m) && is_side(n)
 }
 
 // Whether m, k and n are such sides.
 pub fn are_three_sides(m: usize, k: usize, n: usize) -> bool
     ensures { result ≡ (is_side m && (is_side k && is_side n)) }
 {
-    if !is_side(m) {
-        return false;
-    }
-    are_sides(k, n)
+    is_side(m) && are_sides(k, n)
 }
 
 // Whether a is a vector of n entries.
+#[tactic(auto, unfolding(crate::specs::Matrix::has_length))]
 pub fn is_vector(a: &[f64], n: usize) -> bool
     ensures { result ≡ has_length a.now n }
 {
@@ -40,6 +33,7 @@ pub fn is_vector(a: &[f64], n: usize) -> bool
 }
 
 // Whether a is an m by n matrix.
+#[tactic(auto, unfolding(crate::specs::Matrix::has_length))]
 pub fn is_matrix(a: &[f64], m: usize, n: usize) -> bool
     requires { m * n ≤ 256 }
     ensures { result ≡ has_length a.now (m * n) }
@@ -52,10 +46,7 @@ pub fn are_matrices(a: &[f64], m: usize, n: usize, b: &[f64], p: usize, q: usize
     requires { (m * n ≤ 256) × (p * q ≤ 256) }
     ensures { result ≡ (has_length a.now (m * n) && has_length b.now (p * q)) }
 {
-    if !is_matrix(a, m, n) {
-        return false;
-    }
-    is_matrix(b, p, q)
+    is_matrix(a, m, n) && is_matrix(b, p, q)
 }
 
 // Whether a, b and out are m by k, k by n and m by n.
@@ -63,10 +54,7 @@ pub fn are_factors(a: &[f64], b: &[f64], m: usize, k: usize, n: usize, out: &[f6
     requires { (m * k ≤ 256) × (k * n ≤ 256) × (m * n ≤ 256) }
     ensures { result ≡ (has_length a.now (m * k) && (has_length b.now (k * n) && has_length out.now (m * n))) }
 {
-    if !is_matrix(a, m, k) {
-        return false;
-    }
-    are_matrices(b, k, n, out, m, n)
+    is_matrix(a, m, k) && are_matrices(b, k, n, out, m, n)
 }
 
 // Whether x is a vector of n entries, and a an n by n matrix.
@@ -74,10 +62,7 @@ pub fn is_form(x: &[f64], a: &[f64], n: usize) -> bool
     requires { n * n ≤ 256 }
     ensures { result ≡ (has_length x.now n && has_length a.now (n * n)) }
 {
-    if !is_vector(x, n) {
-        return false;
-    }
-    is_matrix(a, n, n)
+    is_vector(x, n) && is_matrix(a, n, n)
 }
 
 // Whether x and y are vectors of n entries, and a is an n by n matrix.
@@ -85,10 +70,7 @@ pub fn is_distance(x: &[f64], y: &[f64], a: &[f64], n: usize) -> bool
     requires { n * n ≤ 256 }
     ensures { result ≡ (has_length x.now n && (has_length y.now n && has_length a.now (n * n))) }
 {
-    if !is_vector(x, n) {
-        return false;
-    }
-    is_form(y, a, n)
+    is_vector(x, n) && is_form(y, a, n)
 }
 
 // Whether a is an n by n matrix, and x and y are vectors of n entries.
@@ -96,13 +78,7 @@ pub fn is_system(a: &[f64], x: &[f64], y: &[f64], n: usize) -> bool
     requires { n * n ≤ 256 }
     ensures { result ≡ (has_length a.now (n * n) && (has_length x.now n && has_length y.now n)) }
 {
-    if !is_matrix(a, n, n) {
-        return false;
-    }
-    if !is_vector(x, n) {
-        return false;
-    }
-    is_vector(y, n)
+    is_matrix(a, n, n) && is_vector(x, n) && is_vector(y, n)
 }
 
 // Entry (i, j) of a, a matrix of n columns.
@@ -122,6 +98,7 @@ pub fn part(a: &[f64], start: usize, n: usize) -> &[f64]
 }
 
 // Row i of a, a matrix of n columns.
+#[tactic(auto, unfolding(crate::specs::Matrix::row_of))]
 pub fn row(a: &[f64], n: usize, i: usize) -> &[f64]
     requires { i * n + n ≤ length a.now }
     ensures { (length result.now ≡ n) × (result.now ≡ row_of a.now n i) }

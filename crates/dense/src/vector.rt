@@ -5,56 +5,39 @@ ghost use Rattle.kernel.specs.Lists.{tabulate};
 ghost use Rattle.kernel.specs.Number.{add, sub, mul, abs, finite};
 ghost use Rattle.dense.specs.Matrix.{nth, dot_product, norm, max_abs, finite_entries};
 
+use crate::fill::combine;
+use crate::sum::sum_from;
 use kernel::number::sqrt;
 
 // Adds s times x to y, entry by entry.
-pub fn add_scaled(s: f64, x: &[f64], n: usize, y: &mut [f64])
-    requires { (length x.now ≡ n) × (length y.old ≡ n) }
-    ensures { y.new ≡ tabulate n (λ j. add (nth y.old j) (mul s (nth x.now j))) }
+pub fn add_scaled(s: f64, x: &[f64], y: &mut [f64])
+    requires { length x.now ≡ length y.old }
+    ensures { y.new ≡ tabulate (length y.old) (λ j. add (nth y.old j) (mul s (nth x.now j))) }
 {
-    for j in 0..n {
-        y[j] = y[j] + s * x[j];
-    }
+    combine(|u, v| u + s * v, x, y);
 }
 
 // Takes s times x from y, entry by entry.
-pub fn subtract_scaled(s: f64, x: &[f64], n: usize, y: &mut [f64])
-    requires { (length x.now ≡ n) × (length y.old ≡ n) }
-    ensures { y.new ≡ tabulate n (λ j. sub (nth y.old j) (mul s (nth x.now j))) }
+pub fn subtract_scaled(s: f64, x: &[f64], y: &mut [f64])
+    requires { length x.now ≡ length y.old }
+    ensures { y.new ≡ tabulate (length y.old) (λ j. sub (nth y.old j) (mul s (nth x.now j))) }
 {
-    for j in 0..n {
-        y[j] = y[j] - s * x[j];
-    }
-}
-
-// Copies x to y.
-pub fn copy(x: &[f64], n: usize, y: &mut [f64])
-    requires { (length x.now ≡ n) × (length y.old ≡ n) }
-    ensures { y.new ≡ x.now }
-{
-    for j in 0..n {
-        y[j] = x[j];
-    }
+    combine(|u, v| u - s * v, x, y);
 }
 
 // The inner product of x and y.
-pub fn dot(x: &[f64], y: &[f64], n: usize) -> f64
-    requires { (length x.now ≡ n) × (length y.now ≡ n) }
-    ensures { result ≡ dot_product x.now y.now n }
+pub fn dot(x: &[f64], y: &[f64]) -> f64
+    requires { length x.now ≡ length y.now }
+    ensures { result ≡ dot_product x.now y.now (length x.now) }
 {
-    let mut s = 0.0;
-    for j in 0..n {
-        s = s + x[j] * y[j];
-    }
-    s
+    sum_from(0.0, x.len(), |j| x[j] * y[j])
 }
 
 // The root of the sum of the squares of x.
-pub fn norm(x: &[f64], n: usize) -> f64
-    requires { length x.now ≡ n }
-    ensures { result ≡ norm x.now n }
+pub fn norm(x: &[f64]) -> f64
+    ensures { result ≡ norm x.now (length x.now) }
 {
-    sqrt(dot(x, x, n))
+    sqrt(dot(x, x))
 }
 
 // x, which has no sign, or |y| where that is greater: both tests seldom hold, where the sign of y is any.
@@ -72,13 +55,13 @@ fn raised(x: f64, y: f64) -> f64
 }
 
 // The greatest absolute value among the entries of x.
-pub fn max_abs(x: &[f64], n: usize) -> f64
-    requires { length x.now ≡ n }
-    ensures { result ≡ max_abs x.now n }
+#[tactic(auto, using(crate::proofs::Signs::max_abs_has_no_sign), unfolding(crate::specs::Matrix::max_abs))]
+pub fn max_abs(x: &[f64]) -> f64
+    ensures { result ≡ max_abs x.now (length x.now) }
 {
     let mut g = 0.0;
-    for j in 0..n {
-        g = raised(g, x[j]);
+    for y in x {
+        g = raised(g, *y);
     }
     g
 }
@@ -87,19 +70,16 @@ pub fn max_abs(x: &[f64], n: usize) -> f64
 pub fn is_finite(x: f64) -> bool
     ensures { result ≡ finite x }
 {
-    if !(x < 1.0 / 0.0) {
-        return false;
-    }
-    -1.0 / 0.0 < x
+    x < f64::INFINITY && f64::NEG_INFINITY < x
 }
 
 // Whether the entries of x are finite.
-pub fn are_finite(x: &[f64], n: usize) -> bool
-    requires { length x.now ≡ n }
-    ensures { result ≡ finite_entries x.now n }
+#[tactic(auto, using(crate::proofs::Finite::finite_more, crate::proofs::Finite::finite_never), unfolding(crate::specs::Matrix::finite_entries))]
+pub fn are_finite(x: &[f64]) -> bool
+    ensures { result ≡ finite_entries x.now (length x.now) }
 {
-    for j in 0..n {
-        if !is_finite(x[j]) {
+    for y in x {
+        if !is_finite(*y) {
             return false;
         }
     }

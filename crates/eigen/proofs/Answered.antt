@@ -8,8 +8,8 @@ use mathlib.Core.List.{List}
 use mathlib.Core.Path.{◌≡◌, refl, sym, ap, ◌∙◌}
 use lib.Dec.{T}
 use lib.Ieee.{Float, lt}
-use Rattle.kernel.specs.Answer.{answered}
 use Rattle.kernel.specs.Lists.{tabulate}
+use Rattle.kernel.specs.Answer.{Outcome}
 use Rattle.kernel.specs.Number.{finite}
 use Rattle.kernel.proofs.Answers.{ask_met, answered_inj}
 use Rattle.kernel.proofs.Doubles.Differences.{finite_number}
@@ -21,6 +21,8 @@ use Rattle.eigen.specs.Eigen.{index_at, order, diagonal, arranged, Eigenpairs, p
 use Rattle.eigen.proofs.Ordering.Orders.{order_below}
 use Rattle.eigen.proofs.Ordering.Sorting.{Descends, order_descends, Once, order_once}
 use Rattle.eigen.proofs.Ordering.Stability.{Numbers, Stable, order_stable}
+use Rattle.std.specs.Prelude.{Ok}
+use Rattle.kernel.specs.declared.question.Question.TheVariants as question
 
 -- the diagonal of the state in which the sweeps end
 abbrev pub eigenvalues : List Float → ℕ → List Float
@@ -31,17 +33,19 @@ unfolding eigenpairs
 eigenpairs-final a n = refl
 
 -- the questions on sides and lengths are met
-pub call-answered : (a : List Float) (n : ℕ) (values vectors : List Float) (r : Eigenpairs) → mat_symmetric_eigen a n values vectors ≡ answered r → eigenpairs a n ≡ answered r
+pub call-answered : (a : List Float) (n : ℕ) (values vectors : List Float) (r : Eigenpairs) → mat_symmetric_eigen a n values vectors ≡ Ok r → eigenpairs a n ≡ Ok r
 unfolding mat_symmetric_eigen
-call-answered a n values vectors r met = (ask_met 2 (has_length a (n * n) && (has_length values n && has_length vectors (n * n))) (eigenpairs a n) (ask_met 1 (is_side n) _ met).1).1
+call-answered a n values vectors r met =
+    (ask_met question.Length (has_length a (n * n) && (has_length values n && has_length vectors (n * n))) (eigenpairs a n)
+    (ask_met question.Side (is_side n) _ met).1).1
 
-module _ (a : List Float) (n : ℕ) (r : Eigenpairs) (met : eigenpairs a n ≡ answered r) where
-  answers : pairs_of n (final a n) ≡ answered r
+module _ (a : List Float) (n : ℕ) (r : Eigenpairs) (met : eigenpairs a n ≡ Ok r) where
+  answers : pairs_of n (final a n) ≡ Ok r
   answers = sym (eigenpairs-final a n) ∙ met
 
-  asked : (finite_entries (eigenvalues a n) n ≡ true) × (answered (arranged (eigenvalues a n) (final a n).vectors n (order (eigenvalues a n) n)) ≡ answered r)
+  asked : (finite_entries (eigenvalues a n) n ≡ true) × ◌≡◌ {A = Outcome Eigenpairs} (Ok (arranged (eigenvalues a n) (final a n).vectors n (order (eigenvalues a n) n))) (Ok r)
   unfolding pairs_of
-  asked = ask_met 4 (finite_entries (eigenvalues a n) n) (answered (arranged (eigenvalues a n) (final a n).vectors n (order (eigenvalues a n) n))) answers
+  asked = ask_met question.FiniteEigenvalues (finite_entries (eigenvalues a n) n) (Ok (arranged (eigenvalues a n) (final a n).vectors n (order (eigenvalues a n) n))) answers
 
   pub eigen_arranged : r ≡ arranged (eigenvalues a n) (final a n).vectors n (order (eigenvalues a n) n)
   eigen_arranged = sym (answered_inj asked.1)

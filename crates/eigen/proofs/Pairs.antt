@@ -5,45 +5,60 @@ use native.Mathlib.Nat.{mul-le-mul_right}
 use native.Mathlib.Decide.{ℕ_discrete}
 use mathlib.Core.Bool.{Bool, true, false}
 use mathlib.Core.List.{List}
+use lib.ListN.{length}
 use mathlib.Core.Path.{◌≡◌, sym, ap, ◌∙◌, subst}
 use borrow.Author.Tests.{ne_eqb}
 use lib.Ieee.{Float}
 use Rattle.kernel.specs.Lists.{tabulate}
+use Rattle.kernel.proofs.Lists.{length-tabulate}
 use Rattle.dense.specs.Matrix.{nth, at, matrix, unit_entry, identity, finite_entries}
-use Rattle.dense.specs.declared.Written.{Written}
-use Rattle.dense.specs.declared.Written.TheVariants.{Done, Refused}
 use Rattle.dense.proofs.Laws.{at-matrix, matrix_ext}
 use Rattle.dense.proofs.Tests.{met, unmet}
 use Rattle.eigen.specs.Eigen.{index_at, order, diagonal, arranged, pairs_of, after_pairs, symmetrized, begun, tolerance, swept, eigenpairs}
 use Rattle.eigen.specs.Rotation.{State}
-use Rattle.eigen.specs.Private.{Below, state_of, final}
-use Rattle.eigen.proofs.Ordering.Orders.{order_below}
+use Rattle.eigen.specs.Private.{Below, Ordering, state_of, final}
+use Rattle.eigen.proofs.Ordering.Orders.{length-order, order_below}
+use Rattle.kernel.specs.Answer.{Outcome}
+use Rattle.std.specs.Prelude.{Ok, Err}
+use Rattle.kernel.specs.declared.question.Question.TheVariants as question
 
-pub sorted_below : (e : List Float) (n : ℕ) {l : List ℕ} → l ≡ order e n → Below n n l
-sorted_below e n p = subst (λ (z : List ℕ). Below n n z) (sym p) (order_below e n)
+pub ordering : (e : List Float) (n : ℕ) {l : List ℕ} → l ≡ order e n → Ordering n l
+ordering e n p = subst (λ (z : List ℕ). Ordering n z) (sym p) (record { size = length-order e n; below = order_below e n })
+
+pub length_diagonal : (m : List Float) (n : ℕ) {e : List Float} → e ≡ diagonal m n → length e ≡ n
+length_diagonal m n p = ap length p ∙ length-tabulate n _
 
 module _ (n : ℕ) (m v values vectors : List Float) where
-  pub pairs-refused : {e : List Float} {b : Bool} → e ≡ diagonal m n → b ≡ finite_entries e n → b ≡ false
-      → ◌≡◌ {A = Written × List Float × List Float} (Refused 4, values, vectors) (after_pairs (pairs_of n (state_of n m v)) values vectors)
+  pub pairs-refused : {e : List Float} {b : Bool} → e ≡ diagonal m n → b ≡ finite_entries e (length e) → b ≡ false
+      → ◌≡◌ {A = Outcome Unit × List Float × List Float} (Err question.FiniteEigenvalues, values, vectors) (after_pairs (pairs_of n (state_of n m v)) values vectors)
   unfolding pairs_of
-  pairs-refused p q t = rw (← p, unmet q t)
+  pairs-refused {e} p q t = let q' : finite_entries e n ≡ false = ap (finite_entries e) (sym (length_diagonal m n p)) ∙ unmet q t in rw (← p, q')
 
   -- the vectors stand as rows
   columns : (l : List ℕ) → Below n n l → matrix n n (λ i k. at v n (index_at l k) i) ≡ matrix n n (λ i k. at (matrix n n (λ a b. at v n b a)) n i (index_at l k))
   unfolding Below
   columns l h = matrix_ext n n _ _ (λ i k a b. sym (at-matrix n n (λ x y. at v n y x) i (index_at l k) a (h k b)))
 
-  pub pairs_made : {e x y : List Float} {l : List ℕ} {b : Bool} → e ≡ diagonal m n → b ≡ finite_entries e n → b ≡ true → l ≡ order e n
-      → x ≡ tabulate n (λ k. nth e (index_at l k)) → y ≡ matrix n n (λ i k. at v n (index_at l k) i)
-      → ◌≡◌ {A = Written × List Float × List Float} (Done, x, y) (after_pairs (pairs_of n (state_of n m v)) values vectors)
+  pub pairs_made : {e x y : List Float} {l : List ℕ} {b : Bool} → e ≡ diagonal m n → b ≡ finite_entries e (length e) → b ≡ true → l ≡ order e (length e)
+      → x ≡ tabulate (length e) (λ k. nth e (index_at l k)) → y ≡ matrix n n (λ i k. at v n (index_at l k) i)
+      → ◌≡◌ {A = Outcome Unit × List Float × List Float} (Ok tt, x, y) (after_pairs (pairs_of n (state_of n m v)) values vectors)
   unfolding pairs_of arranged
-  pairs_made {e} {x} {y} {l} p q t o f g = rw (← p, met q t, ← o, f, g ∙ columns l (sorted_below e n o))
+  pairs_made {e} {x} {y} {l} p q t o f g =
+      let long = length_diagonal m n p in
+      let o' : l ≡ order e n = o ∙ ap (order e) long in
+      let q' : finite_entries e n ≡ true = ap (finite_entries e) (sym long) ∙ met q t in
+      let f' : x ≡ tabulate n (λ k. nth e (index_at l k)) = f ∙ ap (λ (k : ℕ). tabulate k (λ i. nth e (index_at l i))) long in
+      rw (← p, q', ← o', f', g ∙ columns l (ordering e n o').below)
 
 -- ---- from the start
 
 -- a matrix of an order up to 4 has at most 16 entries
 pub small_size : (n : ℕ) → n ≤ 4 → n * n ≤ 16
 small_size n h = omega (arith, mul-le-mul_right n h)
+
+-- and one of an order up to 16 at most 256
+pub full_size : (n : ℕ) → n ≤ 16 → n * n ≤ 256
+full_size n h = omega (arith, mul-le-mul_right n h)
 
 -- the unit vectors are the same as rows and as columns
 unit-rows : (n : ℕ) → matrix n n (λ i j. at (identity n) n j i) ≡ identity n
@@ -59,7 +74,7 @@ module _ (a : List Float) (n : ℕ) where
   unfolding begun
   swept-from em ev et es = es ∙ rw (et, em, ev, unit-rows n)
 
-  pub answered-by : {s : State} (values vectors : List Float) {r : Written × List Float × List Float} → s ≡ final a n → r ≡ after_pairs (pairs_of n s) values vectors
+  pub answered-by : {s : State} (values vectors : List Float) {r : Outcome Unit × List Float × List Float} → s ≡ final a n → r ≡ after_pairs (pairs_of n s) values vectors
       → r ≡ after_pairs (eigenpairs a n) values vectors
   unfolding eigenpairs
   answered-by values vectors es er = er ∙ ap (λ (z : State). after_pairs (pairs_of n z) values vectors) es

@@ -3,14 +3,14 @@ use Rattle.std.specs.Prelude.{ℕ, zero, suc, ◌+◌, ◌*◌, ◌-◌, min, ma
 use Rattle.std.specs.Float.Ieee.{lt}
 use Rattle.kernel.specs.Number as number
 use Rattle.kernel.specs.Number.{add, mul}
-use Rattle.kernel.specs.Answer.{Outcome, refused, answered, ask}
+use Rattle.kernel.specs.Answer.{Outcome, ask}
 use Rattle.kernel.specs.Constants.{nought, half, rel_tol, min_positive}
 use Rattle.kernel.specs.First.{first_below}
 use Rattle.kernel.specs.Lists.{tabulate}
 use Rattle.dense.specs.Matrix.{total, sum_from, nth, at, matrix, identity, is_side, has_length, finite_entries}
-use Rattle.dense.specs.declared.Written.{Written}
-use Rattle.dense.specs.declared.Written.TheVariants as written
 use Rattle.eigen.specs.Rotation.{State, state, rotated}
+use Rattle.std.specs.Prelude.{Ok, Err}
+use Rattle.kernel.specs.declared.question.Question.TheVariants as question
 
 -- ---- the start
 
@@ -120,7 +120,7 @@ unfoldable pub pairs_of : ℕ → State → Outcome Eigenpairs
 unfolding arranged order finite_entries
 pairs_of n s =
     let e = diagonal s.entries n in
-    ask 4 (finite_entries e n) (answered (arranged e s.vectors n (order e n)))
+    ask question.FiniteEigenvalues (finite_entries e n) (Ok (arranged e s.vectors n (order e n)))
 
 -- the eigenpairs of a, n by n
 unfoldable pub eigenpairs : List Float → ℕ → Outcome Eigenpairs
@@ -131,11 +131,11 @@ eigenpairs a n = let s = begun a n in pairs_of n (swept n (tolerance s.entries n
 unfoldable pub mat_symmetric_eigen : List Float → ℕ → List Float → List Float → Outcome Eigenpairs
 unfolding eigenpairs is_side has_length
 mat_symmetric_eigen a n values vectors =
-    ask 1 (is_side n)
-    (ask 2 (has_length a (n * n) && (has_length values n && has_length vectors (n * n)))
+    ask question.Side (is_side n)
+    (ask question.Length (has_length a (n * n) && (has_length values n && has_length vectors (n * n)))
     (eigenpairs a n))
 
 -- The answer of a call that writes eigenpairs, and what the two slices hold afterwards: a refusal leaves them as they were.
-abbrev pub after_pairs : Outcome Eigenpairs → List Float → List Float → Written × List Float × List Float
-after_pairs (refused k) values vectors = (written.Refused k, values, vectors)
-after_pairs (answered e) values vectors = (written.Done, e.values, e.vectors)
+abbrev pub after_pairs : Outcome Eigenpairs → List Float → List Float → Outcome Unit × List Float × List Float
+after_pairs (Err k) values vectors = (Err k, values, vectors)
+after_pairs (Ok e) values vectors = (Ok tt, e.values, e.vectors)

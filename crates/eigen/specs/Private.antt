@@ -2,7 +2,7 @@
 -- a user reads needs them.
 use Rattle.std.specs.Prelude.{ℕ, ◌*◌, ◌<◌, cond, ◌&&◌, List, [], ◌∷◌, ◌≡◌, eqb, Float, length}
 use Rattle.std.specs.Float.Ieee.{lt}
-use Rattle.kernel.specs.Answer.{Outcome, answered, ask}
+use Rattle.kernel.specs.Answer.{Outcome, ask}
 use Rattle.kernel.specs.Constants.{nought}
 use Rattle.kernel.specs.Number.{add, sub, mul, finite}
 use Rattle.dense.specs.Matrix.{nth, at, matrix}
@@ -10,6 +10,8 @@ use Rattle.eigen.specs.declared.Plane.{Plane}
 use Rattle.eigen.specs.declared.Rotation.{Rotation}
 use Rattle.eigen.specs.Rotation.{State, state, either, turned, Symmetric}
 use Rattle.eigen.specs.Eigen.{Eigenpairs, begun, tolerance, swept, index_at}
+use Rattle.std.specs.Prelude.{Ok}
+use Rattle.kernel.specs.declared.question.Question.TheVariants as question
 
 -- ---- slices
 
@@ -32,13 +34,6 @@ pub record Lent (n : ℕ) (a values vectors : List Float) : Type 0 where
   pub matrix-size : length a ≡ n * n
   pub values-size : length values ≡ n
   pub vectors-size : length vectors ≡ n * n
-
--- room for the work: a matrix m and its vectors v, n by n, the eigenvalues e and their order l
-pub record Work (n : ℕ) (m v e : List Float) (l : List ℕ) : Type 0 where
-  pub matrix-room : length m ≡ n * n
-  pub vectors-room : length v ≡ n * n
-  pub values-room : length e ≡ n
-  pub order-room : length l ≡ n
 
 -- what the sweeps ask of their slices: a symmetric matrix m, n by n, and the vectors v
 pub record Slices (n : ℕ) (m v : List Float) : Type 0 where
@@ -122,4 +117,4 @@ shown_by s = record { values = s.app ∷ s.aqq ∷ []; vectors = s.vpp ∷ s.vpq
 
 -- question 4, and then these
 unfoldable pub plane_pairs : Plane → Outcome Eigenpairs
-plane_pairs s = ask 4 (finite s.app && finite s.aqq) (answered (shown_by s))
+plane_pairs s = ask question.FiniteEigenvalues (finite s.app && finite s.aqq) (Ok (shown_by s))

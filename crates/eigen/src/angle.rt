@@ -8,6 +8,7 @@ use kernel::constants::{FAR_THETA, MIN_POSITIVE, REL_TOL};
 use kernel::number::{abs, max, reciprocal_root, sqrt_near};
 
 // Whether apq is so small beside the diagonal that its pair is skipped.
+#[tactic(auto, unfolding(crate::specs::Rotation::negligible))]
 pub(crate) fn is_negligible(app: f64, apq: f64, aqq: f64) -> bool
     ensures { result ≡ negligible app apq aqq }
 {
@@ -16,6 +17,7 @@ pub(crate) fn is_negligible(app: f64, apq: f64, aqq: f64) -> bool
 }
 
 // The tangent of the angle of theta, whose size is given. An estimate y of one over the root of theta squared and 1 makes it quick.
+#[tactic(auto, unfolding(crate::specs::Rotation::tangent))]
 fn tangent(theta: f64, size: f64, y: f64) -> f64
     requires { size ≡ abs theta }
     ensures { result ≡ tangent theta }
@@ -33,6 +35,7 @@ fn tangent(theta: f64, size: f64, y: f64) -> f64
 
 // The rotation that brings apq to 0. The square of the cosine is half of 1 and of |theta| over the root of theta squared and 1, so
 // that the second root is estimated before the first one is known.
+#[tactic(auto, unfolding(crate::specs::Rotation::rotation))]
 pub(crate) fn rotation(app: f64, apq: f64, aqq: f64) -> Rotation
     ensures { result ≡ rotation app apq aqq }
 {

@@ -1,77 +1,74 @@
 // `mat_symmetric_eigen` of linalg/generic.rs.
-ghost use Rattle.std.specs.Prelude.{◌≡◌, ◌≤◌};
+ghost use Rattle.std.specs.Prelude.{◌≡◌, ◌&&◌, ◌*◌, ◌≤◌, length};
+ghost use Rattle.dense.specs.Matrix.{has_length};
 ghost use Rattle.eigen.specs.Eigen.{pairs_of, eigenpairs, mat_symmetric_eigen, after_pairs};
-ghost use Rattle.eigen.specs.Private.{Lent, Work, state_of};
+ghost use Rattle.eigen.specs.Private.{Lent, state_of};
 
 use crate::inside::eigenpairs_in;
 use crate::order::{arrange_values, arrange_vectors, diagonal, sort};
 use crate::planes::plane_eigenpairs;
-use dense::Written;
 use dense::shape::{is_form, is_matrix, is_side};
 use dense::vector::{are_finite, is_finite};
-use kernel::question::{FINITE_EIGENVALUES, LENGTH, SIDE};
+use kernel::question::Question;
 
-// Question 4, and then the eigenpairs that m and the rows of v, n by n, show. The slices e and l are room for the eigenvalues and their order.
+// Question 4, and then the eigenpairs that m and the rows of v, n by n, show.
 pub(crate) fn pairs(
     m: &[f64],
     v: &[f64],
     n: usize,
-    e: &mut [f64],
-    l: &mut [usize],
     values: &mut [f64],
     vectors: &mut [f64],
-) -> Written
-    requires { Work n m.now v.now e.old l.old × Lent n m.now values.old vectors.old }
+) -> Result<(), Question>
+    requires { (n ≤ 16) × (length v.now ≡ n * n) × Lent n m.now values.old vectors.old }
     ensures { (result, values.new, vectors.new) ≡ after_pairs (pairs_of n (state_of n m.now v.now)) values.old vectors.old }
 {
+    let mut values_room = [0.0f64; 16];
+    let mut order_room = [0usize; 16];
+    let e = &mut values_room[..n];
+    let l = &mut order_room[..n];
     diagonal(m, n, e);
-    if !are_finite(e, n) {
-        return Written::Refused(FINITE_EIGENVALUES);
+    if !are_finite(e) {
+        return Err(Question::FiniteEigenvalues);
     }
-    sort(e, n, l);
-    arrange_values(e, l, n, values);
+    sort(e, l);
+    arrange_values(e, l, values);
     arrange_vectors(v, l, n, vectors);
-    Written::Done
+    Ok(())
 }
 
 // The eigenpairs of a matrix of one entry, which no sweep changes: the eigenvalue is the entry, and its vector 1.0.
-fn single_eigenpair(a: &[f64], values: &mut [f64], vectors: &mut [f64]) -> Written
+fn single_eigenpair(a: &[f64], values: &mut [f64], vectors: &mut [f64]) -> Result<(), Question>
     requires { Lent 1 a.now values.old vectors.old }
     ensures { (result, values.new, vectors.new) ≡ after_pairs (eigenpairs a.now 1) values.old vectors.old }
 {
     let x = a[0];
     if !is_finite(x) {
-        return Written::Refused(FINITE_EIGENVALUES);
+        return Err(Question::FiniteEigenvalues);
     }
     values[0] = x;
     vectors[0] = 1.0;
-    Written::Done
+    Ok(())
 }
 
-// The eigenpairs of a, n by n, with room for orders to 4.
-fn small_eigenpairs(a: &[f64], n: usize, values: &mut [f64], vectors: &mut [f64]) -> Written
-    requires { (n ≤ 4) × Lent n a.now values.old vectors.old }
+// The eigenpairs of a, n by n, with room for matrices of SIZE entries.
+fn eigenpairs_within<const SIZE: usize>(
+    a: &[f64],
+    n: usize,
+    values: &mut [f64],
+    vectors: &mut [f64],
+) -> Result<(), Question>
+    requires { (n ≤ 16) × (n * n ≤ SIZE) × (SIZE ≤ 256) × Lent n a.now values.old vectors.old }
     ensures { (result, values.new, vectors.new) ≡ after_pairs (eigenpairs a.now n) values.old vectors.old }
 {
-    let mut m = [0.0f64; 16];
-    let mut v = [0.0f64; 16];
-    let size = n * n;
-    eigenpairs_in(a, n, &mut m[..size], &mut v[..size], values, vectors)
-}
-
-// The same with room for orders to 16.
-fn large_eigenpairs(a: &[f64], n: usize, values: &mut [f64], vectors: &mut [f64]) -> Written
-    requires { (n ≤ 16) × Lent n a.now values.old vectors.old }
-    ensures { (result, values.new, vectors.new) ≡ after_pairs (eigenpairs a.now n) values.old vectors.old }
-{
-    let mut m = [0.0f64; 256];
-    let mut v = [0.0f64; 256];
+    let mut m = [0.0f64; SIZE];
+    let mut v = [0.0f64; SIZE];
     let size = n * n;
     eigenpairs_in(a, n, &mut m[..size], &mut v[..size], values, vectors)
 }
 
 // The eigenpairs of a, n by n, from question 4 on, with the room that the order needs.
-fn eigenpairs(a: &[f64], n: usize, values: &mut [f64], vectors: &mut [f64]) -> Written
+#[tactic(auto, using(crate::proofs::Pairs::small_size, crate::proofs::Pairs::full_size))]
+fn eigenpairs(a: &[f64], n: usize, values: &mut [f64], vectors: &mut [f64]) -> Result<(), Question>
     requires { (n ≤ 16) × Lent n a.now values.old vectors.old }
     ensures { (result, values.new, vectors.new) ≡ after_pairs (eigenpairs a.now n) values.old vectors.old }
 {
@@ -82,24 +79,34 @@ fn eigenpairs(a: &[f64], n: usize, values: &mut [f64], vectors: &mut [f64]) -> W
         return plane_eigenpairs(a, values, vectors);
     }
     if n <= 4 {
-        return small_eigenpairs(a, n, values, vectors);
+        return eigenpairs_within::<16>(a, n, values, vectors);
     }
-    large_eigenpairs(a, n, values, vectors)
+    eigenpairs_within::<256>(a, n, values, vectors)
+}
+
+// Whether a is an n by n matrix, with slices for its eigenvalues and its vectors.
+fn are_lent(a: &[f64], values: &[f64], vectors: &[f64], n: usize) -> bool
+    requires { n * n ≤ 256 }
+    ensures { result ≡ (has_length a.now (n * n) && (has_length values.now n && has_length vectors.now (n * n))) }
+{
+    is_matrix(a, n, n) && is_form(values, vectors, n)
 }
 
 // The eigenvalues of a, n by n, in descending order, into values, and their vectors into the columns of vectors.
-pub fn mat_symmetric_eigen(a: &[f64], n: usize, values: &mut [f64], vectors: &mut [f64]) -> Written
+pub fn mat_symmetric_eigen(
+    a: &[f64],
+    n: usize,
+    values: &mut [f64],
+    vectors: &mut [f64],
+) -> Result<(), Question>
     ensures { (result, values.new, vectors.new)
         ≡ after_pairs (mat_symmetric_eigen a.now n values.old vectors.old) values.old vectors.old }
 {
     if !is_side(n) {
-        return Written::Refused(SIDE);
+        return Err(Question::Side);
     }
-    if !is_matrix(a, n, n) {
-        return Written::Refused(LENGTH);
-    }
-    if !is_form(values, vectors, n) {
-        return Written::Refused(LENGTH);
+    if !are_lent(a, values, vectors, n) {
+        return Err(Question::Length);
     }
     eigenpairs(a, n, values, vectors)
 }

@@ -8,8 +8,8 @@ use crate::generic::pairs;
 use crate::planes::{begin, descend, plane_tolerance, sweep_plane};
 use crate::start::symmetrize;
 use crate::sweep::{sweep_until, tolerance};
-use dense::Written;
 use dense::unit::identity;
+use kernel::question::Question;
 
 // What the sweeps leave of the matrix with the rows w, x and y, z. It shows the eigenpairs, or by an app or aqq that is not finite that
 // question 4 is not met.
@@ -31,16 +31,14 @@ pub fn eigenpairs_in(
     v: &mut [f64],
     values: &mut [f64],
     vectors: &mut [f64],
-) -> Written
+) -> Result<(), Question>
     requires { (n ≤ 16) × (length m.old ≡ n * n) × (length v.old ≡ n * n) × Lent n a.now values.old vectors.old }
     ensures vectors_after { (result, values.new, vectors.new) ≡ after_pairs (eigenpairs a.now n) values.old vectors.old }
     ensures v_after { state_of n m.new v.new ≡ final a.now n }
 {
     symmetrize(a, n, m);
     identity(n, v);
-    let tol = tolerance(m, n, n * n);
+    let tol = tolerance(m);
     sweep_until(m, v, n, tol);
-    let mut e = [0.0f64; 16];
-    let mut l = [0usize; 16];
-    pairs(m, v, n, &mut e[..n], &mut l[..n], values, vectors)
+    pairs(m, v, n, values, vectors)
 }

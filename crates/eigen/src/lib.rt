@@ -10,8 +10,6 @@ mod rotate;
 mod start;
 mod sweep;
 
-pub use dense::Written;
-
 // The angle of a rotation, by its tangent, cosine and sine.
 #[derive(Clone, Copy)]
 pub struct Rotation {

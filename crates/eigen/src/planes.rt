@@ -8,13 +8,13 @@ use crate::angle::{is_negligible, rotation};
 use crate::inside::eigenplane;
 use crate::sweep::SWEEPS;
 use crate::{Plane, Rotation};
-use dense::Written;
 use dense::vector::is_finite;
 use kernel::constants::{MIN_POSITIVE, REL_TOL};
 use kernel::number::max;
-use kernel::question::FINITE_EIGENVALUES;
+use kernel::question::Question;
 
 // The plane of the rows w, x and y, z, made symmetric, with the unit vectors.
+#[tactic(auto, using(crate::proofs::Cases::PlaneSteps::plane_begun))]
 pub(crate) fn begin(w: f64, x: f64, y: f64, z: f64) -> Plane
     ensures { plane_state result ≡ begun (w ∷ x ∷ y ∷ z ∷ []) 2 }
 {
@@ -30,6 +30,7 @@ pub(crate) fn begin(w: f64, x: f64, y: f64, z: f64) -> Plane
 }
 
 // What the square of apq has to fall below.
+#[tactic(auto, using(crate::proofs::Cases::PlaneSteps::plane_tolerance))]
 pub(crate) fn plane_tolerance(s: Plane) -> f64
     ensures { result ≡ tolerance (plane_state s).entries 2 }
 {
@@ -53,6 +54,7 @@ fn turned_plane(s: Plane, g: Rotation) -> Plane
 }
 
 // The plane once its pair is rotated, or skipped.
+#[tactic(auto, using(crate::proofs::Cases::PlaneSteps::plane_rotated))]
 fn turn(s: Plane) -> Plane
     ensures { plane_state result ≡ rotated 2 0 1 (plane_state s) }
 {
@@ -68,6 +70,7 @@ pub(crate) fn sweep_plane(s: Plane, tol: f64) -> Plane
     ensures { plane_state result ≡ swept 2 tol (plane_state s) }
 {
     let mut p = s;
+    // Steps: each goes on from the one before, until it is small enough.
     for k in 0..SWEEPS {
         if 0.0 + p.apq * p.apq < tol {
             return p;
@@ -78,45 +81,44 @@ pub(crate) fn sweep_plane(s: Plane, tol: f64) -> Plane
 }
 
 // The plane with the greater eigenvalue, and its vector, first.
+#[tactic(auto, unfolding(crate::specs::Private::descended))]
 pub(crate) fn descend(s: Plane) -> Plane
     ensures { result ≡ descended s }
 {
     if s.app < s.aqq {
         return Plane {
             app: s.aqq,
-            apq: s.apq,
             aqq: s.app,
             vpp: s.vpq,
             vpq: s.vpp,
             vqp: s.vqq,
             vqq: s.vqp,
+            ..s
         };
     }
     s
 }
 
 // Question 4, and then the eigenpairs that a plane shows.
-fn write_plane(s: Plane, values: &mut [f64], vectors: &mut [f64]) -> Written
+#[tactic(auto, unfolding(crate::specs::Private::plane_pairs))]
+fn write_plane(s: Plane, values: &mut [f64], vectors: &mut [f64]) -> Result<(), Question>
     requires { (length values.old ≡ 2) × (length vectors.old ≡ 4) }
     ensures { (result, values.new, vectors.new) ≡ after_pairs (plane_pairs s) values.old vectors.old }
 {
-    if !is_finite(s.app) {
-        return Written::Refused(FINITE_EIGENVALUES);
+    if !is_finite(s.app) || !is_finite(s.aqq) {
+        return Err(Question::FiniteEigenvalues);
     }
-    if !is_finite(s.aqq) {
-        return Written::Refused(FINITE_EIGENVALUES);
-    }
-    values[0] = s.app;
-    values[1] = s.aqq;
-    vectors[0] = s.vpp;
-    vectors[1] = s.vpq;
-    vectors[2] = s.vqp;
-    vectors[3] = s.vqq;
-    Written::Done
+    values.copy_from_slice(&[s.app, s.aqq]);
+    vectors.copy_from_slice(&[s.vpp, s.vpq, s.vqp, s.vqq]);
+    Ok(())
 }
 
 // Questions 1 and 2 are met: question 4, and then the eigenpairs of a, 2 by 2.
-pub(crate) fn plane_eigenpairs(a: &[f64], values: &mut [f64], vectors: &mut [f64]) -> Written
+pub(crate) fn plane_eigenpairs(
+    a: &[f64],
+    values: &mut [f64],
+    vectors: &mut [f64],
+) -> Result<(), Question>
     requires { Lent 2 a.now values.old vectors.old }
     ensures { (result, values.new, vectors.new) ≡ after_pairs (eigenpairs a.now 2) values.old vectors.old }
 {

@@ -1,12 +1,12 @@
 // Sweeps of rotations, and the test that stops them.
-ghost use Rattle.std.specs.Prelude.{◌≡◌, suc, ◌+◌, ◌*◌, ◌-◌, ◌<◌, length};
+ghost use Rattle.std.specs.Prelude.{ℕ, ◌≡◌, suc, ◌*◌, ◌-◌, ◌<◌, length};
 ghost use Rattle.kernel.specs.Number.{mul};
-ghost use Rattle.dense.specs.Matrix.{at, sum_from};
 ghost use Rattle.eigen.specs.Eigen.{above_rows, tolerance, swept_row, sweep, swept};
 ghost use Rattle.eigen.specs.Private.{Slices, state_of};
 
 use crate::rotate::rotate;
 use dense::shape::entry;
+use dense::sum::sum_from;
 use dense::vector::dot;
 use kernel::constants::{MIN_POSITIVE, REL_TOL};
 use kernel::number::max;
@@ -14,37 +14,33 @@ use kernel::number::max;
 // The most sweeps that are made.
 pub(crate) const SWEEPS: usize = 64;
 
-// Adds the squares of row i of m, n by n, right of the diagonal.
-fn above_row(start: f64, m: &[f64], n: usize, i: usize) -> f64
-    requires { (i < n) × (length m.now ≡ n * n) }
-    ensures { result ≡ sum_from start (n - suc i) (λ d. mul (at m.now n i (suc i + d)) (at m.now n i (suc i + d))) }
+// The square of x.
+fn square(x: f64) -> f64
+    ensures { result ≡ mul x x }
 {
-    let mut s = start;
-    for j in i + 1..n {
-        let x = entry(m, n, i, j);
-        s = s + x * x;
-    }
-    s
+    x * x
 }
 
 // The sum of the squares above the diagonal of m, n by n.
+#[tactic(auto, using(dense::proofs::Laws::cell, crate::proofs::Rotations::Sweeps::above_more), unfolding(crate::specs::Eigen::above_rows))]
 fn above(m: &[f64], n: usize) -> f64
     requires { length m.now ≡ n * n }
     ensures { result ≡ above_rows m.now n n }
 {
     let mut s = 0.0;
+    // The rows right of the diagonal differ in length, so `sum_rows_from` does not fit.
     for i in 0..n {
-        s = above_row(s, m, n, i);
+        s = sum_from(s, n - (i + 1), |d| square(entry(m, n, i, i + 1 + d)));
     }
     s
 }
 
-// What the squares above the diagonal of m, n by n, have to fall below.
-pub(crate) fn tolerance(m: &[f64], n: usize, size: usize) -> f64
-    requires { (size ≡ n * n) × (length m.now ≡ size) }
-    ensures { result ≡ tolerance m.now n }
+// What the squares above the diagonal of m, a square matrix, have to fall below.
+#[tactic(auto, unfolding(crate::specs::Eigen::tolerance))]
+pub(crate) fn tolerance(m: &[f64]) -> f64
+    ensures { (n : ℕ) → length m.now ≡ n * n → result ≡ tolerance m.now n }
 {
-    REL_TOL * REL_TOL * max(dot(m, m, size), MIN_POSITIVE)
+    REL_TOL * REL_TOL * max(dot(m, m), MIN_POSITIVE)
 }
 
 // Rotates the pairs of row p.
@@ -52,6 +48,7 @@ fn sweep_row(m: &mut [f64], v: &mut [f64], n: usize, p: usize)
     requires { (p < n) × Slices n m.old v.old }
     ensures { state_of n m.new v.new ≡ swept_row n p (state_of n m.old v.old) (n - suc p) }
 {
+    // Steps: each rotation goes on from the one before.
     for q in p + 1..n {
         rotate(m, v, n, p, q);
     }
@@ -62,6 +59,7 @@ fn sweep(m: &mut [f64], v: &mut [f64], n: usize)
     requires { Slices n m.old v.old }
     ensures { state_of n m.new v.new ≡ sweep n (state_of n m.old v.old) }
 {
+    // Steps, row by row.
     for p in 0..n {
         sweep_row(m, v, n, p);
     }
@@ -72,6 +70,7 @@ pub(crate) fn sweep_until(m: &mut [f64], v: &mut [f64], n: usize, tol: f64)
     requires { Slices n m.old v.old }
     ensures { state_of n m.new v.new ≡ swept n tol (state_of n m.old v.old) }
 {
+    // Steps: each sweep goes on from the one before, until it is small enough.
     for k in 0..SWEEPS {
         if above(m, n) < tol {
             return;

@@ -1,9 +1,10 @@
--- Ours and theirs have the same part in a fusion. `fused-exchanged`: exchanged, they fuse to the same track. `fusing-exchanged`: and the call answers the same.
+-- Ours and theirs have the same part in a fusion. `fused-exchanged`: exchanged, they fuse to the same track.
+-- `fusing-exchanged`: and the call answers the same.
 use Prim.Native.Nat.{ℕ, ◌*◌}
 use mathlib.Core.List.{List}
 use mathlib.Core.Path.{◌≡◌, refl, ap}
 use lib.Ieee.{Float}
-use Rattle.kernel.specs.Answer.{Outcome, refused, answered}
+use Rattle.kernel.specs.Answer.{Outcome}
 use Rattle.kernel.specs.Number.{sub}
 use Rattle.kernel.proofs.Doubles.Commute.{add_float_comm}
 use Rattle.kernel.proofs.Lists.{tabulate_ext}
@@ -12,6 +13,7 @@ use Rattle.dense.proofs.Tests.{and_exchanged}
 use Rattle.tracks.specs.Layout.{fields}
 use Rattle.fusion.specs.Fusion.{Information, information_of, gained, joint, estimate_from, if_finite, step, fused, fusing, after_fusing}
 use Rattle.fusion.proofs.Calls.{informed}
+use Rattle.std.specs.Prelude.{Ok, Err}
 
 gained-exchanged : (n : ℕ) (o t b : List Float) → gained n o t b ≡ gained n t o b
 unfolding gained
@@ -25,11 +27,11 @@ module _ (d : ℕ) (floor : Float) where
   exchanged : (o t b : Outcome Information)
       → step o (λ i. step t (λ j. step b (λ l. step (estimate_from d floor (joint d i j l)) (if_finite d))))
       ≡ step t (λ i. step o (λ j. step b (λ l. step (estimate_from d floor (joint d i j l)) (if_finite d))))
-  exchanged (refused p) (refused q) b = refl
-  exchanged (refused p) (answered j) b = refl
-  exchanged (answered i) (refused q) b = refl
-  exchanged (answered i) (answered j) (refused q) = refl
-  exchanged (answered i) (answered j) (answered l) = ap (λ (x : Information). step (estimate_from d floor x) (if_finite d)) (joint-exchanged d i j l)
+  exchanged (Err p) (Err q) b = refl
+  exchanged (Err p) (Ok j) b = refl
+  exchanged (Ok i) (Err q) b = refl
+  exchanged (Ok i) (Ok j) (Err q) = refl
+  exchanged (Ok i) (Ok j) (Ok l) = ap (λ (x : Information). step (estimate_from d floor x) (if_finite d)) (joint-exchanged d i j l)
 
 pub fused-exchanged : (d : ℕ) (floor : Float) (base ours theirs : List Float) → fused d floor base ours theirs ≡ fused d floor base theirs ours
 unfolding fused

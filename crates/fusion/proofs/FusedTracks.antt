@@ -1,5 +1,5 @@
--- What every fused track is. `fused-long`: it has the fields of its dimension. `fused-finite`: every field is finite. `fused-doubles`: every field is a double, so that it
--- comes back from its bits.
+-- What every fused track is. `fused-long`: it has the fields of its dimension. `fused-finite`: every field is finite.
+-- `fused-doubles`: every field is a double, so that it comes back from its bits.
 use Prim.Native.Nat.{ℕ, zero, suc, ◌+◌, ◌*◌, ◌-◌, ◌<◌, ◌≤◌}
 use native.Mathlib.Omega.{arith}
 use native.Mathlib.Decide.{dec_lt}
@@ -40,7 +40,8 @@ fused-long d floor base ours theirs h =
 -- ---- what holds of every field
 
 -- of each of two lists, one after the other
-joined_every : (P : Float → Type 0) (a b : List Float) → ((k : ℕ) → k < length a → P (nth a k)) → ((k : ℕ) → k < length b → P (nth b k)) → (k : ℕ) → k < length (a ++ b) → P (nth (a ++ b) k)
+joined_every : (P : Float → Type 0) (a b : List Float) → ((k : ℕ) → k < length a → P (nth a k)) → ((k : ℕ) → k < length b → P (nth b k))
+    → (k : ℕ) → k < length (a ++ b) → P (nth (a ++ b) k)
 joined_every P a b f g k h = go (dec_lt k (length a))
   where
     go : Dec (k < length a) → P (nth (a ++ b) k)

@@ -1,4 +1,3 @@
-pub mod Asked
 pub mod Calls
 pub mod Exchange
 pub mod FusedTracks

@@ -1,5 +1,6 @@
--- The fields of an estimate, written row by row. `rows_long` and `fields-long`: how many there are. `RowsBefore`: what stands before row i is written; `no_rows` begins it,
--- `row_fits` says that there is room for row i, `row_written` that it is written, and `every_row` that at the end the slice holds the fields.
+-- The fields of an estimate, written row by row. `rows_long` and `fields-long`: how many there are. `RowsBefore`: what
+-- stands before row i is written; `no_rows` begins it, `row_fits` says that there is room for row i, `row_written` that
+-- it is written, and `every_row` that at the end the slice holds the fields.
 use Prim.Native.Nat.{ℕ, zero, suc, ◌+◌, ◌*◌, ◌-◌, ◌<◌, ◌≤◌}
 use native.Mathlib.Omega.{arith}
 use native.Mathlib.Nat.{suc-mul, mul-suc, le_antisymm}
@@ -15,7 +16,7 @@ use Rattle.kernel.proofs.Lists.{length-tabulate, row_within}
 use Rattle.dense.specs.Matrix.{at}
 use Rattle.dense.proofs.Laws.{by_entries, nth-part, front}
 use Rattle.tracks.specs.Layout.{fields}
-use Rattle.compare.proofs.Covariance.{field-within}
+use Rattle.compare.proofs.Covariance.{field_within}
 use Rattle.fusion.specs.Fusion.{Estimate, lower_rows, fields_of}
 use Rattle.fusion.specs.Private.{Sized, estimate}
 
@@ -73,7 +74,7 @@ front-joined a e out y h k l =
 module _ {x p : List Float} {d i a : ℕ} {out : List Float} (w : RowsBefore x p d i a out) where
   pub row_fits : i < d → a + i + 1 ≤ length out
   unfolding fields
-  row_fits h = omega (arith, field-within d i i h (omega arith), rows_long d p i, w.long, w.size)
+  row_fits h = omega (arith, field_within d i i h (omega arith), rows_long d p i, w.long, w.size)
 
   pub row_written : {y : List Float} → i < d → y ≡ take (i + 1) (drop (i * d) p) → RowsBefore x p d (i + 1) (a + i + 1) (put_mid a (a + i + 1 - a) out y)
   row_written {y} h e = record { turns = omega arith; sized = w.sized; size = same_len_mid a (a + i + 1 - a) out y part ∙ w.size; long = long; done = done }
@@ -102,3 +103,6 @@ module _ {x p : List Float} {d i a : ℕ} {out : List Float} (w : RowsBefore x p
       sym (take_all a out (omega (arith, rows_long d p i, ap (λ (k : ℕ). k * (k + 1)) e, w.long, w.size)))
       ∙ w.done
       ∙ ap (λ (k : ℕ). x ++ lower_rows d p k) e
+
+-- the steps of the loop over the rows
+pub ruleset row_by_row = (no_rows, row_fits, row_written, every_row)

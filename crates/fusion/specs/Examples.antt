@@ -19,7 +19,8 @@ twelve = of_bits binary64 0x4028000000000000
 abbrev thirteen : Float
 thirteen = of_bits binary64 0x402A000000000000
 
--- All variances are 1: Yo = Yt = Yb = 1, so Y = (1 + 1) - 1 = 1 and y = (11 + 12) - 10 = 13. Then x = 13 / 1 = 13 and P = 1 / 1 = 1, which no floor up to 1 raises.
+-- All variances are 1: Yo = Yt = Yb = 1, so Y = (1 + 1) - 1 = 1 and y = (11 + 12) - 10 = 13. Then x = 13 / 1 = 13 and P
+-- = 1 / 1 = 1, which no floor up to 1 raises.
 pub fused-by_hand : fused 1 one (ten ∷ one ∷ []) (eleven ∷ one ∷ []) (twelve ∷ one ∷ []) ≡ track (thirteen ∷ one ∷ [])
 unfolding fused of_bits Ieee.div Ieee.mul Ieee.sub Ieee.add Ieee.lt Ieee.le Ieee.neg Ieee.is_nan
 fused-by_hand = refl

@@ -1,6 +1,7 @@
--- The fusion of ours and theirs over their base, of request 2: each side's information is added to the other's, and what both took from the base is taken away once.
+-- The fusion of ours and theirs over their base, of request 2: each side's information is added to the other's, and
+-- what both took from the base is taken away once.
 use Rattle.std.specs.Prelude.{ℕ, zero, suc, ◌*◌, Bool, true, false, cond, ◌&&◌, List, [], ◌++◌, Float}
-use Rattle.kernel.specs.Answer.{Outcome, refused, answered, ask, and_then, through}
+use Rattle.kernel.specs.Answer.{Outcome, ask, and_then, through}
 use Rattle.kernel.specs.Lists.{tabulate}
 use Rattle.kernel.specs.Number.{add, sub}
 use Rattle.dense.specs.Matrix.{nth, at, is_side, has_length, finite_entries}
@@ -10,7 +11,9 @@ use Rattle.repair.specs.Repair.{repair}
 use Rattle.tracks.specs.Layout.{fields}
 use Rattle.compare.specs.Fields.{track_state, track_covariance}
 use Rattle.fusion.specs.declared.Fusion.{Fusion}
-use Rattle.fusion.specs.declared.Fusion.TheVariants.{Fused, NotFused, Refused}
+use Rattle.fusion.specs.declared.Fusion.TheVariants.{Fused, NotFused}
+use Rattle.std.specs.Prelude.{Ok, Err}
+use Rattle.kernel.specs.declared.question.Question.TheVariants as question
 
 -- ---- information
 
@@ -76,8 +79,8 @@ if_finite d e = cond (is_finite d e) (track (fields_of d e)) none
 
 -- What follows from a step. Where it refuses, there is no fused track.
 abbrev pub step : {A : Type 0} → Outcome A → (A → Fusing) → Fusing
-step (refused q) rest = none
-step (answered v) rest = rest v
+step (Err q) rest = none
+step (Ok v) rest = rest v
 
 -- The fusion of ours and theirs over base, three tracks of dimension d by their fields.
 unfoldable pub fused : ℕ → Float → List Float → List Float → List Float → Fusing
@@ -98,12 +101,12 @@ is_fused (track v) = true
 unfoldable pub fusing : List Float → List Float → List Float → ℕ → Float → List Float → Outcome Fusing
 unfolding fused is_side has_length fields
 fusing base ours theirs d floor out =
-    ask 1 (is_side d)
-    (ask 2 (has_length base (fields d) && (has_length ours (fields d) && (has_length theirs (fields d) && has_length out (fields d))))
-    (answered (fused d floor base ours theirs)))
+    ask question.Side (is_side d)
+    (ask question.Length (has_length base (fields d) && (has_length ours (fields d) && (has_length theirs (fields d) && has_length out (fields d))))
+    (Ok (fused d floor base ours theirs)))
 
 -- The answer, and the slice afterwards: only a fused track is written.
-abbrev pub after_fusing : Outcome Fusing → List Float → Fusion × List Float
-after_fusing (refused q) old = (Refused q, old)
-after_fusing (answered none) old = (NotFused, old)
-after_fusing (answered (track v)) old = (Fused, v)
+abbrev pub after_fusing : Outcome Fusing → List Float → Outcome Fusion × List Float
+after_fusing (Err q) old = (Err q, old)
+after_fusing (Ok none) old = (Ok NotFused, old)
+after_fusing (Ok (track v)) old = (Ok Fused, v)

@@ -1,13 +1,13 @@
--- The words of the private functions' contracts, and of those for the project's own crates: no definition of a call needs them.
+-- The words of the private functions' contracts, and of those for the project's own crates: no definition of a call
+-- needs them.
 use Rattle.std.specs.Prelude.{ℕ, ◌*◌, Bool, true, false, ◌&&◌, List, ◌≡◌, Float, length}
-use Rattle.kernel.specs.Answer.{Outcome, refused, answered, and_then, through}
+use Rattle.kernel.specs.Answer.{Outcome, and_then, through}
 use Rattle.kernel.specs.Lists.{tabulate}
 use Rattle.kernel.specs.Number.{add, sub}
 use Rattle.dense.specs.Matrix.{nth, is_side, has_length}
-use Rattle.dense.specs.declared.Written.{Written}
-use Rattle.dense.specs.declared.Written.TheVariants as written
 use Rattle.tracks.specs.Layout.{fields}
 use Rattle.fusion.specs.Fusion.{Information, information_of, Estimate, Fusing, none, track}
+use Rattle.std.specs.Prelude.{Ok}
 
 -- ---- slices
 
@@ -40,15 +40,11 @@ pub record Rooms (d : ℕ) (p n z m y : List Float) : Type 0 where
 
 -- ---- answers
 
--- That r tells whether there is an answer, and that v is the answer where there is one.
-pub record Gives {A : Type 0} (o : Outcome A) (r : Bool) (v : A) : Type 0 where
-  pub none : r ≡ false → (k : ℕ) × (o ≡ refused k)
-  pub one : r ≡ true → o ≡ answered v
-
--- Whether a call has done its work.
-abbrev pub is_done : Written → Bool
-is_done written.Done = true
-is_done (written.Refused q) = false
+-- That r tells whether there is an answer, or the question that refuses it, and that v is the answer where there is
+-- one.
+pub record Gives {A : Type 0} (o : Outcome A) (r : Outcome Unit) (v : A) : Type 0 where
+  pub answers : r ≡ through (λ a. tt) o
+  pub one : r ≡ Ok tt → o ≡ Ok v
 
 -- ---- information
 

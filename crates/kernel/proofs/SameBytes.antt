@@ -6,6 +6,7 @@ use mathlib.Core.Bool.{Bool, true, false, ◌&&◌}
 use mathlib.Core.List.{List, [], ◌∷◌}
 use borrow.Author.Tests.{eq-eqb, eqb-true}
 use lib.Dec.{eqb}
+use lib.Pointwise.{pointwise}
 use Rattle.kernel.specs.Bytes.{same_bytes}
 
 pub same_refl : (a : List ℕ) → same_bytes a a ≡ true
@@ -31,3 +32,11 @@ same_unequal a b n = split (same_bytes a b) refl
     split : (c : Bool) → same_bytes a b ≡ c → same_bytes a b ≡ false
     split false p = p
     split true p = absurd (n (same-equal a b p))
+
+-- element by element, as `==` compares
+pub same-pointwise : (a b : List ℕ) → pointwise eqb a b ≡ same_bytes a b
+unfolding same_bytes
+same-pointwise [] [] = refl
+same-pointwise [] (y ∷ b) = refl
+same-pointwise (x ∷ a) [] = refl
+same-pointwise (x ∷ a) (y ∷ b) = rw (same-pointwise a b) refl

@@ -8,7 +8,7 @@ use mathlib.Core.Path.{◌≡◌, refl, sym, ap, ◌∙◌, subst}
 use mathlib.Core.List.{List, [], ◌∷◌}
 use borrow.Author.Tests.{le-leb, lt-leb}
 use lib.ListN.{length, get_or, take, drop, length-drop}
-use lib.Seq.{drop-cons, get_or-drop, length-take-le}
+use lib.Seq.{drop-cons, get_or-drop, length-take-le, take_all}
 use Rattle.kernel.specs.Bytes.{Bytes, number, bytes, word}
 
 -- ---- bytes and their number
@@ -61,6 +61,10 @@ bytes_8 x = simp div-div-eq-div-mul
 pub word_inside : (l : List ℕ) (at : ℕ) → at + 8 ≤ length l → word l at ≡ number (take 8 (drop at l))
 unfolding word
 word_inside l at h = rw (le-leb (at + 8) (length l) h) refl
+
+-- the word of eight bytes alone
+pub whole_word : (l : List ℕ) → length l ≡ 8 → word l 0 ≡ number l
+whole_word l h = word_inside l 0 (omega arith) ∙ ap number (take_all 8 l (omega arith))
 
 pub word_outside : (l : List ℕ) (at : ℕ) → length l < at + 8 → word l at ≡ 0
 unfolding word

@@ -1,21 +1,22 @@
--- What a call answers: the number of the first question of document 01 that is not met, or a value.
-use Rattle.std.specs.Prelude.{ℕ, Bool, true, false}
+-- What a call answers: a value, or the first question of document 01 that is not met.
+use Rattle.std.specs.Prelude.{Bool, true, false, Result, Ok, Err}
+use Rattle.kernel.specs.declared.question.Question.{Question}
 
-pub data Outcome (A : Type 0) : Type 0 where
-  refused : ℕ → Outcome A
-  answered : A → Outcome A
+-- The outcome of a call that gives an A where it does not refuse.
+abbrev pub Outcome : Type 0 → Type 0
+Outcome A = Result A Question
 
--- Question k is put before the rest: where its test fails, k is the answer.
-abbrev pub ask : {A : Type 0} → ℕ → Bool → Outcome A → Outcome A
-ask k true rest = rest
-ask k false rest = refused k
+-- Question q is put before the rest: where its test fails, q is the answer.
+abbrev pub ask : {A : Type 0} → Question → Bool → Outcome A → Outcome A
+ask q true rest = rest
+ask q false rest = Err q
 
 -- What follows from a value that was answered; a refusal stays as it is.
 abbrev pub and_then : {A B : Type 0} → Outcome A → (A → Outcome B) → Outcome B
-and_then (refused k) rest = refused k
-and_then (answered v) rest = rest v
+and_then (Err q) rest = Err q
+and_then (Ok v) rest = rest v
 
 -- f of a value that was answered; a refusal stays as it is.
 abbrev pub through : {A B : Type 0} → (A → B) → Outcome A → Outcome B
-through f (refused k) = refused k
-through f (answered v) = answered (f v)
+through f (Err q) = Err q
+through f (Ok v) = Ok (f v)

@@ -5,5 +5,6 @@ pub mod Estimate
 pub mod First
 pub mod Lists
 pub mod Number
+pub mod Question
 pub mod Sqrt
 pub mod Private

@@ -13,7 +13,7 @@ pub const MIN_SCALE: f64 = 1e-150;
 pub const FAR_THETA: f64 = 1e150;
 
 // `f64::MIN_POSITIVE`, the least positive normal number.
-pub const MIN_POSITIVE: f64 = 2.2250738585072014e-308;
+pub const MIN_POSITIVE: f64 = f64::MIN_POSITIVE;
 
 // A product whose norm is below this vanishes, and a round of the power iteration that reaches it gives 0.0.
 pub const VANISHING: f64 = 1e-30;
@@ -27,9 +27,9 @@ pub const INFINITY_BITS: u64 = 0x7FF0_0000_0000_0000;
 // The bit of the sign.
 pub const SIGN_BIT: u64 = 0x8000_0000_0000_0000;
 
-// +infinity: the language has no constant for it.
+// +infinity.
 pub fn infinity() -> f64
     ensures { result ≡ infinity }
 {
-    f64::from_bits(INFINITY_BITS)
+    f64::INFINITY
 }

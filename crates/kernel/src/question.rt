@@ -1,45 +1,38 @@
-// The questions before an answer, by their numbers in document 01. A refusal carries the number of the first one that
-// is not met; no question has the number 0.
-pub const SIDE: u8 = 1;
+// The questions before an answer, numbered as in document 01. A refusal carries the first one that is not met.
+ghost use Rattle.std.specs.Prelude.{◌≡◌};
+ghost use Rattle.kernel.specs.Question.{question_number};
 
-pub const LENGTH: u8 = 2;
+#[derive(Clone, Copy, Debug, PartialEq, Eq)]
+pub enum Question {
+    Side = 1,
+    Length = 2,
+    FiniteEntries = 3,
+    FiniteEigenvalues = 4,
+    RowNorm = 5,
+    PivotRatio = 6,
+    CholeskyPivot = 7,
+    Determinant = 8,
+    Header = 9,
+    Count = 10,
+    Dimension = 11,
+    Present = 12,
+    SpareBits = 13,
+    FiniteField = 14,
+    NonzeroField = 15,
+    NothingAfter = 16,
+    OneDimension = 17,
+    FloorAndGate = 18,
+    RowBuffer = 19,
+    ListBuffer = 20,
+    NoConflict = 21,
+    MergedCount = 22,
+}
 
-pub const FINITE_ENTRIES: u8 = 3;
-
-pub const FINITE_EIGENVALUES: u8 = 4;
-
-pub const ROW_NORM: u8 = 5;
-
-pub const PIVOT_RATIO: u8 = 6;
-
-pub const CHOLESKY_PIVOT: u8 = 7;
-
-pub const DETERMINANT: u8 = 8;
-
-pub const HEADER: u8 = 9;
-
-pub const COUNT: u8 = 10;
-
-pub const DIMENSION: u8 = 11;
-
-pub const PRESENT: u8 = 12;
-
-pub const SPARE_BITS: u8 = 13;
-
-pub const FINITE_FIELD: u8 = 14;
-
-pub const NONZERO_FIELD: u8 = 15;
-
-pub const NOTHING_AFTER: u8 = 16;
-
-pub const ONE_DIMENSION: u8 = 17;
-
-pub const FLOOR_AND_GATE: u8 = 18;
-
-pub const ROW_BUFFER: u8 = 19;
-
-pub const LIST_BUFFER: u8 = 20;
-
-pub const NO_CONFLICT: u8 = 21;
-
-pub const MERGED_COUNT: u8 = 22;
+impl Question {
+    // The number of a question in document 01; no question has the number 0.
+    pub fn number(self) -> u8
+        ensures { result ≡ question_number self }
+    {
+        self as u8
+    }
+}

@@ -7,13 +7,14 @@ use lib.Ieee.{Float}
 use lib.ListN.{length}
 use Rattle.kernel.specs.Number.{mul}
 use Rattle.kernel.specs.Constants.{nought}
-use Rattle.kernel.specs.Answer.{answered, ask, and_then}
+use Rattle.kernel.specs.Answer.{ask, and_then}
 use Rattle.dense.specs.Matrix.{at, is_side, has_length}
 use Rattle.linalg.specs.Products.{product_entry, product, mat_mul, transpose_entry, transposed, mat_transpose, ata_entry, gram, mat_ata}
-use Rattle.dense.proofs.Laws.{sum_ext, at-matrix, matrix_ext}
+use Rattle.dense.proofs.Laws.{sum_ext, length-matrix, at-matrix, matrix_ext}
 use Rattle.dense.proofs.Tests.{long_of}
-use Rattle.linalg.proofs.Lengths.{length-transposed}
 use Rattle.linalg.proofs.Symmetry.{ata-either}
+use Rattle.std.specs.Prelude.{Ok}
+use Rattle.kernel.specs.declared.question.Question.TheVariants as question
 
 same_entries : (a : List Float) (m n i j : ℕ) → i < n → product_entry (transposed a m n) a m n i j ≡ ata_entry a m n i j
 unfolding transposed
@@ -22,6 +23,10 @@ same_entries a m n i j h = sum_ext nought m _ _ (λ k l. ap (λ (x : Float). mul
 pub ata-product : (a : List Float) (m n : ℕ) → product (transposed a m n) a n m n ≡ gram a m n
 unfolding product gram
 ata-product a m n = matrix_ext n n _ _ (λ i j h k. same_entries a m n i j h)
+
+length-transposed : (a : List Float) (m n : ℕ) → length (transposed a m n) ≡ n * m
+unfolding transposed
+length-transposed a m n = length-matrix n m (transpose_entry a n)
 
 long-transposed : (a : List Float) (m n : ℕ) → has_length (transposed a m n) (n * m) ≡ true
 long-transposed a m n = long_of (transposed a m n) (n * m) (length-transposed a m n)
@@ -32,9 +37,9 @@ unfolding mat_transpose mat_mul mat_ata
 ata_is_product a t out m n e = rw (long_of t (n * m) e) (go (is_side m) (is_side n) (has_length a (m * n)) (has_length out (n * n)))
   where
     go : (p q l o : Bool)
-        → and_then (ask 1 (p && q) (ask 2 (l && true) (answered (transposed a m n))))
-        (λ b. ask 1 (q && (p && q)) (ask 2 (has_length b (n * m) && (l && o)) (answered (product b a n m n))))
-        ≡ ask 1 (p && q) (ask 2 (l && o) (answered (gram a m n)))
+        → and_then (ask question.Side (p && q) (ask question.Length (l && true) (Ok (transposed a m n))))
+        (λ b. ask question.Side (q && (p && q)) (ask question.Length (has_length b (n * m) && (l && o)) (Ok (product b a n m n))))
+        ≡ ask question.Side (p && q) (ask question.Length (l && o) (Ok (gram a m n)))
     go true true true o = rw (long-transposed a m n, ata-product a m n)
     go true true false o = refl
     go true false l o = refl

@@ -1,5 +1,6 @@
 pub mod Symmetry
-pub mod Lengths
 pub mod Ata
 pub mod Padding
 pub mod Factor
+pub mod Rows
+pub mod Damping

@@ -12,8 +12,8 @@ use Rattle.dense.specs.Matrix.{nth}
 use Rattle.linalg.specs.Private.{Padded}
 
 -- the front of a slice of zeros
-pub zeros-front : (k n : ℕ) → k ≤ n → take k (replicate n nought) ≡ replicate k nought
-zeros-front k n h =
+pub zeros_front : (k n : ℕ) → k ≤ n → take k (replicate n nought) ≡ replicate k nought
+zeros_front k n h =
     let whole : n ≡ k + (n - k) = omega arith in
     ap (λ (c : ℕ). take k (replicate c nought)) whole
     ∙ ap (take k) (sym (replicate-append-replicate k (n - k) nought))

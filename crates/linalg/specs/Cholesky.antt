@@ -3,9 +3,11 @@ use Rattle.std.specs.Prelude.{ℕ, zero, suc, ◌-◌, ◌*◌, Bool, true, ◌&
 use Rattle.std.specs.Float.Ieee.{lt}
 use Rattle.kernel.specs.Number.{sub, mul, div, finite}
 use Rattle.kernel.specs.Sqrt.{sqrt}
-use Rattle.kernel.specs.Answer.{Outcome, answered, ask}
+use Rattle.kernel.specs.Answer.{Outcome, ask}
 use Rattle.kernel.specs.Constants.{nought}
 use Rattle.dense.specs.Matrix.{total, sum_from, at, is_side, has_length}
+use Rattle.std.specs.Prelude.{Ok}
+use Rattle.kernel.specs.declared.question.Question.TheVariants as question
 
 -- question 7, of one pivot: above 0 and finite; a NaN is not
 unfoldable pub is_pivot : Float → Bool
@@ -51,7 +53,7 @@ definite a n (suc i) = definite a n i && is_pivot (row_pivot a n i)
 unfoldable pub mat_cholesky : List Float → ℕ → List Float → Outcome (List Float)
 unfolding definite factor is_side has_length
 mat_cholesky a n out =
-    ask 1 (is_side n)
-    (ask 2 (has_length a (n * n) && has_length out (n * n))
-    (ask 7 (definite a n n)
-    (answered (factor a n n))))
+    ask question.Side (is_side n)
+    (ask question.Length (has_length a (n * n) && has_length out (n * n))
+    (ask question.CholeskyPivot (definite a n n)
+    (Ok (factor a n n))))

@@ -1,4 +1,4 @@
--- Words of the private contracts: what the Cholesky factor and the sums ask of their slices. No definition that a user reads needs them.
+-- Words of the private contracts: what the Cholesky factor asks of its slice. No definition that a user reads needs them.
 use Rattle.std.specs.Prelude.{ℕ, ◌*◌, ◌-◌, ◌<◌, ◌≤◌, List, ◌++◌, ◌≡◌, Float, length, replicate}
 use Rattle.kernel.specs.Constants.{nought}
 use Rattle.linalg.specs.Cholesky.{factor}
@@ -13,9 +13,3 @@ pub record Factoring (a : List Float) (n i : ℕ) (l : List Float) : Type 0 wher
   pub matrix : length a ≡ n * n
   pub room : length l ≡ n * n
   pub rows : Padded (factor a n i) l
-
--- a cell of a matrix m, n by n
-pub record Cell (n i j : ℕ) (m : List Float) : Type 0 where
-  pub row : i < n
-  pub column : j < n
-  pub matrix : length m ≡ n * n

@@ -1,10 +1,12 @@
 -- The calls of linalg/generic.rs that write a matrix or a vector by a rule for each entry: what they write, as a value, and the calls with their questions.
 use Rattle.std.specs.Prelude.{ℕ, ◌*◌, min, max, ◌&&◌, List, Float}
 use Rattle.kernel.specs.Number.{add, mul}
-use Rattle.kernel.specs.Answer.{Outcome, answered, ask}
+use Rattle.kernel.specs.Answer.{Outcome, ask}
 use Rattle.dense.specs.Matrix.{total, sum_from, nth, at, matrix, is_side, has_length}
 use Rattle.kernel.specs.Lists.{tabulate}
 use Rattle.kernel.specs.Constants.{half}
+use Rattle.std.specs.Prelude.{Ok}
+use Rattle.kernel.specs.declared.question.Question.TheVariants as question
 
 -- entry (i, j) of a b, where a has k columns and b has n
 abbrev pub product_entry : List Float → List Float → ℕ → ℕ → ℕ → ℕ → Float
@@ -19,9 +21,9 @@ product a b m k n = matrix m n (product_entry a b k n)
 unfoldable pub mat_mul : List Float → List Float → ℕ → ℕ → ℕ → List Float → Outcome (List Float)
 unfolding product is_side has_length
 mat_mul a b m k n out =
-    ask 1 (is_side m && (is_side k && is_side n))
-    (ask 2 (has_length a (m * k) && (has_length b (k * n) && has_length out (m * n)))
-    (answered (product a b m k n)))
+    ask question.Side (is_side m && (is_side k && is_side n))
+    (ask question.Length (has_length a (m * k) && (has_length b (k * n) && has_length out (m * n)))
+    (Ok (product a b m k n)))
 
 -- entry (i, j) of the transpose of a, which has n columns
 abbrev pub transpose_entry : List Float → ℕ → ℕ → ℕ → Float
@@ -36,9 +38,9 @@ transposed a m n = matrix n m (transpose_entry a n)
 unfoldable pub mat_transpose : List Float → ℕ → ℕ → List Float → Outcome (List Float)
 unfolding transposed is_side has_length
 mat_transpose a m n out =
-    ask 1 (is_side m && is_side n)
-    (ask 2 (has_length a (m * n) && has_length out (n * m))
-    (answered (transposed a m n)))
+    ask question.Side (is_side m && is_side n)
+    (ask question.Length (has_length a (m * n) && has_length out (n * m))
+    (Ok (transposed a m n)))
 
 -- entry (i, j) of the product of the transpose of a, m by n, and a: those on and below the diagonal are summed, and mirrored
 abbrev pub ata_entry : List Float → ℕ → ℕ → ℕ → ℕ → Float
@@ -53,9 +55,9 @@ gram a m n = matrix n n (ata_entry a m n)
 unfoldable pub mat_ata : List Float → ℕ → ℕ → List Float → Outcome (List Float)
 unfolding gram is_side has_length
 mat_ata a m n out =
-    ask 1 (is_side m && is_side n)
-    (ask 2 (has_length a (m * n) && has_length out (n * n))
-    (answered (gram a m n)))
+    ask question.Side (is_side m && is_side n)
+    (ask question.Length (has_length a (m * n) && has_length out (n * n))
+    (Ok (gram a m n)))
 
 -- the mean of entries (i, j) and (j, i): that above the diagonal comes first
 abbrev pub symmetric_entry : List Float → ℕ → ℕ → ℕ → Float
@@ -70,9 +72,9 @@ symmetric_part a n = matrix n n (symmetric_entry a n)
 unfoldable pub mat_symmetrize : List Float → ℕ → List Float → Outcome (List Float)
 unfolding symmetric_part is_side has_length
 mat_symmetrize a n out =
-    ask 1 (is_side n)
-    (ask 2 (has_length a (n * n) && has_length out (n * n))
-    (answered (symmetric_part a n)))
+    ask question.Side (is_side n)
+    (ask question.Length (has_length a (n * n) && has_length out (n * n))
+    (Ok (symmetric_part a n)))
 
 -- entry i of the product of a, of n columns, and the vector x
 abbrev pub vector_entry : List Float → List Float → ℕ → ℕ → Float
@@ -87,6 +89,6 @@ times a x m n = tabulate m (vector_entry a x n)
 unfoldable pub mat_vec_mul : List Float → List Float → ℕ → List Float → Outcome (List Float)
 unfolding times is_side has_length
 mat_vec_mul a x n out =
-    ask 1 (is_side n)
-    (ask 2 (has_length a (n * n) && (has_length x n && has_length out n))
-    (answered (times a x n n)))
+    ask question.Side (is_side n)
+    (ask question.Length (has_length a (n * n) && (has_length x n && has_length out n))
+    (Ok (times a x n n)))

@@ -1,9 +1,11 @@
 -- The damping of linalg/regularize.rs.
 use Rattle.std.specs.Prelude.{ℕ, ◌*◌, ◌&&◌, cond, List, eqb, Float}
 use Rattle.kernel.specs.Number.{add}
-use Rattle.kernel.specs.Answer.{Outcome, answered, ask}
+use Rattle.kernel.specs.Answer.{Outcome, ask}
 use Rattle.dense.specs.Matrix.{at, matrix, is_side, has_length}
 use Rattle.kernel.specs.Lists.{tabulate}
+use Rattle.std.specs.Prelude.{Ok}
+use Rattle.kernel.specs.declared.question.Question.TheVariants as question
 
 -- entry (i, j) of a with alpha added on the diagonal
 abbrev pub damped_entry : List Float → ℕ → Float → ℕ → ℕ → Float
@@ -18,6 +20,6 @@ damped a alpha n = matrix n n (damped_entry a n alpha)
 unfoldable pub tikhonov : List Float → Float → ℕ → List Float → Outcome (List Float)
 unfolding damped is_side has_length
 tikhonov a alpha n out =
-    ask 1 (is_side n)
-    (ask 2 (has_length a (n * n) && has_length out (n * n))
-    (answered (damped a alpha n)))
+    ask question.Side (is_side n)
+    (ask question.Length (has_length a (n * n) && has_length out (n * n))
+    (Ok (damped a alpha n)))

@@ -1,9 +1,10 @@
-// The quadratic form of a difference for a caller that knows the lengths: what the project's own crates call, and no user does.
+// The quadratic form of a difference for a caller that knows the lengths: the project's own crates call it, and no user
+// does.
 ghost use Rattle.std.specs.Prelude.{◌≡◌, ◌*◌, ◌≤◌, length};
 ghost use Rattle.linalg.specs.Sums.{quadratic_form, difference};
 
 use crate::sums::quadratic_form;
-use crate::vector::subtract;
+use dense::fill::fill;
 
 // The quadratic form of x - mu under inv, n by n.
 pub fn distance_with_inv(x: &[f64], mu: &[f64], inv: &[f64], n: usize) -> f64
@@ -11,6 +12,6 @@ pub fn distance_with_inv(x: &[f64], mu: &[f64], inv: &[f64], n: usize) -> f64
     ensures { result ≡ quadratic_form (difference x.now mu.now n) inv.now n }
 {
     let mut delta = [0.0f64; 16];
-    subtract(x, mu, n, &mut delta[..n]);
-    quadratic_form(&delta[..n], inv, n)
+    fill(|j| x[j] - mu[j], &mut delta[..n]);
+    quadratic_form(&delta[..n], inv)
 }

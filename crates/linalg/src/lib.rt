@@ -1,5 +1,5 @@
-// Dense linear algebra on f64: flat slices, row by row, with their sides. A call refuses with the number of the first of
-// document 01's questions that is not met, and then no lent memory has changed.
+// Dense linear algebra on f64: flat slices, row by row, with their sides. A call refuses with the first of document
+// 01's questions that is not met, and then no lent memory has changed.
 #![tactic(auto)]
 
 mod cholesky;
@@ -8,6 +8,3 @@ pub mod inside;
 mod product;
 pub mod regularize;
 mod sums;
-mod vector;
-
-pub use dense::{Number, Written};

@@ -1,156 +1,100 @@
-// Matrices and vectors that are written row by row. Each sum goes up by its index; the loops run along the rows.
-ghost use Rattle.std.specs.Prelude.{◌≡◌, ◌+◌, ◌*◌, ◌<◌, ◌≤◌, length};
-ghost use Rattle.kernel.specs.Lists.{tabulate};
-ghost use Rattle.linalg.specs.Products.{product_entry, transpose_entry, ata_entry, symmetric_entry, product, transposed, gram, symmetric_part, times};
+// Matrices and vectors that are written by a rule for each entry. Each sum goes up by its index.
+ghost use Rattle.std.specs.Prelude.{ℕ, ◌≡◌, ◌*◌, ◌<◌, ◌≤◌, List, length, Float};
+ghost use Rattle.std.specs.Borrow.{MutBor};
+ghost use Rattle.kernel.specs.Number.{mul};
+ghost use Rattle.dense.specs.Matrix.{at, matrix, total};
+ghost use Rattle.linalg.specs.Products.{product, transposed, gram, symmetric_part, times};
 
+use dense::fill::{fill, fill_matrix};
 use dense::shape::{entry, row};
-use dense::vector::{add_scaled, copy, dot};
+use dense::vector::{add_scaled, dot};
 
-// Writes row i of the product of a, of k columns, and b, k by n.
-fn product_row(a: &[f64], b: &[f64], k: usize, n: usize, i: usize, y: &mut [f64])
-    requires { (n ≤ 16) × (i * k + k ≤ length a.now) × (length b.now ≡ k * n) × (length y.old ≡ n) }
-    ensures { y.new ≡ tabulate n (product_entry a.now b.now k n i) }
+// Writes the m by n product of the m by k matrix whose entry (i, l) is f(i, l), and b, k by n. The loops run along the
+// rows of b.
+fn product_by_rule<F: Fn(usize, usize) -> f64>(
+    f: F,
+    b: &[f64],
+    m: usize,
+    k: usize,
+    n: usize,
+    out: &mut [f64],
+)
+    requires sides { (n ≤ 16) × (length b.now ≡ k * n) × (length out.old ≡ m * n) }
+    requires callable { (i l : ℕ) → i < m → l < k → F.pre f i l }
+    ensures { (g : ℕ → ℕ → Float) → ((i l : ℕ) (x : _) → i < m → l < k → F.post f i l x → x ≡ g i l)
+        → out.new ≡ matrix m n (λ i j. total k (λ l. mul (g i l) (at b.now n l j))) }
 {
-    let mut sums = [0.0; 16];
-    for l in 0..k {
-        add_scaled(entry(a, k, i, l), row(b, n, l), n, &mut sums[..n]);
+    // A row a turn: the sums of a whole row go up together, which is quick.
+    for i in 0..m {
+        let mut sums = [0.0; 16];
+        for l in 0..k {
+            add_scaled(f(i, l), row(b, n, l), &mut sums[..n]);
+        }
+        let start = i * n;
+        out[start..start + n].copy_from_slice(&sums[..n]);
     }
-    copy(&sums[..n], n, y);
 }
 
 // Writes the m by n product of a, m by k, and b, k by n.
+#[tactic(auto, using(dense::proofs::Laws::cell), unfolding(crate::specs::Products::product))]
 pub(crate) fn product(a: &[f64], b: &[f64], m: usize, k: usize, n: usize, out: &mut [f64])
     requires { (n ≤ 16) × (length a.now ≡ m * k) × (length b.now ≡ k * n) × (length out.old ≡ m * n) }
     ensures { out.new ≡ product a.now b.now m k n }
 {
-    for i in 0..m {
-        let start = i * n;
-        product_row(a, b, k, n, i, &mut out[start..start + n]);
-    }
-}
-
-// The same, with the widths of the usual states known to the compiler, which then unrolls the loops along a row.
-pub(crate) fn product_by_width(a: &[f64], b: &[f64], m: usize, k: usize, n: usize, out: &mut [f64])
-    requires { (n ≤ 16) × (length a.now ≡ m * k) × (length b.now ≡ k * n) × (length out.old ≡ m * n) }
-    ensures { out.new ≡ product a.now b.now m k n }
-{
-    if n == 6 {
-        return product(a, b, m, k, 6, out);
-    }
-    if n == 9 {
-        return product(a, b, m, k, 9, out);
-    }
-    if n == 16 {
-        return product(a, b, m, k, 16, out);
-    }
-    product(a, b, m, k, n, out)
-}
-
-// Writes row i of the transpose of a, m by n.
-fn transpose_row(a: &[f64], m: usize, n: usize, i: usize, y: &mut [f64])
-    requires { (i < n) × (length a.now ≡ m * n) × (length y.old ≡ m) }
-    ensures { y.new ≡ tabulate m (transpose_entry a.now n i) }
-{
-    for j in 0..m {
-        y[j] = entry(a, n, j, i);
-    }
-}
-
-// Writes the n by m transpose of a, m by n.
-pub(crate) fn transpose(a: &[f64], m: usize, n: usize, out: &mut [f64])
-    requires { (length a.now ≡ m * n) × (length out.old ≡ n * m) }
-    ensures { out.new ≡ transposed a.now m n }
-{
-    for i in 0..n {
-        let start = i * m;
-        transpose_row(a, m, n, i, &mut out[start..start + m]);
-    }
-}
-
-// Writes row i of the product of the transpose of a, m by n, and a.
-fn ata_row(a: &[f64], m: usize, n: usize, i: usize, y: &mut [f64])
-    requires { (n ≤ 16) × (i < n) × (length a.now ≡ m * n) × (length y.old ≡ n) }
-    ensures { y.new ≡ tabulate n (ata_entry a.now m n i) }
-{
-    let mut sums = [0.0; 16];
-    for k in 0..m {
-        add_scaled(entry(a, n, k, i), row(a, n, k), n, &mut sums[..n]);
-    }
-    copy(&sums[..n], n, y);
+    product_by_rule(|i, l| entry(a, k, i, l), b, m, k, n, out);
 }
 
 // Writes the n by n product of the transpose of a, m by n, and a.
+#[tactic(auto, using(dense::proofs::Laws::cell), unfolding(crate::specs::Products::gram))]
 pub(crate) fn ata(a: &[f64], m: usize, n: usize, out: &mut [f64])
     requires { (n ≤ 16) × (length a.now ≡ m * n) × (length out.old ≡ n * n) }
     ensures { out.new ≡ gram a.now m n }
 {
-    for i in 0..n {
-        let start = i * n;
-        ata_row(a, m, n, i, &mut out[start..start + n]);
-    }
+    product_by_rule(|i, l| entry(a, n, l, i), a, n, m, n, out);
 }
 
-// The same, by width.
-pub(crate) fn ata_by_width(a: &[f64], m: usize, n: usize, out: &mut [f64])
-    requires { (n ≤ 16) × (length a.now ≡ m * n) × (length out.old ≡ n * n) }
-    ensures { out.new ≡ gram a.now m n }
+// Writes the n by m transpose of a, m by n.
+#[tactic(auto, using(dense::proofs::Laws::cell), unfolding(crate::specs::Products::transposed))]
+pub(crate) fn transpose(a: &[f64], m: usize, n: usize, out: &mut [f64])
+    requires { (length a.now ≡ m * n) × (length out.old ≡ n * m) }
+    ensures { out.new ≡ transposed a.now m n }
 {
-    if n == 6 {
-        return ata(a, m, 6, out);
-    }
-    if n == 9 {
-        return ata(a, m, 9, out);
-    }
-    if n == 16 {
-        return ata(a, m, 16, out);
-    }
-    ata(a, m, n, out)
-}
-
-// Writes row i of half the sum of a, n by n, and its transpose.
-fn symmetric_row(a: &[f64], n: usize, i: usize, y: &mut [f64])
-    requires { (i < n) × (length a.now ≡ n * n) × (length y.old ≡ n) }
-    ensures { y.new ≡ tabulate n (symmetric_entry a.now n i) }
-{
-    for j in 0..n {
-        y[j] = (entry(a, n, i, j) + entry(a, n, j, i)) * 0.5;
-    }
+    fill_matrix(|i, j| entry(a, n, j, i), n, m, out);
 }
 
 // Writes half the sum of a, n by n, and its transpose.
+#[tactic(auto, using(dense::proofs::Laws::cell, crate::proofs::Symmetry::mean), unfolding(crate::specs::Products::symmetric_part))]
 pub(crate) fn symmetrize(a: &[f64], n: usize, out: &mut [f64])
     requires { (length a.now ≡ n * n) × (length out.old ≡ n * n) }
     ensures { out.new ≡ symmetric_part a.now n }
 {
-    for i in 0..n {
-        let start = i * n;
-        symmetric_row(a, n, i, &mut out[start..start + n]);
-    }
+    fill_matrix(
+        |i, j| (entry(a, n, i, j) + entry(a, n, j, i)) * 0.5,
+        n,
+        n,
+        out,
+    );
 }
 
 // Writes the product of a, n by n, and the vector x.
+#[tactic(auto, using(kernel::proofs::Lists::row_within, crate::proofs::Rows::row_times), unfolding(crate::specs::Products::times))]
 pub(crate) fn times_vector(a: &[f64], x: &[f64], n: usize, y: &mut [f64])
     requires { (length a.now ≡ n * n) × (length x.now ≡ n) × (length y.old ≡ n) }
     ensures { y.new ≡ times a.now x.now n n }
 {
-    for i in 0..n {
-        y[i] = dot(row(a, n, i), x, n);
-    }
+    fill(|i| dot(row(a, n, i), x), y);
 }
 
-// The same, by width.
-pub(crate) fn times_vector_by_width(a: &[f64], x: &[f64], n: usize, y: &mut [f64])
-    requires { (length a.now ≡ n * n) × (length x.now ≡ n) × (length y.old ≡ n) }
-    ensures { y.new ≡ times a.now x.now n n }
+// Has work write to out at width n. The compiler knows the widths of the usual states, and then unrolls the loops along
+// a row.
+pub(crate) fn by_width<F: FnOnce(usize, &mut [f64])>(n: usize, out: &mut [f64], work: F)
+    requires { (p : MutBor (List Float)) → p.now ≡ out.old → F.pre work n p }
+    ensures { (p q : MutBor (List Float)) × (p.now ≡ out.old) × (q.now ≡ out.new) × F.post work n p result q }
 {
-    if n == 6 {
-        return times_vector(a, x, 6, y);
+    match n {
+        6 => work(6, out),
+        9 => work(9, out),
+        16 => work(16, out),
+        _ => work(n, out),
     }
-    if n == 9 {
-        return times_vector(a, x, 9, y);
-    }
-    if n == 16 {
-        return times_vector(a, x, 16, y);
-    }
-    times_vector(a, x, n, y)
 }

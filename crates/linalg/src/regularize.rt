@@ -1,44 +1,34 @@
 // The calls of regularize.rs.
-ghost use Rattle.std.specs.Prelude.{◌≡◌, ◌+◌, ◌*◌, ◌<◌, length};
+ghost use Rattle.std.specs.Prelude.{◌≡◌, ◌*◌, length};
 ghost use Rattle.dense.specs.Answer.{Leaves};
-ghost use Rattle.kernel.specs.Lists.{tabulate};
-ghost use Rattle.linalg.specs.Regularize.{damped_entry, damped, tikhonov};
+ghost use Rattle.linalg.specs.Regularize.{damped, tikhonov};
 
-use dense::Written;
-use dense::shape::{are_matrices, is_side, row};
-use dense::vector::copy;
-use kernel::question::{LENGTH, SIDE};
-
-// Writes row i of a, n by n, with alpha added on the diagonal.
-fn damped_row(a: &[f64], alpha: f64, n: usize, i: usize, y: &mut [f64])
-    requires { (i < n) × (length a.now ≡ n * n) × (length y.old ≡ n) }
-    ensures { y.new ≡ tabulate n (damped_entry a.now n alpha i) }
-{
-    copy(row(a, n, i), n, y);
-    y[i] = y[i] + alpha;
-}
+use dense::shape::{are_matrices, is_side};
+use kernel::question::Question;
 
 // Writes a, n by n, with alpha added on the diagonal.
+#[tactic(auto, using(dense::proofs::Laws::inside, crate::proofs::Damping::damped_none, crate::proofs::Damping::damped_next, crate::proofs::Damping::damped_all))]
 fn damped(a: &[f64], alpha: f64, n: usize, out: &mut [f64])
     requires { (length a.now ≡ n * n) × (length out.old ≡ n * n) }
     ensures { out.new ≡ damped a.now alpha n }
 {
+    out.copy_from_slice(a);
     for i in 0..n {
-        let start = i * n;
-        damped_row(a, alpha, n, i, &mut out[start..start + n]);
+        out[i * n + i] = out[i * n + i] + alpha;
     }
 }
 
 // cov, n by n, plus alpha times the identity, into out.
-pub fn tikhonov(cov: &[f64], alpha: f64, n: usize, out: &mut [f64]) -> Written
+#[tactic(auto, using(dense::proofs::Tests::area), unfolding(dense::specs::Matrix::has_length, crate::specs::Regularize::tikhonov))]
+pub fn tikhonov(cov: &[f64], alpha: f64, n: usize, out: &mut [f64]) -> Result<(), Question>
     ensures { Leaves (tikhonov cov.now alpha n out.old) out.old result out.new }
 {
     if !is_side(n) {
-        return Written::Refused(SIDE);
+        return Err(Question::Side);
     }
     if !are_matrices(cov, n, n, out, n, n) {
-        return Written::Refused(LENGTH);
+        return Err(Question::Length);
     }
     damped(cov, alpha, n, out);
-    Written::Done
+    Ok(())
 }

@@ -2,10 +2,12 @@
 use Rattle.std.specs.Prelude.{ℕ, Bool, not, ◌&&◌, cond, List, [], ◌∷◌, eqb, Float}
 use Rattle.std.specs.Float.Ieee.{lt}
 use Rattle.kernel.specs.Number.{add, sub, mul, div, abs, max}
-use Rattle.kernel.specs.Answer.{Outcome, answered, ask}
+use Rattle.kernel.specs.Answer.{Outcome, ask}
 use Rattle.dense.specs.Matrix.{nth, at, matrix, has_length, max_abs}
 use Rattle.kernel.specs.Lists.{tabulate}
 use Rattle.kernel.specs.Constants.{one, rel_tol, min_positive}
+use Rattle.std.specs.Prelude.{Ok}
+use Rattle.kernel.specs.declared.question.Question.TheVariants as question
 
 -- the determinant by the cofactors of the first row
 unfoldable pub det3 : List Float → Float
@@ -55,14 +57,14 @@ solution3 a b = tabulate 3 (λ j. mul (det3 (replaced a b j)) (div one (det3 a))
 -- `mat3_det`
 unfoldable pub mat3_det : List Float → Outcome Float
 unfolding det3 has_length
-mat3_det m = ask 2 (has_length m 9) (answered (det3 m))
+mat3_det m = ask question.Length (has_length m 9) (Ok (det3 m))
 
 -- `mat3_inv`
 unfoldable pub mat3_inv : List Float → List Float → Outcome (List Float)
 unfolding inverse3 regular has_length
-mat3_inv m out = ask 2 (has_length m 9 && has_length out 9) (ask 8 (regular m) (answered (inverse3 m)))
+mat3_inv m out = ask question.Length (has_length m 9 && has_length out 9) (ask question.Determinant (regular m) (Ok (inverse3 m)))
 
 -- `mat3_solve`
 unfoldable pub mat3_solve : List Float → List Float → List Float → Outcome (List Float)
 unfolding solution3 regular has_length
-mat3_solve a b out = ask 2 (has_length a 9 && (has_length b 3 && has_length out 3)) (ask 8 (regular a) (answered (solution3 a b)))
+mat3_solve a b out = ask question.Length (has_length a 9 && (has_length b 3 && has_length out 3)) (ask question.Determinant (regular a) (Ok (solution3 a b)))

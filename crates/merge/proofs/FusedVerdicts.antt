@@ -1,5 +1,5 @@
 -- When a row has the verdict 5: `fused-verdict`. `no_base`: a row without a base track keeps 01's verdict. `passed_verdict` and
--- `passed_track`: what the pass makes of a row of a base track. `not_left`, `is_left`: what a fusion that wrote or did not says.
+-- `passed_track`: what the pass makes of a row of a base track.
 use Prim.Native.Nat.{ℕ, ◌≤◌}
 use native.Mathlib.Omega.{arith}
 use mathlib.Core.Path.{◌≡◌, refl, sym, ap, ◌∙◌}
@@ -9,7 +9,6 @@ use lib.Dec.{T, eqb}
 use lib.Ieee.{Float}
 use borrow.Author.Tests.{eqb-true, eq-eqb}
 use Rattle.fusion.specs.Fusion.{Fusing, none, track, is_fused}
-use Rattle.fusion.specs.Private.{left_by}
 use Rattle.pairing.specs.Keys.{nobody}
 use Rattle.pairing.proofs.Tests.{both, left, right, is_true}
 use Rattle.merge.specs.Tracks.{ThreeLists}
@@ -95,16 +94,6 @@ module _ (lists : ThreeLists) (floor : Float) (i j k : ℕ) where
     exactly = (λ e. passes (by_test (eqb v conflict && there) v (verdict-few (is_track i) (is_track j) (is_track k) _) e), λ f. by-true (eqb v conflict && there) v (fuses f));
     otherwise = λ n. by-false (eqb v conflict && there) v (λ t. n (passes t));
   }
-
--- ---- a track that is written where there is one
-
-pub not_left : (o : Fusing) (old : List Float) {r : Bool} {new : List Float} → (r, new) ≡ left_by o old → r ≡ false → o ≡ none
-not_left none old e f = refl
-not_left (track v) old e f = absurd (let z : ◌≡◌ {A = ℕ} 0 1 = ap (λ (b : Bool). cond b 1 0) (sym f ∙ ap (λ (x : Bool × List Float). x.0) e) in omega arith)
-
-pub is_left : (o : Fusing) (old : List Float) {r : Bool} {new : List Float} → (r, new) ≡ left_by o old → r ≡ true → o ≡ track new
-is_left (track v) old e f = ap (λ (x : Bool × List Float). track x.1) (sym e)
-is_left none old e f = absurd (let z : ◌≡◌ {A = ℕ} 1 0 = ap (λ (b : Bool). cond b 1 0) (sym f ∙ ap (λ (x : Bool × List Float). x.0) e) in omega arith)
 
 -- ---- the pass
 

@@ -1,7 +1,7 @@
 -- Demand 3 of document 01, undivided: what every answered merge gives, read off the answer and the buffer's bytes afterwards. Three records say what the rows are
 -- (`MergeRows`), what the counts are (`RowCounts`) and what the buffer holds (`RowBuffer`); `Demand3` joins them, and `Demanded` puts it of a call's answer.
 use Rattle.std.specs.Prelude.{ℕ, ◌+◌, ◌*◌, ◌<◌, ◌≤◌, ◌≡◌, ◌↔◌, List, T, eqb, length, get_or, Float}
-use Rattle.kernel.specs.Answer.{answered}
+use Rattle.kernel.specs.Answer.{Outcome}
 use Rattle.tracks.specs.Read.{TrackList, contents, count}
 use Rattle.pairing.specs.Pairing.{Pair, Pairs, has, In, Candidates, ShareTrack, Pairing, free_second, blocking}
 use Rattle.merge.specs.Tracks.{ThreeLists, track_count, track_at, equal_tracks}
@@ -9,8 +9,7 @@ use Rattle.merge.specs.Candidates.{candidates_of, CandidatePair, EarlierPair, am
 use Rattle.merge.specs.Fused.{merged_verdict}
 use Rattle.merge.specs.Buffer.{base_in, ours_in, theirs_in, verdict_in, tracks_in, TrackOrNone, how_many, base_with_ours, base_with_theirs, ours_with_theirs, Before}
 use Rattle.merge.specs.declared.Counts.{Counts}
-use Rattle.merge.specs.declared.Merged.{Merged}
-use Rattle.merge.specs.declared.Merged.TheVariants as merged
+use Rattle.std.specs.Prelude.{Ok}
 
 -- Exactly one number below n.
 abbrev pub ExactlyOne : ℕ → (ℕ → Type 0) → Type 0
@@ -79,9 +78,9 @@ pub record RowBuffer (n : ℕ) (old new : List ℕ) : Type 0 where
 pub record Demand3 (base ours theirs : List ℕ) (floor gate : Float) (old new : List ℕ) (counts : Counts) : Type 0 where
   -- the three lists, as they are read
   pub lists : ThreeLists
-  pub base_read : contents base ≡ answered lists.base
-  pub ours_read : contents ours ≡ answered lists.ours
-  pub theirs_read : contents theirs ≡ answered lists.theirs
+  pub base_read : contents base ≡ Ok lists.base
+  pub ours_read : contents ours ≡ Ok lists.ours
+  pub theirs_read : contents theirs ≡ Ok lists.theirs
   -- A list has as many tracks as its first byte says.
   pub base-number : track_count lists.base ≡ count base
   pub ours-number : track_count lists.ours ≡ count ours
@@ -93,5 +92,5 @@ pub record Demand3 (base ours theirs : List ℕ) (floor gate : Float) (old new :
   pub of_buffer : RowBuffer rows old new
 
 -- That an answer of counts gives it. What a refusal is stands in `after_merge`.
-abbrev pub Demanded : List ℕ → List ℕ → List ℕ → Float → Float → List ℕ → Merged → List ℕ → Type 0
-Demanded base ours theirs floor gate old r new = (counts : Counts) → r ≡ merged.Counts counts → Demand3 base ours theirs floor gate old new counts
+abbrev pub Demanded : List ℕ → List ℕ → List ℕ → Float → Float → List ℕ → Outcome Counts → List ℕ → Type 0
+Demanded base ours theirs floor gate old r new = (counts : Counts) → r ≡ Ok counts → Demand3 base ours theirs floor gate old new counts

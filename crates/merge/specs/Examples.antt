@@ -4,7 +4,7 @@ use mathlib.Core.List.{List, [], ◌∷◌, flat_map}
 use Rattle.std.specs.Float.Ieee as Ieee
 use Rattle.std.specs.Float.Ieee.{of_bits}
 use Rattle.std.specs.Float.{binary64}
-use Rattle.kernel.specs.Answer.{Outcome, refused}
+use Rattle.kernel.specs.Answer.{Outcome}
 use Rattle.kernel.specs.Bytes.{word, same_bytes}
 use Rattle.kernel.specs.Constants.{one}
 use Rattle.kernel.specs.Lists.{tabulate, over}
@@ -20,8 +20,9 @@ use Rattle.merge.specs.Rows.{rows_with, verdict, verdict_on, tracks_among, selec
 use Rattle.merge.specs.Fused.{merged_verdict}
 use Rattle.merge.specs.Merge.{partners_in, pairings_of, merged_rows, accepted_lists, merged_lists, MergedLists, merging, after_merge}
 use Rattle.merge.specs.Winner.{place_in, winning, winner_bytes}
-use Rattle.merge.specs.declared.Merged.TheVariants.{Counts}
-use Rattle.merge.specs.declared.winner.WinningPart.TheVariants.{Nobody, Theirs}
+use Rattle.merge.specs.declared.winner.WinningPart.TheVariants.{Theirs}
+use Rattle.std.specs.Prelude.{Ok, Err, None, Some}
+use Rattle.kernel.specs.declared.question.Question.TheVariants as question
 
 -- The record of a track of dimension 1 with variance 1, before the bytes that follow: its state has these three bytes, which are its highest, the highest last.
 abbrev pub unit_track : ℕ → ℕ → ℕ → List ℕ → List ℕ
@@ -53,25 +54,25 @@ unfolding merging accepted_lists merged_lists contents floor_and_gate merged_row
 outcome_k = merging base-k ours-k theirs-k one gate-k 33
 
 -- The three rows, then the bytes that stay, and two rows with three tracks, one with two.
-pub merge-k : after_merge outcome_k buffer_k ≡ (Counts (record { full = 2; half = 1; single = 0 }), 0 ∷ 0 ∷ 0 ∷ 0 ∷ 1 ∷ 255 ∷ 1 ∷ 3 ∷ 2 ∷ 1 ∷ 2 ∷ 2 ∷ replicate 21 7)
+pub merge-k : after_merge outcome_k buffer_k ≡ (Ok (record { full = 2; half = 1; single = 0 }), 0 ∷ 0 ∷ 0 ∷ 0 ∷ 1 ∷ 255 ∷ 1 ∷ 3 ∷ 2 ∷ 1 ∷ 2 ∷ 2 ∷ replicate 21 7)
 unfolding outcome_k merged_verdict verdict_on verdict equal_tracks same_bytes rows_with tracks_among flat_map over word of_bits Ieee.div Ieee.mul
     Ieee.sub Ieee.add Ieee.lt Ieee.le Ieee.eq Ieee.neg Ieee.is_nan
 merge-k = refl
 
 -- A buffer of one byte less than they ask for is refused.
-pub merge-k_short : merging base-k ours-k theirs-k one gate-k 31 ≡ refused 19
+pub merge-k_short : merging base-k ours-k theirs-k one gate-k 31 ≡ Err question.RowBuffer
 unfolding merging accepted_lists merged_lists contents floor_and_gate word of_bits Ieee.lt Ieee.le
 merge-k_short = refl
 
 -- The last row takes the third record of theirs, the 17 bytes from offset 36 on; the one before it takes none.
-pub winner-k : winning ours-k theirs-k (2 ∷ 1 ∷ 2 ∷ 2 ∷ []) ≡ Theirs 36 17
+pub winner-k : winning ours-k theirs-k (2 ∷ 1 ∷ 2 ∷ 2 ∷ []) ≡ Some (Theirs (record { start = 36; length = 17 }))
 unfolding winning place_in contents offset record_at word
 winner-k = refl
 
-pub winner-k-bytes : winner_bytes ours-k theirs-k (Theirs 36 17) ≡ unit_track 0x80 0x3E 0x40 []
+pub winner-k-bytes : winner_bytes ours-k theirs-k (Some (Theirs (record { start = 36; length = 17 }))) ≡ unit_track 0x80 0x3E 0x40 []
 unfolding contents record_at word
 winner-k-bytes = refl
 
-pub winner-k-none : winning ours-k theirs-k (1 ∷ 255 ∷ 1 ∷ 3 ∷ []) ≡ Nobody
+pub winner-k-none : winning ours-k theirs-k (1 ∷ 255 ∷ 1 ∷ 3 ∷ []) ≡ None
 unfolding winning
 winner-k-none = refl

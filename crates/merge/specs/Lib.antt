@@ -2,6 +2,7 @@ pub mod Tracks
 pub mod Candidates
 pub mod Rows
 pub mod Fused
+pub mod Verdict
 pub mod Winner
 pub mod Merge
 pub mod Buffer

@@ -1,7 +1,7 @@
 -- The merge: its questions in their order, in two steps, its rows, and what it leaves in the caller's buffer.
 use Rattle.std.specs.Prelude.{ℕ, ◌+◌, ◌*◌, Bool, ◌&&◌, eqb, leb, Float}
 use mathlib.Core.List.{List, flat_map}
-use Rattle.kernel.specs.Answer.{Outcome, refused, answered, ask, and_then}
+use Rattle.kernel.specs.Answer.{Outcome, ask, and_then}
 use Rattle.kernel.specs.Lists.{over}
 use Rattle.tracks.specs.Read.{contents}
 use Rattle.compare.specs.Distance.{floor_and_gate}
@@ -12,8 +12,8 @@ use Rattle.merge.specs.Candidates.{candidates_of, among}
 use Rattle.merge.specs.Rows.{Row, row_bytes, rows_with, Partners, Pairings, rows_of}
 use Rattle.merge.specs.Fused.{merged_verdict}
 use Rattle.merge.specs.declared.Counts.{Counts}
-use Rattle.merge.specs.declared.Merged.{Merged}
-use Rattle.merge.specs.declared.Merged.TheVariants as merged
+use Rattle.std.specs.Prelude.{Ok, Err}
+use Rattle.kernel.specs.declared.question.Question.TheVariants as question
 
 -- ---- the pairings and the rows of accepted lists
 
@@ -50,8 +50,8 @@ accepted_lists base ours theirs =
     and_then (contents ours) (λ o.
     and_then (contents theirs) (λ t.
     let lists : ThreeLists = record { base = b; ours = o; theirs = t } in
-    ask 17 (one_dimension lists)
-    (answered lists))))
+    ask question.OneDimension (one_dimension lists)
+    (Ok lists))))
 
 -- What a merge finds: the three lists as they were read, and the rows.
 pub record MergedLists : Type 0 where
@@ -61,9 +61,9 @@ pub record MergedLists : Type 0 where
 -- The second step, the merge of accepted lists into a buffer of some length: questions 18 and 19.
 unfoldable pub merged_lists : Float → Float → ℕ → ThreeLists → Outcome MergedLists
 merged_lists floor gate room lists =
-    ask 18 (floor_and_gate floor gate)
-    (ask 19 (room_for lists room)
-    (answered (record { lists = lists; rows = merged_rows lists floor gate })))
+    ask question.FloorAndGate (floor_and_gate floor gate)
+    (ask question.RowBuffer (room_for lists room)
+    (Ok (record { lists = lists; rows = merged_rows lists floor gate })))
 
 -- The merge of three lists into a buffer of some length.
 unfoldable pub merging : List ℕ → List ℕ → List ℕ → Float → Float → ℕ → Outcome MergedLists
@@ -81,6 +81,6 @@ abbrev pub rows_left : List Row → List ℕ → List ℕ
 rows_left rows old = over old 0 (flat_map row_bytes rows)
 
 -- The answer, and the buffer afterwards. A refusal leaves it as it was.
-abbrev pub after_merge : Outcome MergedLists → List ℕ → Merged × List ℕ
-after_merge (refused q) old = (merged.Refused q, old)
-after_merge (answered m) old = (merged.Counts (counts_of m.rows), rows_left m.rows old)
+abbrev pub after_merge : Outcome MergedLists → List ℕ → Outcome Counts × List ℕ
+after_merge (Err q) old = (Err q, old)
+after_merge (Ok m) old = (Ok (counts_of m.rows), rows_left m.rows old)

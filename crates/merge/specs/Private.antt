@@ -2,43 +2,42 @@
 use Rattle.std.specs.Prelude.{ℕ, ◌+◌, ◌*◌, ◌<◌, ◌≤◌, ◌≡◌, Bool, true, cond, ◌&&◌, eqb, length, get_or, take, Float}
 use mathlib.Core.List.{List, [], ◌∷◌, flat_map}
 use Rattle.std.specs.Float.{nan}
-use Rattle.kernel.specs.Answer.{Outcome, refused, answered}
+use Rattle.kernel.specs.Answer.{Outcome, ask, and_then}
+use Rattle.kernel.specs.Bytes.{Bytes}
 use Rattle.kernel.specs.Lists.{over, tabulate}
 use Rattle.dense.specs.Matrix.{nth, row_of, matrix, is_side}
 use Rattle.fusion.specs.Fusion.{Fusing, none, track, fused}
 use Rattle.tracks.specs.Layout.{fields}
 use Rattle.tracks.specs.Read.{TrackList, contents}
 use Rattle.tracks.specs.Record.{offset}
-use Rattle.tracks.specs.declared.read.ReadList.{ReadList}
-use Rattle.tracks.specs.declared.read.ReadList.TheVariants as reading
+use Rattle.tracks.specs.declared.read.ListSize.{ListSize}
 use Rattle.compare.specs.Distance.{compared}
 use Rattle.compare.specs.Fields.{track_state, track_covariance}
 use Rattle.pairing.specs.Keys.{nobody, from_keys, is_free}
-use Rattle.pairing.specs.Private.{nobodies}
-use Rattle.merge.specs.Tracks.{ThreeLists, track_count}
+use Rattle.tracks.specs.Calls.{doubles}
+use Rattle.merge.specs.Tracks.{ThreeLists, track_count, track_at}
 use Rattle.merge.specs.Candidates.{candidacy_of, rank}
 use Rattle.merge.specs.Rows.{Row, row_bytes, row_at, is_track, keep, conflict, verdict_on, rows_of, selected, Partners, Pairings}
 use Rattle.merge.specs.Fused.{fuse, fusion}
-use Rattle.merge.specs.Merge.{partners_in, pairings_of}
+use Rattle.merge.specs.Merge.{partners_in, pairings_of, accepted_lists}
 use Rattle.merge.specs.Buffer.{TrackOrNone, base_in, ours_in, theirs_in, verdict_in, tracks_in, how_many}
 use Rattle.merge.specs.declared.Counts.{Counts}
-use Rattle.merge.specs.declared.Merged.{Merged}
-use Rattle.merge.specs.declared.Merged.TheVariants as merged
 use Rattle.merge.specs.declared.keys.Terms.{Terms}
 use Rattle.merge.specs.declared.pairings.Partners as TableOf
 use Rattle.merge.specs.declared.pairings.Pairings as TablesOf
 use Rattle.merge.specs.declared.questions.Sizes.{Sizes}
-use Rattle.merge.specs.declared.questions.Accepted.{Accepted}
-use Rattle.merge.specs.declared.questions.Accepted.TheVariants as accepted
+use Rattle.merge.specs.declared.verdict.Lists.{Lists}
 use Rattle.merge.specs.declared.verdict.Offsets.{Offsets}
 use Rattle.merge.specs.declared.verdict.Indices.{Indices}
+use Rattle.std.specs.Prelude.{Ok, Err}
+use Rattle.kernel.specs.declared.question.Question.TheVariants as question
 
 -- ---- lists that are read
 
 -- The tracks of a list. A list that is refused has none here.
 abbrev pub held_in : Outcome TrackList → TrackList
-held_in (refused q) = record { dimension = 0; tracks = [] }
-held_in (answered c) = c
+held_in (Err q) = record { dimension = 0; tracks = [] }
+held_in (Ok c) = c
 
 abbrev pub held : List ℕ → TrackList
 held l = held_in (contents l)
@@ -46,16 +45,12 @@ held l = held_in (contents l)
 abbrev pub held_three : List ℕ → List ℕ → List ℕ → ThreeLists
 held_three base ours theirs = record { base = held base; ours = held ours; theirs = held theirs }
 
--- That a list is accepted, and that numbers say where its tracks start and the last one ends.
+-- That a list of bytes is accepted, and that numbers say where its tracks start and the last one ends.
 pub record Located (l offsets : List ℕ) : Type 0 where
-  pub accepted : contents l ≡ answered (held l)
+  pub bytes : Bytes l
+  pub accepted : contents l ≡ Ok (held l)
   pub places : (j : ℕ) → j ≤ track_count (held l) → get_or offsets j 0 ≡ offset l j
   pub room : length offsets ≡ 33
-
--- That track i is one of such a list.
-pub record LocatedTrack (l offsets : List ℕ) (i : ℕ) : Type 0 where
-  pub located : Located l offsets
-  pub index : i < track_count (held l)
 
 -- The same of three lists of one dimension.
 pub record AllLocated (base ours theirs : List ℕ) (offsets : Offsets) : Type 0 where
@@ -65,6 +60,17 @@ pub record AllLocated (base ours theirs : List ℕ) (offsets : Offsets) : Type 0
   pub ours-dimension : (held ours).dimension ≡ (held base).dimension
   pub theirs-dimension : (held theirs).dimension ≡ (held base).dimension
 
+abbrev pub AllPlaced : Lists → Type 0
+AllPlaced lists = AllLocated lists.base.list.now lists.ours.list.now lists.theirs.list.now (record {
+  base = lists.base.offsets.now;
+  ours = lists.ours.offsets.now;
+  theirs = lists.theirs.offsets.now;
+})
+
+-- The tracks of three lists.
+abbrev pub held_lists : Lists → ThreeLists
+held_lists lists = held_three lists.base.list.now lists.ours.list.now lists.theirs.list.now
+
 -- That these are the sizes of three lists.
 pub record SizesOf (lists : ThreeLists) (sizes : Sizes) : Type 0 where
   pub of_base : sizes.base ≡ track_count lists.base
@@ -73,27 +79,51 @@ pub record SizesOf (lists : ThreeLists) (sizes : Sizes) : Type 0 where
   pub of_dimension : sizes.dimension ≡ lists.base.dimension
 
 -- What three readings tell, in one: the first refusal, or the sizes of lists of one dimension.
-abbrev pub same_dimension : Sizes → ℕ → ℕ → Accepted
-same_dimension sizes ours-d theirs-d = cond (eqb sizes.dimension ours-d && eqb sizes.dimension theirs-d) (accepted.Lists sizes) (accepted.Refused 17)
+abbrev pub three_of : Outcome ListSize → Outcome ListSize → Outcome ListSize → Outcome Sizes
+three_of base ours theirs =
+    and_then base (λ b.
+    and_then ours (λ o.
+    and_then theirs (λ t.
+    ask question.OneDimension (eqb b.dimension o.dimension && eqb b.dimension t.dimension)
+    (Ok (record { base = b.count; ours = o.count; theirs = t.count; dimension = b.dimension })))))
 
-abbrev pub three_of : ReadList → ReadList → ReadList → Accepted
-three_of (reading.Refused q) ours theirs = accepted.Refused q
-three_of (reading.Read m d) (reading.Refused q) theirs = accepted.Refused q
-three_of (reading.Read m d) (reading.Read n ours-d) (reading.Refused q) = accepted.Refused q
-three_of (reading.Read m d) (reading.Read n ours-d) (reading.Read l theirs-d) =
-    same_dimension (record { base = m; ours = n; theirs = l; dimension = d }) ours-d theirs-d
+-- That a list is read: where its n tracks stand, and values that hold their fields in front.
+pub record Read (l offsets : List ℕ) (values : List Float) (n : ℕ) : Type 0 where
+  pub located : Located l offsets
+  pub number : n ≡ track_count (held l)
+  pub long : length values ≡ 1728
+  pub fields_of_lem : (i : ℕ) → i < n → row_of values (fields (held l).dimension) i ≡ doubles (track_at (held l) i).values
+
+-- That three lists of these sizes are read.
+pub record AllRead (base ours theirs : List ℕ) (offsets : Offsets) (base-values ours-values theirs-values : List Float) (sizes : Sizes) : Type 0 where
+  pub of_base : Read base offsets.base base-values sizes.base
+  pub of_ours : Read ours offsets.ours ours-values sizes.ours
+  pub of_theirs : Read theirs offsets.theirs theirs-values sizes.theirs
+  pub base-dimension : sizes.dimension ≡ (held base).dimension
+  pub ours-dimension : sizes.dimension ≡ (held ours).dimension
+  pub theirs-dimension : sizes.dimension ≡ (held theirs).dimension
+
+-- What an answer to all three says of them.
+abbrev pub ThreeAnswered : List ℕ → List ℕ → List ℕ → Offsets → List Float → List Float → List Float → Outcome Sizes → Type 0
+ThreeAnswered base ours theirs offsets base-values ours-values theirs-values (Ok sizes) = AllRead base ours theirs offsets base-values ours-values theirs-values sizes
+ThreeAnswered base ours theirs offsets base-values ours-values theirs-values (Err q) = accepted_lists base ours theirs ≡ Err q
+
+-- That there is room for the values of the longest lists.
+pub record ValuesRoom (base ours theirs : List Float) : Type 0 where
+  pub of_base : length base ≡ 1728
+  pub of_ours : length ours ≡ 1728
+  pub of_theirs : length theirs ≡ 1728
 
 -- ---- keys
 
 -- What tracks of a dimension are compared by.
 abbrev pub terms_of : ℕ → Float → Float → Terms
-terms_of d floor gate = record { d = d; f = fields d; floor = floor; gate = gate }
+terms_of d floor gate = record { d = d; floor = floor; gate = gate }
 
 -- That tracks can be compared by these terms.
 pub record Compares (terms : Terms) : Type 0 where
   pub some : 1 ≤ terms.d
   pub few : terms.d ≤ 9
-  pub number : terms.f ≡ fields terms.d
 
 -- That values hold n tracks of f fields.
 pub record Values (values : List Float) (n f : ℕ) : Type 0 where
@@ -110,25 +140,25 @@ pub record Comparable (terms : Terms) (mu p q : List Float) : Type 0 where
 -- The same with the fields v of the other track.
 pub record OneKey (terms : Terms) (mu p v q : List Float) : Type 0 where
   pub track : Comparable terms mu p q
-  pub other : length v ≡ terms.f
+  pub other : length v ≡ fields terms.d
 
 -- And with others, as many as there is room for keys.
 pub record SomeKeys (terms : Terms) (mu p vs q keys : List Float) : Type 0 where
   pub track : Comparable terms mu p q
-  pub others : Values vs (length keys) terms.f
+  pub others : Values vs (length keys) (fields terms.d)
 
 -- That the track with the fields u can be compared with n others, and that there is room for their keys.
 pub record KeyRow (terms : Terms) (u vs : List Float) (n : ℕ) (keys : List Float) : Type 0 where
   pub compares : Compares terms
-  pub track : length u ≡ terms.f
-  pub others : Values vs n terms.f
+  pub track : length u ≡ fields terms.d
+  pub others : Values vs n (fields terms.d)
   pub room : length keys ≡ n
 
 -- That the tracks of two lists can be compared, and those of three.
 pub record TwoValues (terms : Terms) (us : List Float) (m : ℕ) (vs : List Float) (n : ℕ) : Type 0 where
   pub compares : Compares terms
-  pub firsts : Values us m terms.f
-  pub seconds : Values vs n terms.f
+  pub firsts : Values us m (fields terms.d)
+  pub seconds : Values vs n (fields terms.d)
 
 pub record ThreeValues (base ours theirs : List Float) (sizes : Sizes) (floor gate : Float) : Type 0 where
   pub compares : Compares (terms_of sizes.dimension floor gate)
@@ -160,12 +190,12 @@ key_among terms first second u v = cond (first && second) (key_between terms u v
 
 -- The keys of one track, free or not, and n of a list.
 abbrev pub keys_from : Terms → Bool → List Float → List Float → List Float → List ℕ → ℕ → List Float
-keys_from terms first mu p vs partners n = tabulate n (λ j. cond (first && is_free partners j) (key_from terms mu p (row_of vs terms.f j)) nan)
+keys_from terms first mu p vs partners n = tabulate n (λ j. cond (first && is_free partners j) (key_from terms mu p (row_of vs (fields terms.d) j)) nan)
 
 -- The keys of m tracks of one list and n of another, among those that are free by their partners in earlier pairings.
 abbrev pub keys_between : Terms → List Float → List ℕ → ℕ → List Float → List ℕ → ℕ → List Float
 keys_between terms us us-partners m vs vs-partners n =
-    matrix m n (λ i j. key_among terms (is_free us-partners i) (is_free vs-partners j) (row_of us terms.f i) (row_of vs terms.f j))
+    matrix m n (λ i j. key_among terms (is_free us-partners i) (is_free vs-partners j) (row_of us (fields terms.d) i) (row_of vs (fields terms.d) j))
 
 -- ---- pairings
 
@@ -184,6 +214,11 @@ pairings_in p sizes = record {
 unfoldable pub partners_between : Terms → List Float → List ℕ → ℕ → List Float → List ℕ → ℕ → Partners
 unfolding partners_in
 partners_between terms us us-partners m vs vs-partners n = partners_in (from_keys (keys_between terms us us-partners m vs vs-partners n) m n)
+
+-- The table of n tracks that are all free.
+unfoldable pub nobodies : ℕ → List ℕ
+unfolding tabulate
+nobodies n = tabulate n (λ k. nobody)
 
 -- The three pairings of lists with these values and sizes.
 abbrev pub paired_values : Terms → List Float → List Float → List Float → Sizes → Pairings
@@ -272,32 +307,32 @@ pub record TwoIndices (a a-offsets : List ℕ) (i : ℕ) (b b-offsets : List ℕ
   pub one_dimension : (held a).dimension ≡ (held b).dimension
 
 -- That these are indices of three lists, and that the lists are located too.
-pub record RowIndices (base ours theirs : List ℕ) (row : Indices) : Type 0 where
-  pub of_base : Index base row.base
-  pub of_ours : Index ours row.ours
-  pub of_theirs : Index theirs row.theirs
+pub record RowIndices (lists : Lists) (row : Indices) : Type 0 where
+  pub of_base : Index lists.base.list.now row.base
+  pub of_ours : Index lists.ours.list.now row.ours
+  pub of_theirs : Index lists.theirs.list.now row.theirs
 
-pub record ThreeIndices (base ours theirs : List ℕ) (offsets : Offsets) (row : Indices) : Type 0 where
-  pub lists : AllLocated base ours theirs offsets
-  pub indices : RowIndices base ours theirs row
+pub record ThreeIndices (lists : Lists) (row : Indices) : Type 0 where
+  pub located : AllPlaced lists
+  pub indices : RowIndices lists row
 
 -- The indices in row r of a buffer.
 abbrev pub indices_in : List ℕ → ℕ → Indices
 indices_in rows r = record { base = base_in rows r; ours = ours_in rows r; theirs = theirs_in rows r }
 
 -- That the first rows of a buffer have indices of three lists, so that their verdicts can be written.
-pub record RowsToDecide (base ours theirs : List ℕ) (offsets : Offsets) (total : ℕ) (rows : List ℕ) : Type 0 where
-  pub lists : AllLocated base ours theirs offsets
+pub record RowsToDecide (lists : Lists) (total : ℕ) (rows : List ℕ) : Type 0 where
+  pub located : AllPlaced lists
   pub few : total ≤ 96
   pub room : 4 * total ≤ length rows
-  pub indices : (r : ℕ) → r < total → RowIndices base ours theirs (indices_in rows r)
+  pub indices : (r : ℕ) → r < total → RowIndices lists (indices_in rows r)
 
 -- The verdict on three tracks of three lists, and row r of a buffer with its verdict.
-abbrev pub verdict_held : List ℕ → List ℕ → List ℕ → ℕ → ℕ → ℕ → ℕ
-verdict_held base ours theirs = verdict_on (held_three base ours theirs)
+abbrev pub verdict_held : Lists → ℕ → ℕ → ℕ → ℕ
+verdict_held lists = verdict_on (held_lists lists)
 
-abbrev pub decided_row : List ℕ → List ℕ → List ℕ → List ℕ → ℕ → Row
-decided_row base ours theirs rows r = row_at (verdict_held base ours theirs) (base_in rows r) (ours_in rows r) (theirs_in rows r)
+abbrev pub decided_row : Lists → List ℕ → ℕ → Row
+decided_row lists rows r = row_at (verdict_held lists) (base_in rows r) (ours_in rows r) (theirs_in rows r)
 
 -- ---- all of it
 
@@ -310,10 +345,10 @@ counts_in rows total = record {
 }
 
 -- That the rows of three lists can be written: where their tracks are, their sizes, their pairings, and room.
-pub record ToWrite (base ours theirs : List ℕ) (offsets : Offsets) (sizes : Sizes) (p : TablesOf.Pairings) (rows : List ℕ) : Type 0 where
-  pub lists : AllLocated base ours theirs offsets
-  pub sized : SizesOf (held_three base ours theirs) sizes
-  pub paired : Paired (held_three base ours theirs) p sizes
+pub record ToWrite (lists : Lists) (sizes : Sizes) (p : TablesOf.Pairings) (rows : List ℕ) : Type 0 where
+  pub located : AllPlaced lists
+  pub sized : SizesOf (held_lists lists) sizes
+  pub paired : Paired (held_lists lists) p sizes
   pub room : 4 * (sizes.base + sizes.ours + sizes.theirs) ≤ length rows
 
 -- ---- the pass over the verdicts
@@ -370,7 +405,7 @@ abbrev pub passed_values : Sizes → Float → List Float → List Float → Lis
 passed_values sizes floor base ours theirs rows = matrix sizes.base (fields sizes.dimension) (λ r. nth (pass_at sizes.dimension floor base ours theirs rows r).1)
 
 -- That the fused tracks of an answered merge stand in values, each in the place of its base track.
-abbrev pub FusedStand : List ℕ → List ℕ → List ℕ → Float → Merged → List ℕ → List Float → Type 0
+abbrev pub FusedStand : List ℕ → List ℕ → List ℕ → Float → Outcome Counts → List ℕ → List Float → Type 0
 FusedStand base ours theirs floor r rows values =
-    (counts : Counts) → r ≡ merged.Counts counts → (q : ℕ) → q < counts.full + counts.half + counts.single → verdict_in rows q ≡ fuse
+    (counts : Counts) → r ≡ Ok counts → (q : ℕ) → q < counts.full + counts.half + counts.single → verdict_in rows q ≡ fuse
     → fusion (held_three base ours theirs) floor (base_in rows q) (ours_in rows q) (theirs_in rows q) ≡ track (row_of values (fields (held base).dimension) (base_in rows q))

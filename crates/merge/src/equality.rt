@@ -7,25 +7,23 @@ ghost use Rattle.merge.specs.Private.{held, TwoIndices};
 use crate::NO_TRACK;
 use tracks::record::{same_record, track_record};
 
+// A list, and where its tracks start and the last one ends.
+#[derive(Clone, Copy)]
+pub(crate) struct Placed<'a> {
+    pub(crate) list: &'a [u8],
+    pub(crate) offsets: &'a [usize],
+}
+
 // Whether track i of one list and track j of another are there and have equal records.
-pub(crate) fn same_tracks(
-    a: &[u8],
-    a_offsets: &[usize],
-    i: u8,
-    b: &[u8],
-    b_offsets: &[usize],
-    j: u8,
-) -> bool
-    requires { TwoIndices a.now a_offsets.now i b.now b_offsets.now j }
-    ensures { result ≡ (is_track i && (is_track j && equal_tracks (held a.now) i (held b.now) j)) }
+#[tactic(auto, using(crate::proofs::Readings::Located::compared))]
+pub(crate) fn same_tracks(a: Placed, i: u8, b: Placed, j: u8) -> bool
+    requires { TwoIndices a.list.now a.offsets.now i b.list.now b.offsets.now j }
+    ensures { result ≡ (is_track i && (is_track j && equal_tracks (held a.entry.list.now) i (held b.entry.list.now) j)) }
 {
-    if i == NO_TRACK {
+    if i == NO_TRACK || j == NO_TRACK {
         return false;
     }
-    if j == NO_TRACK {
-        return false;
-    }
-    let x = track_record(a, a_offsets, i as usize);
-    let y = track_record(b, b_offsets, j as usize);
+    let x = track_record(a.list, a.offsets, i as usize);
+    let y = track_record(b.list, b.offsets, j as usize);
     same_record(x, y)
 }

@@ -7,9 +7,8 @@ ghost use Rattle.merge.specs.Private.{RowToFuse, RowsToFuse, fusion_of, after_fu
 
 use crate::NO_TRACK;
 use crate::questions::Sizes;
-use crate::verdict::{CONFLICT, FUSE};
+use crate::verdict::Verdict;
 use dense::shape::row;
-use dense::vector::copy;
 use fusion::inside::fuse_tracks;
 use tracks::inside::fields;
 
@@ -23,7 +22,7 @@ fn fuse_over(base: &mut [f64], ours: &[f64], theirs: &[f64], d: usize, floor: f6
     if !fuse_tracks(base, ours, theirs, d, floor, &mut out[..f]) {
         return false;
     }
-    copy(&out[..f], f, base);
+    base.copy_from_slice(&out[..f]);
     true
 }
 
@@ -41,20 +40,14 @@ fn verdict_after(
     requires { RowToFuse d j k base.old ours_values.now theirs_values.now }
     ensures { (result, base.new) ≡ after_fusion v j k (fusion_of d floor base.old ours_values.now j theirs_values.now k) base.old }
 {
-    if v != CONFLICT {
-        return v;
-    }
-    if j == NO_TRACK {
-        return v;
-    }
-    if k == NO_TRACK {
+    if v != Verdict::Conflict.number() || j == NO_TRACK || k == NO_TRACK {
         return v;
     }
     let f = fields(d);
     let o = row(ours_values, f, j as usize);
     let t = row(theirs_values, f, k as usize);
     if fuse_over(base, o, t, d, floor) {
-        return FUSE;
+        return Verdict::Fuse.number();
     }
     v
 }
@@ -76,6 +69,7 @@ pub(crate) fn fuse_rows(
 {
     let d = sizes.dimension;
     let f = fields(d);
+    // A row and the values of its base track change together.
     for i in 0..sizes.base {
         let start = i * f;
         let v = verdict_after(

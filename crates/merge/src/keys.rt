@@ -3,20 +3,21 @@ ghost use Rattle.std.specs.Prelude.{◌≡◌, ◌*◌, eqb, length};
 ghost use Rattle.std.specs.Float.{nan};
 ghost use Rattle.kernel.specs.Lists.{tabulate};
 ghost use Rattle.dense.specs.Matrix.{row_of};
+ghost use Rattle.tracks.specs.Layout.{fields};
 ghost use Rattle.pairing.specs.Keys.{nobody, is_free};
 ghost use Rattle.merge.specs.Candidates.{candidacy_of, rank};
 ghost use Rattle.merge.specs.Private.{OneKey, SomeKeys, KeyRow, TwoValues, KeysInFront, key_from, key_among, keys_from, keys_between};
 
-use crate::pairings::both_free;
+use crate::NO_TRACK;
 use compare::Comparison;
 use compare::inside::{compare_tracks, track_covariance};
 use dense::shape::row;
+use tracks::inside::fields;
 
-// What tracks are compared by: their dimension and number of fields, the floor and the gate.
+// What tracks are compared by: their dimension, the floor and the gate.
 #[derive(Clone, Copy)]
 pub(crate) struct Terms {
     pub(crate) d: usize,
-    pub(crate) f: usize,
     pub(crate) floor: f64,
     pub(crate) gate: f64,
 }
@@ -25,7 +26,7 @@ pub(crate) struct Terms {
 fn no_key() -> f64
     ensures { result ≡ nan }
 {
-    0.0 / 0.0
+    f64::NAN
 }
 
 // The rank of two tracks that are compared.
@@ -34,8 +35,7 @@ fn rank(c: Comparison) -> f64
 {
     match c {
         Comparison::Near(d2) => d2,
-        Comparison::Far(_) => no_key(),
-        Comparison::NoDistance => no_key(),
+        Comparison::Far(_) | Comparison::NoDistance => no_key(),
     }
 }
 
@@ -52,6 +52,7 @@ fn key(mu: &[f64], p: &[f64], v: &[f64], terms: Terms, q: &mut [f64]) -> f64
 }
 
 // Writes the keys of one track, with the partner `first` in an earlier pairing, and tracks of the second list, as many as there is room for keys.
+#[tactic(auto, using(dense::proofs::Laws::by_entries))]
 fn put_keys(
     mu: &[f64],
     p: &[f64],
@@ -65,15 +66,15 @@ fn put_keys(
     requires { SomeKeys terms mu.now p.now vs.now q.old keys.old }
     ensures { keys.new ≡ keys_from terms (eqb first nobody) mu.now p.now vs.now partners (length keys.old) }
 {
-    let f = terms.f;
+    let f = fields(terms.d);
     let n = keys.len();
+    // The room for a covariance is written for each key, which a closure of `fill` cannot do.
     for j in 0..n {
-        if both_free(first, partners[j]) {
-            let v = row(vs, f, j);
-            keys[j] = key(mu, p, v, terms, q);
+        keys[j] = if first == NO_TRACK && partners[j] == NO_TRACK {
+            key(mu, p, row(vs, f, j), terms, q)
         } else {
-            keys[j] = no_key();
-        }
+            no_key()
+        };
     }
 }
 
@@ -88,7 +89,7 @@ fn key_row(
     keys: &mut [f64],
 )
     requires { KeyRow terms u.now vs.now n keys.old }
-    ensures { keys.new ≡ tabulate n (λ j. key_among terms (eqb first nobody) (is_free partners j) u.now (row_of vs.now terms.f j)) }
+    ensures { keys.new ≡ tabulate n (λ j. key_among terms (eqb first nobody) (is_free partners j) u.now (row_of vs.now (fields terms.d) j)) }
 {
     let mut p = [0.0f64; 81];
     let mut q = [0.0f64; 81];
@@ -121,7 +122,8 @@ pub(crate) fn keys_between(
     requires { TwoValues terms us.now m vs.now n × (length keys.old ≡ 1024) }
     ensures { KeysInFront (m * n) (keys_between terms us.now us_partners m vs.now vs_partners n) keys.new }
 {
-    let f = terms.f;
+    let f = fields(terms.d);
+    // Each row of keys is lent.
     for i in 0..m {
         let u = row(us, f, i);
         let start = i * n;

@@ -18,26 +18,21 @@ pub mod winner;
 mod writing;
 
 use inside::merge_fused;
+use kernel::question::Question;
 
 // What stands in a row for no track.
 pub const NO_TRACK: u8 = pairing::NOBODY;
 
 // How many rows have three, two and one track.
-#[derive(Clone, Copy)]
+#[derive(Clone, Copy, Debug, PartialEq, Eq)]
 pub struct Counts {
     pub full: usize,
     pub half: usize,
     pub single: usize,
 }
 
-// What a merge answers: its counts, or the number of the first question that is not met.
-#[derive(Clone, Copy)]
-pub enum Merged {
-    Counts(Counts),
-    Refused(u8),
-}
-
 // Merges ours and theirs over their base. The rows go to the front of the buffer, four bytes each, and the rest of it stays.
+#[tactic(auto, using(crate::proofs::Demand::EveryAnswer::demanded))]
 pub fn merge(
     base: &[u8],
     ours: &[u8],
@@ -45,7 +40,7 @@ pub fn merge(
     floor: f64,
     gate: f64,
     rows: &mut [u8],
-) -> Merged
+) -> Result<Counts, Question>
     ensures rows_after { (result, rows.new) ≡ after_merge (merging base.now ours.now theirs.now floor gate (length rows.old)) rows.old }
     ensures demanded { Demanded base.now ours.now theirs.now floor gate rows.old result rows.new }
 {

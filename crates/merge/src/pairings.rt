@@ -1,6 +1,6 @@
 // The partners of the tracks of two lists, and the three pairings of a merge.
-ghost use Rattle.std.specs.Prelude.{◌≡◌, ◌*◌, ◌&&◌, eqb, take};
-ghost use Rattle.pairing.specs.Keys.{from_keys, nobody};
+ghost use Rattle.std.specs.Prelude.{◌≡◌, ◌*◌, take};
+ghost use Rattle.pairing.specs.Keys.{from_keys};
 ghost use Rattle.merge.specs.Merge.{partners_in};
 ghost use Rattle.merge.specs.Private.{TwoValues, ThreeValues, KeysFor, terms_of, partners_of, partners_between, pairings_in, paired_values};
 
@@ -8,7 +8,6 @@ use crate::NO_TRACK;
 use crate::keys::{Terms, keys_between};
 use crate::questions::Sizes;
 use pairing::pair_tracks;
-use tracks::inside::fields;
 
 // Each track's partner in a pairing, or 255.
 #[derive(Clone, Copy)]
@@ -25,16 +24,6 @@ pub(crate) struct Pairings {
     pub(crate) ours_theirs: Partners,
 }
 
-// Whether two entries of tables of partners say that nobody is there.
-pub(crate) fn both_free(first: u8, second: u8) -> bool
-    ensures { result ≡ (eqb first nobody && eqb second nobody) }
-{
-    if first != NO_TRACK {
-        return false;
-    }
-    second == NO_TRACK
-}
-
 // The partners of m first and n second tracks, by the keys in front of a slice.
 fn partners_by(keys: &[f64], m: usize, n: usize) -> Partners
     requires { KeysFor m n keys.now }
@@ -43,12 +32,13 @@ fn partners_by(keys: &[f64], m: usize, n: usize) -> Partners
     let mut firsts = [NO_TRACK; 32];
     let mut seconds = [NO_TRACK; 32];
     let size = m * n;
-    pair_tracks(&keys[..size], m, n, &mut firsts[..m], &mut seconds[..n]);
+    pair_tracks(&keys[..size], &mut firsts[..m], &mut seconds[..n]);
     Partners { firsts, seconds }
 }
 
 // The partners of m tracks of one list and n of another, among those that are free by their partners in earlier pairings. The keys lie
 // in its frame, so that three pairings take room for those of one.
+#[tactic(auto, unfolding(crate::specs::Private::partners_between, crate::specs::Merge::partners_in))]
 fn pair_lists(
     us: &[f64],
     us_partners: [u8; 32],
@@ -67,6 +57,7 @@ fn pair_lists(
 }
 
 // Pairs base with ours, base with theirs, and then those of ours and of theirs that have no base track.
+#[tactic(auto, using(crate::proofs::Matching::Tables::all_paired))]
 pub(crate) fn pair_all(
     base_values: &[f64],
     ours_values: &[f64],
@@ -82,8 +73,7 @@ pub(crate) fn pair_all(
     let n = sizes.ours;
     let l = sizes.theirs;
     let d = sizes.dimension;
-    let f = fields(d);
-    let terms = Terms { d, f, floor, gate };
+    let terms = Terms { d, floor, gate };
     let free = [NO_TRACK; 32];
     let base_ours = pair_lists(base_values, free, m, ours_values, free, n, terms);
     let base_theirs = pair_lists(base_values, free, m, theirs_values, free, l, terms);

@@ -1,9 +1,10 @@
 // What is told of three lists that are read: questions 9 to 16 of base, of ours and of theirs, then 17.
 ghost use Rattle.std.specs.Prelude.{◌≡◌};
-ghost use Rattle.merge.specs.Private.{same_dimension, three_of};
+ghost use Rattle.merge.specs.Private.{three_of, ValuesRoom, ThreeAnswered};
 
-use kernel::question;
-use tracks::read::ReadList;
+use crate::verdict::Offsets;
+use kernel::question::Question;
+use tracks::read::{ListSize, read_with_offsets};
 
 // How many tracks base, ours and theirs have, and their one dimension.
 #[derive(Clone, Copy)]
@@ -14,56 +15,43 @@ pub(crate) struct Sizes {
     pub(crate) dimension: usize,
 }
 
-// The sizes of three lists, or the number of the first question that is not met.
-#[derive(Clone, Copy)]
-pub(crate) enum Accepted {
-    Lists(Sizes),
-    Refused(u8),
-}
-
-// Question 17, of lists of these sizes; the dimension there is that of base.
-fn one_dimension(sizes: Sizes, ours_d: usize, theirs_d: usize) -> Accepted
-    ensures { result ≡ same_dimension sizes ours_d theirs_d }
-{
-    if sizes.dimension != ours_d {
-        return Accepted::Refused(question::ONE_DIMENSION);
-    }
-    if sizes.dimension != theirs_d {
-        return Accepted::Refused(question::ONE_DIMENSION);
-    }
-    Accepted::Lists(sizes)
-}
-
-// The three answers in one.
-pub(crate) fn three_of(base: ReadList, ours: ReadList, theirs: ReadList) -> Accepted
+// Three answers in one: the sizes of lists of one dimension, or the first question that is not met.
+fn three_of(
+    base: Result<ListSize, Question>,
+    ours: Result<ListSize, Question>,
+    theirs: Result<ListSize, Question>,
+) -> Result<Sizes, Question>
     ensures { result ≡ three_of base ours theirs }
 {
-    match base {
-        ReadList::Refused(q) => Accepted::Refused(q),
-        ReadList::Read {
-            count: m,
-            dimension: d,
-        } => match ours {
-            ReadList::Refused(q) => Accepted::Refused(q),
-            ReadList::Read {
-                count: n,
-                dimension: ours_d,
-            } => match theirs {
-                ReadList::Refused(q) => Accepted::Refused(q),
-                ReadList::Read {
-                    count: l,
-                    dimension: theirs_d,
-                } => one_dimension(
-                    Sizes {
-                        base: m,
-                        ours: n,
-                        theirs: l,
-                        dimension: d,
-                    },
-                    ours_d,
-                    theirs_d,
-                ),
-            },
-        },
+    let base = base?;
+    let ours = ours?;
+    let theirs = theirs?;
+    if base.dimension != ours.dimension || base.dimension != theirs.dimension {
+        return Err(Question::OneDimension);
     }
+    Ok(Sizes {
+        base: base.count,
+        ours: ours.count,
+        theirs: theirs.count,
+        dimension: base.dimension,
+    })
+}
+
+// Reads the three lists: the fields of their tracks go to the values, and where they stand to the offsets.
+pub(crate) fn read_three(
+    base: &[u8],
+    ours: &[u8],
+    theirs: &[u8],
+    base_values: &mut [f64],
+    ours_values: &mut [f64],
+    theirs_values: &mut [f64],
+    offsets: &mut Offsets,
+) -> Result<Sizes, Question>
+    requires { ValuesRoom base_values.old ours_values.old theirs_values.old }
+    ensures { ThreeAnswered base.now ours.now theirs.now offsets.new base_values.new ours_values.new theirs_values.new result }
+{
+    let base = read_with_offsets(base, base_values, &mut offsets.base);
+    let ours = read_with_offsets(ours, ours_values, &mut offsets.ours);
+    let theirs = read_with_offsets(theirs, theirs_values, &mut offsets.theirs);
+    three_of(base, ours, theirs)
 }

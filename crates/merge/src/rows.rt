@@ -5,9 +5,9 @@ ghost use Rattle.kernel.specs.Lists.{over};
 ghost use Rattle.merge.specs.Private.{undecided, undecided_row, rows_by, rows_bytes, base_group, ours_group, theirs_group, only_if, Appended, RowsRoom, AllRowsRoom};
 
 use crate::NO_TRACK;
-use crate::pairings::{Pairings, Partners, both_free};
+use crate::pairings::{Pairings, Partners};
 use crate::questions::Sizes;
-use crate::verdict::KEEP;
+use crate::verdict::Verdict;
 
 // Writes row r of three indices, its verdict not yet decided, where it is wanted, and gives the row after it.
 fn put_row(wanted: bool, i: u8, j: u8, k: u8, r: usize, rows: &mut [u8]) -> usize
@@ -20,7 +20,7 @@ fn put_row(wanted: bool, i: u8, j: u8, k: u8, r: usize, rows: &mut [u8]) -> usiz
     rows[4 * r] = i;
     rows[4 * r + 1] = j;
     rows[4 * r + 2] = k;
-    rows[4 * r + 3] = KEEP;
+    rows[4 * r + 3] = Verdict::Keep.number();
     r + 1
 }
 
@@ -31,6 +31,7 @@ fn base_rows(base_ours: Partners, base_theirs: Partners, m: usize, rows: &mut [u
 {
     let ours_of = base_ours.firsts;
     let theirs_of = base_theirs.firsts;
+    // Each row of the buffer goes after the one before.
     for i in 0..m {
         put_row(true, i as u8, ours_of[i], theirs_of[i], i, rows);
     }
@@ -50,6 +51,7 @@ fn ours_rows(
     let base_of = base_ours.seconds;
     let theirs_of = ours_theirs.firsts;
     let mut r = at;
+    // Each row of the buffer goes after the one before.
     for j in 0..n {
         r = put_row(
             base_of[j] == NO_TRACK,
@@ -77,9 +79,10 @@ fn theirs_rows(
     let base_of = base_theirs.seconds;
     let ours_of = ours_theirs.seconds;
     let mut r = at;
+    // Each row of the buffer goes after the one before.
     for k in 0..l {
         r = put_row(
-            both_free(base_of[k], ours_of[k]),
+            base_of[k] == NO_TRACK && ours_of[k] == NO_TRACK,
             NO_TRACK,
             NO_TRACK,
             k as u8,

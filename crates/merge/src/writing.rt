@@ -8,23 +8,15 @@ use crate::counting::count_rows;
 use crate::pairings::Pairings;
 use crate::questions::Sizes;
 use crate::rows::write_rows;
-use crate::verdict::{Offsets, write_verdicts};
+use crate::verdict::{Lists, write_verdicts};
 
 // Writes the rows of three lists of these sizes, paired like this, and counts them.
-pub(crate) fn write_merge(
-    base: &[u8],
-    ours: &[u8],
-    theirs: &[u8],
-    offsets: Offsets,
-    sizes: Sizes,
-    pairings: Pairings,
-    rows: &mut [u8],
-) -> Counts
-    requires { ToWrite base.now ours.now theirs.now offsets sizes pairings rows.old }
-    ensures value { result ≡ counts_of (rows_by (verdict_held base.now ours.now theirs.now) pairings sizes) }
-    ensures rows_after { rows.new ≡ rows_left (rows_by (verdict_held base.now ours.now theirs.now) pairings sizes) rows.old }
+pub(crate) fn write_merge(lists: Lists, sizes: Sizes, pairings: Pairings, rows: &mut [u8]) -> Counts
+    requires { ToWrite lists sizes pairings rows.old }
+    ensures value { result ≡ counts_of (rows_by (verdict_held lists.entry) pairings sizes) }
+    ensures rows_after { rows.new ≡ rows_left (rows_by (verdict_held lists.entry) pairings sizes) rows.old }
 {
     let total = write_rows(pairings, sizes, rows);
-    write_verdicts(base, ours, theirs, offsets, total, rows);
+    write_verdicts(lists, total, rows);
     count_rows(rows, total)
 }

@@ -1,5 +1,5 @@
--- The tracks that rows take. `takers_are`: there are as many as rows that take one. `chosen-accepted`: their list is accepted, with those tracks, and so has at most 14,050 bytes
--- (`list-size`).
+-- The tracks that rows take. `takers_are`: there are as many as rows that take one. `chosen-accepted`: their list is
+-- accepted, with those tracks, and so has at most 14,050 bytes (`list-size`).
 use Prim.Native.Nat.{ℕ, zero, suc, ◌<◌, ◌≤◌}
 use native.Mathlib.Omega.{arith}
 use mathlib.Core.Path.{◌≡◌, refl, sym, ap, subst, ◌∙◌}
@@ -7,7 +7,6 @@ use mathlib.Core.Bool.{true}
 use mathlib.Core.List.{List, [], ◌∷◌, ◌++◌, flat_map}
 use lib.Ieee.{Float}
 use lib.ListN.{length, length-append}
-use Rattle.kernel.specs.Answer.{answered}
 use Rattle.kernel.specs.Bytes.{Bytes}
 use Rattle.kernel.specs.Lists.{tabulate}
 use Rattle.tracks.specs.Layout.{fields, count_met}
@@ -27,6 +26,7 @@ use Rattle.merge_list.specs.MergeList.{fused_track, chosen, chosen_list, with_ve
 use Rattle.merge_list.specs.Private.{row_in, rows_in, RowsStand, found}
 use Rattle.merge_list.proofs.Verdicts.{Case, of_base, of_ours, of_theirs, of_fused, of_none, case_of, one}
 use Rattle.merge_list.proofs.Fused.{fused_fit}
+use Rattle.std.specs.Prelude.{Ok}
 
 -- ---- what is known of the rows
 
@@ -39,9 +39,9 @@ pub record Takes (lists : ThreeLists) (floor : Float) (w : Row) : Type 0 where
 
 -- three lists of one dimension, rows in a buffer, and that each takes a track that is there
 pub record RowsTake (base ours theirs : List ℕ) (floor : Float) (rows : List ℕ) (total : ℕ) : Type 0 where
-  pub base_read : contents base ≡ answered (held base)
-  pub ours_read : contents ours ≡ answered (held ours)
-  pub theirs_read : contents theirs ≡ answered (held theirs)
+  pub base_read : contents base ≡ Ok (held base)
+  pub ours_read : contents ours ≡ Ok (held ours)
+  pub theirs_read : contents theirs ≡ Ok (held theirs)
   pub ours-dimension : (held ours).dimension ≡ (held base).dimension
   pub theirs-dimension : (held theirs).dimension ≡ (held base).dimension
   pub stand : RowsStand rows total
@@ -125,7 +125,7 @@ module _ {base ours theirs rows : List ℕ} {floor : Float} {total : ℕ} (hb : 
     unfolding chosen_list
     count_met_lem = ap count_met (takers_are lists floor (rows_in rows total)) ∙ few
 
-    pub chosen-accepted : contents (list_of merged) ≡ answered merged
+    pub chosen-accepted : contents (list_of merged) ≡ Ok merged
     unfolding chosen_list
     chosen-accepted = list-accepted merged count_met_lem (contents_met base p.base_read).sized (tracks_fit total (omega arith))
 

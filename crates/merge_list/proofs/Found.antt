@@ -1,18 +1,20 @@
--- What a merge leaves in front of an array: `rows_in_lem`, the rows that it found; `rows_take`, that each takes a track; `fused_in`, where the fused ones stand; `rows-front`, the rows'
--- bytes. `room_alike`: a buffer for rows that is longer than any rows makes no difference. `found_is`: what the merge found, by the array.
+-- What a merge leaves in front of an array: `rows_in_lem`, the rows that it found; `rows_take`, that each takes a
+-- track; `fused_in`, where the fused ones stand; `rows-front`, the rows' bytes. `room_alike`: a buffer for rows that is
+-- longer than any rows makes no difference. `found_is`: what the merge found, by the array.
 use Prim.Native.Nat.{ℕ, ◌+◌, ◌*◌, ◌<◌, ◌≤◌}
 use native.Mathlib.Omega.{arith}
 use mathlib.Core.Path.{◌≡◌, refl, sym, ap, subst, subst₂, ◌∙◌}
 use mathlib.Core.Logic.{inl, inr}
 use mathlib.Core.Bool.{Bool, true, false, not, ◌&&◌, cond}
 use mathlib.Core.List.{List, ◌++◌, flat_map}
-use lib.Dec.{eqb, ltb, leb}
+use lib.Dec.{eqb, leb}
+use Rattle.std.specs.Prelude.{min}
 use lib.Ieee.{Float}
 use lib.ListN.{length, get_or, take, length-append, get_or-append}
 use lib.Seq.{take-append-le}
-use borrow.Author.Tests.{le-leb, ltb-false, eq-eqb, eqb-true}
-use Rattle.kernel.specs.Answer.{Outcome, refused, answered, and_then}
-use Rattle.kernel.proofs.Answers.{never}
+use borrow.Author.Tests.{le-leb, lt-leb, leb-true, leb-false, eq-eqb, eqb-true}
+use Rattle.kernel.specs.Answer.{Outcome, and_then}
+use Rattle.kernel.proofs.Answers.{never, never_both, answered_inj, refused_inj}
 use Rattle.kernel.proofs.Lists.{by_elements, take-over}
 use Rattle.dense.specs.Matrix.{row_of}
 use Rattle.tracks.specs.Layout.{fields}
@@ -26,37 +28,38 @@ use Rattle.merge.specs.Demand3.{Demand3, Demanded}
 use Rattle.pairing.specs.Keys.{nobody}
 use Rattle.merge.specs.Private.{held_in, held_three, FusedStand}
 use Rattle.merge.specs.declared.Counts.{Counts}
-use Rattle.merge.specs.declared.Merged.{Merged}
-use Rattle.merge.specs.declared.Merged.TheVariants as merged
+use Rattle.kernel.specs.declared.question.Question.{Question}
 use Rattle.merge.proofs.Readings.Tracks.{few-tracks}
 use Rattle.merge.proofs.Buffers.Bytes.{rows-length, row-byte, front-byte}
 use Rattle.merge.proofs.FusedVerdicts.{fused-verdict}
 use Rattle.merge.proofs.Demand.EveryAnswer.{Accepted, lists-accepted, was_found, rows-counted}
 use Rattle.merge.proofs.Demand.FusedRows.{lists-held, row_fuses}
-use Rattle.merge_list.specs.Private.{shorter, row_in, rows_in, RowsStand, found}
+use Rattle.merge_list.specs.Private.{row_in, rows_in, RowsStand, found}
 use Rattle.merge_list.specs.MergeList.{fusion_in}
 use Rattle.merge_list.proofs.Chosen.{Takes, RowsTake}
 use Rattle.merge_list.proofs.ListBytes.{FusedIn}
+use Rattle.std.specs.Prelude.{Ok, Err}
 
 -- ---- room
 
-room-same : (lists : ThreeLists) (n : ℕ) → (track_count lists.base ≤ 32) × (track_count lists.ours ≤ 32) × (track_count lists.theirs ≤ 32) → room_for lists (shorter n) ≡ room_for lists n
-room-same lists n few = by (ltb n 384) refl
+room-same : (lists : ThreeLists) (n : ℕ) → (track_count lists.base ≤ 32) × (track_count lists.ours ≤ 32) × (track_count lists.theirs ≤ 32)
+    → room_for lists (min n 384) ≡ room_for lists n
+room-same lists n few = by (4 * (track_count lists.base + track_count lists.ours + track_count lists.theirs)) (omega (arith, few))
   where
-    all : ℕ
-    all = 4 * (track_count lists.base + track_count lists.ours + track_count lists.theirs)
+    by : (all : ℕ) → all ≤ 384 → leb all (min n 384) ≡ leb all n
+    by all h = cases (leb all n) refl
+      where
+        cases : (b : Bool) → leb all n ≡ b → leb all (min n 384) ≡ leb all n
+        cases true e = le-leb all (min n 384) (omega (arith, h, leb-true all n e)) ∙ sym e
+        cases false e = lt-leb all (min n 384) (omega (arith, h, leb-false all n e)) ∙ sym e
 
-    by : (b : Bool) → ltb n 384 ≡ b → leb all (cond b n 384) ≡ leb all n
-    by true e = refl
-    by false e = le-leb all 384 (omega (arith, few)) ∙ sym (le-leb all n (omega (arith, few, ltb-false n 384 e)))
-
-pub room_alike : (base ours theirs : List ℕ) (floor gate : Float) (n : ℕ) → merging base ours theirs floor gate (shorter n) ≡ merging base ours theirs floor gate n
+pub room_alike : (base ours theirs : List ℕ) (floor gate : Float) (n : ℕ) → merging base ours theirs floor gate (min n 384) ≡ merging base ours theirs floor gate n
 unfolding merging merged_lists
 room_alike base ours theirs floor gate n = by (accepted_lists base ours theirs) refl
   where
-    by : (o : Outcome ThreeLists) → accepted_lists base ours theirs ≡ o → and_then o (merged_lists floor gate (shorter n)) ≡ and_then o (merged_lists floor gate n)
-    by (refused q) e = refl
-    by (answered lists) e =
+    by : (o : Outcome ThreeLists) → accepted_lists base ours theirs ≡ o → and_then o (merged_lists floor gate (min n 384)) ≡ and_then o (merged_lists floor gate n)
+    by (Err q) e = refl
+    by (Ok lists) e =
         let a = lists-accepted base ours theirs e in
         rw (room-same lists n (few-tracks base lists.base a.base_read, few-tracks ours lists.ours a.ours_read, few-tracks theirs lists.theirs a.theirs_read)) refl
 
@@ -97,25 +100,14 @@ none : Row
 none = record { base = 0; ours = 0; theirs = 0; verdict = 0 }
 
 -- what was found, by an answer of counts
-counts_found : (old : List ℕ) {counts : Counts} {new : List ℕ} (o : Outcome MergedLists) → ◌≡◌ {A = Merged × List ℕ} (merged.Counts counts, new) (after_merge o old)
-    → (m : MergedLists) × (o ≡ answered m) × (counts ≡ counts_of m.rows) × (new ≡ rows_left m.rows old)
-counts_found old {counts} (refused q) e =
-    let f : merged.Counts counts ≡ merged.Refused q = ap (λ (x : Merged × List ℕ). x.0) e in
-    let z : ◌≡◌ {A = ℕ} 0 1 = cc in
-    absurd (omega arith)
-counts_found old {counts} (answered m) e =
-    let f : merged.Counts counts ≡ merged.Counts (counts_of m.rows) = ap (λ (x : Merged × List ℕ). x.0) e in
-    (m, refl, cc, ap (λ (x : Merged × List ℕ). x.1) e)
+counts_found : (old : List ℕ) {counts : Counts} {new : List ℕ} (o : Outcome MergedLists) → ◌≡◌ {A = Outcome Counts × List ℕ} (Ok counts, new) (after_merge o old)
+    → (m : MergedLists) × (o ≡ Ok m) × (counts ≡ counts_of m.rows) × (new ≡ rows_left m.rows old)
+counts_found old (Err q) e = never_both (ap (λ (x : Outcome Counts × List ℕ). x.0) e)
+counts_found old (Ok m) e = (m, refl, answered_inj (ap (λ (x : Outcome Counts × List ℕ). x.0) e), ap (λ (x : Outcome Counts × List ℕ). x.1) e)
 
-pub refusal-found : (old : List ℕ) {q : ℕ} {new : List ℕ} (o : Outcome MergedLists) → ◌≡◌ {A = Merged × List ℕ} (merged.Refused q, new) (after_merge o old) → o ≡ refused q
-refusal-found old {q} (refused k) e =
-    let f : merged.Refused q ≡ merged.Refused k = ap (λ (x : Merged × List ℕ). x.0) e in
-    let z : k ≡ q = cc in
-    ap refused z
-refusal-found old {q} (answered m) e =
-    let f : merged.Refused q ≡ merged.Counts (counts_of m.rows) = ap (λ (x : Merged × List ℕ). x.0) e in
-    let z : ◌≡◌ {A = ℕ} 0 1 = cc in
-    absurd (omega arith)
+pub refusal_found : (old : List ℕ) {q : Question} {new : List ℕ} (o : Outcome MergedLists) → ◌≡◌ {A = Outcome Counts × List ℕ} (Err q, new) (after_merge o old) → o ≡ Err q
+refusal_found old (Err k) e = ap Err (sym (refused_inj (ap (λ (x : Outcome Counts × List ℕ). x.0) e)))
+refusal_found old (Ok m) e = never_both (sym (ap (λ (x : Outcome Counts × List ℕ). x.0) e))
 
 one_dimension_lem : (lists : ThreeLists) → one_dimension lists ≡ true → (lists.base.dimension ≡ lists.ours.dimension) × (lists.base.dimension ≡ lists.theirs.dimension)
 one_dimension_lem lists e =
@@ -129,8 +121,8 @@ one_dimension_lem lists e =
     both false y e = never e
 
 module _ {base ours theirs : List ℕ} {floor gate : Float} {old new : List ℕ} {counts : Counts} (rest : List ℕ)
-    (e : ◌≡◌ {A = Merged × List ℕ} (merged.Counts counts, new) (after_merge (merging base ours theirs floor gate (length old)) old))
-    (given : Demanded base ours theirs floor gate old (merged.Counts counts) new) where
+    (e : ◌≡◌ {A = Outcome Counts × List ℕ} (Ok counts, new) (after_merge (merging base ours theirs floor gate (length old)) old))
+    (given : Demanded base ours theirs floor gate old (Ok counts) new) where
   abbrev d : Demand3 base ours theirs floor gate old new counts
   d = given counts refl
 
@@ -141,7 +133,7 @@ module _ {base ours theirs : List ℕ} {floor gate : Float} {old new : List ℕ}
   abbrev pub array : List ℕ
   array = new ++ rest
 
-  was : (m : MergedLists) × (merging base ours theirs floor gate (length old) ≡ answered m) × (counts ≡ counts_of m.rows) × (new ≡ rows_left m.rows old)
+  was : (m : MergedLists) × (merging base ours theirs floor gate (length old) ≡ Ok m) × (counts ≡ counts_of m.rows) × (new ≡ rows_left m.rows old)
   was = counts_found old (merging base ours theirs floor gate (length old)) e
 
   abbrev rows : List Row
@@ -244,14 +236,14 @@ module _ {base ours theirs : List ℕ} {floor gate : Float} {old new : List ℕ}
       }
 
   -- what stands in values
-  pub fused_in : (values : List Float) → FusedStand base ours theirs floor (merged.Counts counts) new values → FusedIn (held_three base ours theirs) floor array total values
+  pub fused_in : (values : List Float) → FusedStand base ours theirs floor (Ok counts) new values → FusedIn (held_three base ours theirs) floor array total values
   fused_in values f r h =
       let lists = held_three base ours theirs in
       subst (λ (w : Row). w.verdict ≡ fuse → fusion_in lists floor w ≡ track (row_of values (fields lists.base.dimension) w.base)) (sym (row_same r h)) (f counts refl r h)
 
   -- what the merge found, by the array
-  pub found_is : merging base ours theirs floor gate (length old) ≡ answered (found base ours theirs array total)
-  found_is = was.1 ∙ (λ i. answered (record { lists = lists_were i; rows = sym rows_in_lem i }))
+  pub found_is : merging base ours theirs floor gate (length old) ≡ Ok (found base ours theirs array total)
+  found_is = was.1 ∙ (λ i. Ok (record { lists = lists_were i; rows = sym rows_in_lem i }))
 
   -- the counts are those of its rows, and the rows' bytes stand in front
   pub counts_are : counts ≡ counts_of (rows_in array total)

@@ -3,7 +3,7 @@ pub mod Taken
 pub mod Fused
 pub mod Chosen
 pub mod ListBytes
-pub mod Asked
 pub mod Found
 pub mod Places
 pub mod Written
+pub mod Left

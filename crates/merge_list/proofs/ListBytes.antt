@@ -1,13 +1,12 @@
--- The bytes of the merged list. `record-chosen`: the record that a row takes is that of its track; `list_shape`: so the list is the two bytes of count and dimension and those
--- records. `to_list`: all that it is made from.
+-- The bytes of the merged list. `record-chosen`: the record that a row takes is that of its track; `list_shape`: so the
+-- list is the two bytes of count and dimension and those records. `to_list`: all that it is made from.
 use Prim.Native.Nat.{ℕ, zero, suc, ◌+◌, ◌*◌, ◌<◌, ◌≤◌}
 use native.Mathlib.Omega.{arith}
 use mathlib.Core.Path.{◌≡◌, refl, sym, ap, subst, ◌∙◌}
-use mathlib.Core.List.{List, [], ◌∷◌, ◌++◌, flat_map, append-nil}
-use borrow.Author.Tests.{le-leb, eqb-true}
+use mathlib.Core.List.{List, ◌∷◌, ◌++◌, flat_map, append-nil}
+use borrow.Author.Tests.{le-leb}
 use lib.Ieee.{Float}
 use lib.ListN.{length, drop, length-take, length-drop, replicate}
-use Rattle.kernel.specs.Answer.{answered}
 use Rattle.kernel.specs.Bytes.{Bytes}
 use Rattle.kernel.specs.Lists.{tabulate}
 use Rattle.dense.specs.Matrix.{row_of}
@@ -30,9 +29,11 @@ use Rattle.merge.specs.Private.{held, held_three}
 use Rattle.merge.proofs.Readings.Tracks.{few-tracks}
 use Rattle.merge_list.specs.MergeList.{fusion_in, fused_track, chosen, chosen_list, takers}
 use Rattle.merge_list.specs.Private.{row_in, rows_in, offsets_of, located, placed_record, record_taken, records_taken, list_taken, ToList, found}
+use Rattle.merge_list.specs.declared.records.Lists.{Lists}
 use Rattle.merge_list.proofs.Verdicts.{Case, of_base, of_ours, of_theirs, of_fused, of_none, case_of}
 use Rattle.merge_list.proofs.Fused.{fused_fit}
 use Rattle.merge_list.proofs.Chosen.{Takes, RowsTake, takers_are, list-size}
+use Rattle.std.specs.Prelude.{Ok}
 
 -- that the fused tracks of the first rows stand in values, each in the place of its base track
 abbrev pub FusedIn : ThreeLists → Float → List ℕ → ℕ → List Float → Type 0
@@ -40,7 +41,7 @@ FusedIn lists floor rows total values =
     (r : ℕ) → r < total → (row_in rows r).verdict ≡ fuse → fusion_in lists floor (row_in rows r) ≡ track (row_of values (fields lists.base.dimension) (row_in rows r).base)
 
 -- the record of track i of an accepted list, by the offsets that `track_offsets` leaves
-record-here : (l : List ℕ) → Bytes l → contents l ≡ answered (held l) → (i : ℕ) → i < track_count (held l)
+record-here : (l : List ℕ) → Bytes l → contents l ≡ Ok (held l) → (i : ℕ) → i < track_count (held l)
     → track_record l (offsets_of l) i ≡ record_of (held l).dimension (track_at (held l) i)
 record-here l h ok i lt = records_by-offsets l (held l) ok (replicate 33 0) (omega (arith, few-tracks l (held l) ok)) i lt ∙ record-fields l h (held l) ok i lt
 
@@ -49,8 +50,20 @@ row_inside : (values : List Float) (f i : ℕ) → 0 < f → length (row_of valu
 unfolding row_of
 row_inside values f i some e = omega (arith, e, length-take f (drop (i * f) values), length-drop (i * f) values)
 
-module _ {base ours theirs rows : List ℕ} {floor : Float} {total : ℕ} (hb : Bytes base) (ho : Bytes ours) (ht : Bytes theirs) (p : RowsTake base ours theirs floor rows total)
-    (values : List Float) (stands : FusedIn (held_three base ours theirs) floor rows total values) where
+module _ (l : Lists) {rows : List ℕ} {floor : Float} {total : ℕ} (hb : Bytes l.base.now) (ho : Bytes l.ours.now) (ht : Bytes l.theirs.now)
+    (p : RowsTake l.base.now l.ours.now l.theirs.now floor rows total) (stands : FusedIn (held_three l.base.now l.ours.now l.theirs.now) floor rows total l.values.now) where
+  abbrev base : List ℕ
+  base = l.base.now
+
+  abbrev ours : List ℕ
+  ours = l.ours.now
+
+  abbrev theirs : List ℕ
+  theirs = l.theirs.now
+
+  abbrev values : List Float
+  values = l.values.now
+
   abbrev lists : ThreeLists
   lists = held_three base ours theirs
 
@@ -61,7 +74,7 @@ module _ {base ours theirs rows : List ℕ} {floor : Float} {total : ℕ} (hb : 
   same_dimension_lem = (contents_met base p.base_read).dimension
 
   -- a row's record is that of its track
-  record-chosen : (r : ℕ) → r < total → let w = row_in rows r in record_taken (located base ours theirs values) w ≡ records_of d (chosen lists floor w)
+  record-chosen : (r : ℕ) → r < total → let w = row_in rows r in record_taken (located l) w ≡ records_of d (chosen lists floor w)
   unfolding record_taken chosen records_of flat_map placed_record
   record-chosen r h = by (case_of w.verdict)
     where
@@ -71,16 +84,14 @@ module _ {base ours theirs rows : List ℕ} {floor : Float} {total : ℕ} (hb : 
       t : Takes lists floor w
       t = p.takes r h
 
-      by : Case w.verdict → record_taken (located base ours theirs values) w ≡ records_of d (chosen lists floor w)
-      by (of_base e) = rw e (ap (λ (l : List ℕ). l ++ []) (record-here base hb p.base_read w.base (t.of_base e)))
+      by : Case w.verdict → record_taken (located l) w ≡ records_of d (chosen lists floor w)
+      by (of_base e) = rw e (record-here base hb p.base_read w.base (t.of_base e) ∙ sym (append-nil _))
       by (of_ours e) =
           rw e
-          (ap (λ (l : List ℕ). l ++ [])
-          (record-here ours ho p.ours_read w.ours (t.of_ours e) ∙ ap (λ (n : ℕ). record_of n (track_at (held ours) w.ours)) p.ours-dimension))
+          (record-here ours ho p.ours_read w.ours (t.of_ours e) ∙ ap (λ (n : ℕ). record_of n (track_at (held ours) w.ours)) p.ours-dimension ∙ sym (append-nil _))
       by (of_theirs e) =
           rw e
-          (ap (λ (l : List ℕ). l ++ [])
-          (record-here theirs ht p.theirs_read w.theirs (t.of_theirs e) ∙ ap (λ (n : ℕ). record_of n (track_at (held theirs) w.theirs)) p.theirs-dimension))
+          (record-here theirs ht p.theirs_read w.theirs (t.of_theirs e) ∙ ap (λ (n : ℕ). record_of n (track_at (held theirs) w.theirs)) p.theirs-dimension ∙ sym (append-nil _))
       by (of_fused e) =
           rw e
           (ap (λ (n : ℕ). record_of n (track_of_doubles (row_of values (fields n) w.base))) (sym same_dimension_lem)
@@ -92,19 +103,19 @@ module _ {base ours theirs rows : List ℕ} {floor : Float} {total : ℕ} (hb : 
   abbrev tracks_of_lem : ℕ → List Track
   tracks_of_lem n = flat_map (chosen lists floor) (rows_in rows n)
 
-  records_first : (n : ℕ) → n ≤ total → records_taken (located base ours theirs values) (rows_in rows n) ≡ records_of d (tracks_of_lem n)
+  records_first : (n : ℕ) → n ≤ total → records_taken (located l) (rows_in rows n) ≡ records_of d (tracks_of_lem n)
   unfolding tabulate flat_map records_of
   records_first zero h = refl
   records_first (suc n) h =
-      flat_map_more (record_taken (located base ours theirs values)) (rows_in rows n) (row_in rows n)
+      flat_map_more (record_taken (located l)) (rows_in rows n) (row_in rows n)
       ∙ (λ i. records_first n (omega arith) i ++ record-chosen n (omega arith) i)
       ∙ sym (ap (records_of d) (flat_map_more (chosen lists floor) (rows_in rows n) (row_in rows n)) ∙ flat_map_append (record_of d) (tracks_of_lem n) (chosen lists floor (row_in rows n)))
 
-  pub list_shape : list_of (chosen_list floor (found base ours theirs rows total)) ≡ list_taken (located base ours theirs values) (rows_in rows total)
+  pub list_shape : list_of (chosen_list floor (found base ours theirs rows total)) ≡ list_taken (located l) (rows_in rows total)
   unfolding list_of chosen_list
   list_shape = λ i. takers_are lists floor (rows_in rows total) i ∷ same_dimension_lem i ∷ sym (records_first total (omega arith)) i
 
-  pub to_list : ToList (located base ours theirs values) rows total
+  pub to_list : ToList l rows total
   to_list =
       let m = contents_met base p.base_read in
       record {
@@ -113,7 +124,7 @@ module _ {base ours theirs rows : List ℕ} {floor : Float} {total : ℕ} (hb : 
           sized = record { two = m.two; small = subst (λ (n : ℕ). n ≤ 9) same_dimension_lem (dimension-small d m.sized) };
           fused = λ r h e.
               let w = row_in rows r in
-              let f = (fused_fit lists floor w.base w.ours w.theirs (stands r h (eqb-true w.verdict fuse e))).long in
+              let f = (fused_fit lists floor w.base w.ours w.theirs (stands r h e)).long in
               subst (λ (n : ℕ). w.base * fields n + fields n ≤ length values) same_dimension_lem
               (row_inside values (fields d) w.base (some-fields d m.sized) (sym (length-patterns (row_of values (fields d) w.base)) ∙ f));
         };

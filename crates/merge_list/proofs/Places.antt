@@ -1,4 +1,5 @@
--- Rows and the places of their tracks. `chosen-place`: the track that a row takes stands where the rows before it leave off. `place-row`: each place is that of a row.
+-- Rows and the places of their tracks. `chosen-place`: the track that a row takes stands where the rows before it leave
+-- off. `place-row`: each place is that of a row.
 use Prim.Native.Nat.{ℕ, zero, suc, ◌+◌, ◌<◌}
 use native.Mathlib.Omega.{arith}
 use mathlib.Core.Path.{◌≡◌, refl, sym, ap, ◌∙◌}

@@ -1,57 +1,62 @@
--- The records that rows take, one after another. `taken_more`: with one row more, whose record is one of four; `fits-base`, `fits-ours`, `fits-theirs`, `fits-fused`: each of the
--- four fits, in its turn. `unwanted`: bytes that are not wanted leave all as it was.
+-- The records that rows take, one after another: `first_laid`, `next_room`, `next_laid` for a loop that writes them.
+-- `part_copied`: a part that is copied to a place, and `front_written`: a front that is copied out of another list.
+-- `list_laid`: count and dimension in front of the records.
 use Prim.Native.Nat.{ℕ, ◌+◌, ◌<◌, ◌≤◌}
 use native.Mathlib.Omega.{arith}
-use native.Mathlib.Nat.{add-zero}
-use mathlib.Core.Path.{◌≡◌, sym, ap, ◌∙◌}
-use mathlib.Core.Bool.{Bool, false}
-use mathlib.Core.List.{List, ◌++◌, append_assoc}
-use lib.Dec.{eqb}
-use lib.ListN.{length, length-append}
-use Rattle.kernel.proofs.Lists.{tabulate_more, over_none}
-use Rattle.tracks.specs.Record.{track_record}
-use Rattle.tracks.specs.Private.{Writes}
-use Rattle.tracks.proofs.Slices.Lists.{flat_map_more, flat_map-part}
-use Rattle.merge.specs.Rows.{keep, take_ours, take_theirs}
-use Rattle.merge.specs.Fused.{fuse}
-use Rattle.merge_list.specs.Private.{row_in, rows_in, Sources, bytes_if, placed_record, record_taken, records_taken, RecordsFit}
+use mathlib.Core.Path.{◌≡◌, ap, ◌∙◌}
+use mathlib.Core.List.{List, ◌∷◌, ◌++◌, flat_map}
+use borrow.Rule.Slice.PartMut.{put_mid}
+use lib.ListN.{length, set, take, drop}
+use Rattle.kernel.specs.Lists.{over, tabulate}
+use Rattle.kernel.proofs.Lists.{tabulate_more, take-over}
+use Rattle.tracks.specs.Read.{dimension}
+use Rattle.tracks.proofs.Slices.Lists.{flat_map_more, flat_map-part, put_mid_over, over_front, over-two}
+use Rattle.tracks.proofs.Slices.Laid.{Laid, laid_none, laid_room, laid_more}
+use Rattle.merge.specs.Rows.{Row}
+use Rattle.merge_list.specs.MergeList.{takers}
+use Rattle.merge_list.specs.Private.{row_in, rows_in, Sources, record_taken, records_taken, RecordsFit, list_taken}
 
-pub unwanted : (wanted : Bool) (bytes old : List ℕ) (at : ℕ) → wanted ≡ false → Writes (bytes_if wanted bytes) old at at old
-unwanted wanted bytes old at e = rw e (sym (add-zero at), sym (over_none old at))
+pub part_copied : (l x y : List ℕ) (at n : ℕ) → x ≡ y → n ≡ length y → put_mid at n l x ≡ over l at y
+part_copied l x y at n e s = ap (put_mid at n l) e ∙ put_mid_over l y at n s
+
+-- the front of an array, in which a list was written, copied out of it
+pub front_written : (to array old y list : List ℕ) (n : ℕ) → y ≡ take n array → n ≡ 0 + length list → array ≡ over old 0 list → y ++ drop n to ≡ over to 0 list
+front_written to array old y list n e h w =
+    let long : length list ≡ n = omega (arith, h) in
+    over_front_by e (ap (take n) w ∙ take-over old list n long) h
+  where
+    over_front_by : {n : ℕ} {y z list : List ℕ} → y ≡ z → z ≡ list → n ≡ 0 + length list → y ++ drop n to ≡ over to 0 list
+    over_front_by {n} {list = list} p q h = rw (p, q) (over_front to list n (omega (arith, h)))
 
 module _ (s : Sources) (rows : List ℕ) where
-  -- the records of the first rows, and those that row r takes out of base, ours and theirs, and the fused one
-  abbrev pub before : ℕ → List ℕ
-  before r = records_taken s (rows_in rows r)
+  taken_more : (r : ℕ) → records_taken s (rows_in rows (r + 1)) ≡ records_taken s (rows_in rows r) ++ record_taken s (row_in rows r)
+  taken_more r = ap (records_taken s) (tabulate_more r (row_in rows)) ∙ flat_map_more (record_taken s) (rows_in rows r) (row_in rows r)
 
-  abbrev pub from-base : ℕ → List ℕ
-  from-base r = bytes_if (eqb (row_in rows r).verdict keep) (track_record s.base s.offsets.base (row_in rows r).base)
+  module _ (out : List ℕ) where
+    pub first_laid : Laid out 2 (records_taken s (rows_in rows 0)) 2 out
+    unfolding tabulate flat_map
+    first_laid = laid_none
 
-  abbrev pub from-ours : ℕ → List ℕ
-  from-ours r = bytes_if (eqb (row_in rows r).verdict take_ours) (track_record s.ours s.offsets.ours (row_in rows r).ours)
+    module _ {total r at : ℕ} {new : List ℕ} (fit : RecordsFit s (rows_in rows total) out) (h : r < total) (l : Laid out 2 (records_taken s (rows_in rows r)) at new) where
+      fits : 2 + length (records_taken s (rows_in rows (r + 1))) ≤ length out
+      fits = omega (arith, fit, flat_map-part (record_taken s) (row_in rows) (r + 1) total (omega arith))
 
-  abbrev pub from-theirs : ℕ → List ℕ
-  from-theirs r = bytes_if (eqb (row_in rows r).verdict take_theirs) (track_record s.theirs s.offsets.theirs (row_in rows r).theirs)
+      pub next_room : at + length (record_taken s (row_in rows r)) ≤ length new
+      next_room = laid_room l _ (taken_more r) fits
 
-  abbrev pub fused : ℕ → List ℕ
-  fused r = bytes_if (eqb (row_in rows r).verdict fuse) (placed_record s.base s.values (row_in rows r).base)
+      pub next_laid : {to : ℕ} {next : List ℕ} → to ≡ at + length (record_taken s (row_in rows r)) → next ≡ over new at (record_taken s (row_in rows r))
+          → Laid out 2 (records_taken s (rows_in rows (r + 1))) to next
+      next_laid p q = laid_more l _ (taken_more r) fits p q
 
-  pub taken_more : (r : ℕ) → before (r + 1) ≡ (((before r ++ from-base r) ++ from-ours r) ++ from-theirs r) ++ fused r
-  unfolding record_taken
-  taken_more r =
-      ap (records_taken s) (tabulate_more r (row_in rows))
-      ∙ flat_map_more (record_taken s) (rows_in rows r) (row_in rows r)
-      ∙ sym (simp append_assoc)
-
-  module _ (out : List ℕ) {total r : ℕ} (fit : RecordsFit s (rows_in rows total) out) (h : r < total) where
-    pub fits-fused : 2 + length (before (r + 1)) ≤ length out
-    fits-fused = omega (arith, fit, flat_map-part (record_taken s) (row_in rows) (r + 1) total (omega arith))
-
-    pub fits-theirs : 2 + length (((before r ++ from-base r) ++ from-ours r) ++ from-theirs r) ≤ length out
-    fits-theirs = omega (arith, fits-fused, ap length (taken_more r), length-append (((before r ++ from-base r) ++ from-ours r) ++ from-theirs r) (fused r))
-
-    pub fits-ours : 2 + length ((before r ++ from-base r) ++ from-ours r) ≤ length out
-    fits-ours = omega (arith, fits-theirs, length-append ((before r ++ from-base r) ++ from-ours r) (from-theirs r))
-
-    pub fits-base : 2 + length (before r ++ from-base r) ≤ length out
-    fits-base = omega (arith, fits-ours, length-append (before r ++ from-base r) (from-ours r))
+-- count and dimension, and then the records
+pub list_laid : (s t : Sources) (rows : List Row) (old new : List ℕ) {count to : ℕ} → t ≡ s → count ≡ takers rows → length (list_taken s rows) ≤ length old
+    → to ≡ 2 + length (records_taken t rows) → new ≡ over (set (set old 0 count) 1 (dimension s.base)) 2 (records_taken t rows)
+    → (to ≡ 0 + length (list_taken s rows)) × (new ≡ over old 0 (list_taken s rows))
+list_laid s t rows old new {count} {to} e c room p q =
+    let d = dimension s.base in
+    let records = records_taken s rows in (
+      omega (arith, p, ap (λ (u : Sources). length (records_taken u rows)) e),
+      q ∙ ap (λ (u : Sources). over (set (set old 0 count) 1 d) 2 (records_taken u rows)) e
+          ∙ over-two old count d records (omega (arith, room))
+          ∙ ap (λ (n : ℕ). over old 0 (n ∷ d ∷ records)) c,
+    )

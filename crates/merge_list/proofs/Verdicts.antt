@@ -1,30 +1,27 @@
--- How many rows have a verdict: `with_more`, of one row more; `with_few`, no more than there are rows. `case_of`: what a verdict takes, and `one`: how many tracks.
-use Prim.Native.Nat.{ℕ, zero, suc, ◌+◌, ◌≤◌}
+-- How many rows have a verdict: `with_first`, of one row more in a buffer. `case_of`: what a verdict takes, and `one`:
+-- how many tracks.
+use Prim.Native.Nat.{ℕ, zero, suc, ◌+◌}
 use native.Mathlib.Omega.{arith}
-use mathlib.Core.Path.{◌≡◌, refl}
+use mathlib.Core.Path.{◌≡◌, refl, ap, ◌∙◌}
 use mathlib.Core.Bool.{Bool, true, false, cond}
 use mathlib.Core.List.{List, [], ◌∷◌, ◌++◌}
 use borrow.Author.Tests.{ne_eqb, eqb-true}
 use lib.Dec.{eqb}
-use lib.ListN.{length}
+use Rattle.kernel.proofs.Lists.{tabulate_more}
+use Rattle.merge.specs.Buffer.{verdict_in}
 use Rattle.merge.specs.Rows.{Row, keep, take_ours, take_theirs}
 use Rattle.merge.specs.Fused.{fuse}
 use Rattle.merge_list.specs.MergeList.{with_verdict}
-
-one_or_none : (b : Bool) → cond b 1 0 ≤ 1
-one_or_none true = omega arith
-one_or_none false = omega arith
+use Rattle.merge_list.specs.Private.{row_in, rows_in}
 
 module _ (v : ℕ) where
-  pub with_more : (l : List Row) (w : Row) → with_verdict v (l ++ (w ∷ [])) ≡ with_verdict v l + cond (eqb w.verdict v) 1 0
+  with_more : (l : List Row) (w : Row) → with_verdict v (l ++ (w ∷ [])) ≡ with_verdict v l + cond (eqb w.verdict v) 1 0
   unfolding with_verdict
   with_more [] w = omega arith
   with_more (x ∷ l) w = omega (arith, with_more l w)
 
-  pub with_few : (l : List Row) → with_verdict v l ≤ length l
-  unfolding with_verdict
-  with_few [] = omega arith
-  with_few (x ∷ l) = omega (arith, one_or_none (eqb x.verdict v), with_few l)
+  pub with_first : (rows : List ℕ) (r : ℕ) → with_verdict v (rows_in rows (r + 1)) ≡ with_verdict v (rows_in rows r) + cond (eqb (verdict_in rows r) v) 1 0
+  with_first rows r = ap (with_verdict v) (tabulate_more r (row_in rows)) ∙ with_more (rows_in rows r) (row_in rows r)
 
 -- a verdict that takes no track
 pub record TakesNone (v : ℕ) : Type 0 where

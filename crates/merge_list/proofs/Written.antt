@@ -1,6 +1,7 @@
--- What the call leaves where it answers. `merge_list-merges`: the counts and the rows are those of `merge`. `merge_list-reads_back`: the list, read by `read_list`, gives the tracks that
--- the rows take, in their order, under the dimension of the three lists. `nobody_lost`: each row's track stands in it, byte for byte as it was or as the fused one, and no other
--- track. `fused-reads_back`: a fused track is read as it was fused.
+-- What the call leaves where it answers. `merge_list-merges`: the counts and the rows are those of `merge`.
+-- `merge_list-reads_back`: the list, read by `read_list`, gives the tracks that the rows take, in their order, under
+-- the dimension of the three lists. `nobody_lost`: each row's track stands in it, byte for byte as it was or as the
+-- fused one, and no other track. `fused-reads_back`: a fused track is read as it was fused.
 use Prim.Native.Nat.{ℕ, zero, suc, ◌+◌, ◌*◌, ◌<◌, ◌≤◌}
 use native.Mathlib.Omega.{arith}
 use mathlib.Core.Path.{◌≡◌, refl, sym, ap, subst, ◌∙◌}
@@ -9,9 +10,9 @@ use mathlib.Core.List.{List, [], ◌∷◌, ◌++◌}
 use lib.Dec.{eqb, leb}
 use lib.Ieee.{Float}
 use lib.ListN.{length, get_or, take}
-use Rattle.kernel.specs.Answer.{Outcome, refused, answered}
+use Rattle.kernel.specs.Answer.{Outcome}
 use Rattle.kernel.specs.Bytes.{Bytes}
-use Rattle.kernel.proofs.Answers.{answered_inj, ask_met, and_then_met, through_met}
+use Rattle.kernel.proofs.Answers.{answered_inj, never_both, ask_met, and_then_met, through_met}
 use Rattle.kernel.proofs.Lists.{take-over, length-tabulate, get_d_tabulate}
 use Rattle.dense.specs.Matrix.{row_of}
 use Rattle.tracks.specs.Layout.{fields, count_met}
@@ -30,19 +31,18 @@ use Rattle.merge.specs.Fused.{fuse, Fuses}
 use Rattle.merge.specs.Merge.{MergedLists, merging, counts_of, rows_left, after_merge}
 use Rattle.merge.specs.Private.{held, held_three}
 use Rattle.merge.specs.declared.Counts.{Counts}
-use Rattle.merge.specs.declared.Merged.{Merged}
-use Rattle.merge.specs.declared.Merged.TheVariants as merged
 use Rattle.merge.proofs.Demand.EveryAnswer.{demanded}
 use Rattle.merge.proofs.Readings.Tracks.{values_read}
 use Rattle.merge_list.specs.MergeList.{fusion_in, fused_track, chosen, chosen_list, with_verdict, takers, list_of_rows, WrittenMerge, merging_list, after_merge_list}
 use Rattle.merge_list.specs.NobodyLost.{ReadsBack, source_record, place_of, NobodyLost, FusedReadBack}
 use Rattle.merge_list.specs.Private.{row_in, found}
 use Rattle.merge_list.specs.declared.MergedList.{MergedList}
-use Rattle.merge_list.specs.declared.MergedList.TheVariants.{Written, Refused}
 use Rattle.merge_list.proofs.Fused.{fused_back}
 use Rattle.merge_list.proofs.Chosen.{Takes, RowsTake, takers_are, chosen-accepted}
 use Rattle.merge_list.proofs.Found.{rows_take, found_is}
 use Rattle.merge_list.proofs.Places.{chosen-place, place-row}
+use Rattle.std.specs.Prelude.{Ok, Err}
+use Rattle.kernel.specs.declared.question.Question.TheVariants as question
 
 -- ---- the list of what a merge found
 
@@ -51,21 +51,21 @@ record Listed (floor : Float) (m : MergedLists) (l : List ℕ) : Type 0 where
   pub question_22 : count_met (takers m.rows) ≡ true
   pub same : l ≡ list_of (chosen_list floor m)
 
-listed : (room : ℕ) (floor : Float) (m : MergedLists) {l : List ℕ} → list_of_rows room m.rows (list_of (chosen_list floor m)) ≡ answered l → Listed floor m l
+listed : (room : ℕ) (floor : Float) (m : MergedLists) {l : List ℕ} → list_of_rows room m.rows (list_of (chosen_list floor m)) ≡ Ok l → Listed floor m l
 unfolding list_of_rows
 listed room floor m e =
-    let a = ask_met 21 (eqb (with_verdict conflict m.rows) 0) _ e in
-    let b = ask_met 22 (count_met (takers m.rows)) _ a.1 in
-    let c = ask_met 20 (leb (length (list_of (chosen_list floor m))) room) _ b.1 in
+    let a = ask_met question.NoConflict (eqb (with_verdict conflict m.rows) 0) _ e in
+    let b = ask_met question.MergedCount (count_met (takers m.rows)) _ a.1 in
+    let c = ask_met question.ListBuffer (leb (length (list_of (chosen_list floor m))) room) _ b.1 in
     record { question_22 = b.0; same = sym (answered_inj c.1) }
 
 module _ (base ours theirs : List ℕ) (hb : Bytes base) (ho : Bytes ours) (ht : Bytes theirs) (floor gate : Float) (old : List ℕ) (m : MergedLists) (l : List ℕ)
-    (e : merging base ours theirs floor gate (length old) ≡ answered m) (f : Listed floor m l) where
+    (e : merging base ours theirs floor gate (length old) ≡ Ok m) (f : Listed floor m l) where
   -- the rows in a buffer, from which the code made the list
   abbrev left : List ℕ
   left = rows_left m.rows old
 
-  answer : ◌≡◌ {A = Merged × List ℕ} (merged.Counts (counts_of m.rows), left) (after_merge (merging base ours theirs floor gate (length old)) old)
+  answer : ◌≡◌ {A = Outcome Counts × List ℕ} (Ok (counts_of m.rows), left) (after_merge (merging base ours theirs floor gate (length old)) old)
   answer = sym (ap (λ (o : Outcome MergedLists). after_merge o old) e)
 
   abbrev total : ℕ
@@ -85,10 +85,10 @@ module _ (base ours theirs : List ℕ) (hb : Bytes base) (ho : Bytes ours) (ht :
   abbrev c : TrackList
   c = chosen_list floor m
 
-  accepted : contents l ≡ answered c
+  accepted : contents l ≡ Ok c
   accepted =
       ap contents f.same
-      ∙ subst (λ (n : MergedLists). count_met (takers n.rows) ≡ true → contents (list_of (chosen_list floor n)) ≡ answered (chosen_list floor n)) (sym found_there) (chosen-accepted hb ho ht made)
+      ∙ subst (λ (n : MergedLists). count_met (takers n.rows) ≡ true → contents (list_of (chosen_list floor n)) ≡ Ok (chosen_list floor n)) (sym found_there) (chosen-accepted hb ho ht made)
       f.question_22
 
   reads_back : ReadsBack c l
@@ -210,43 +210,40 @@ module _ (base ours theirs : List ℕ) (hb : Bytes base) (ho : Bytes ours) (ht :
 -- ---- the call
 
 abbrev Answer : Type 0
-Answer = MergedList × (List ℕ × List ℕ)
+Answer = Outcome MergedList × (List ℕ × List ℕ)
 
 -- What an answer of counts and a length tells, with both buffers.
 record Told (o : Outcome WrittenMerge) (rows out : List ℕ) (counts : Counts) (k : ℕ) (new list : List ℕ) : Type 0 where
   pub what : WrittenMerge
-  pub was : o ≡ answered what
+  pub was : o ≡ Ok what
   pub counts_are : counts_of what.merged.rows ≡ counts
   pub rows_are : rows_left what.merged.rows rows ≡ new
   pub list_is : take k list ≡ what.list
 
 told : (o : Outcome WrittenMerge) (rows out : List ℕ) {counts : Counts} {k : ℕ} {new list : List ℕ}
-    → ◌≡◌ {A = Answer} (after_merge_list o rows out) (Written counts k, (new, list)) → Told o rows out counts k new list
-told (refused q) rows out {counts} {k} e =
-    let f : Refused q ≡ Written counts k = ap (λ (x : Answer). x.0) e in
-    let z : ◌≡◌ {A = ℕ} 0 1 = cc in
-    absurd (omega arith)
-told (answered w) rows out {counts} {k} {new} {list} e =
-    let f : Written (counts_of w.merged.rows) (length w.list) ≡ Written counts k = ap (λ (x : Answer). x.0) e in
-    let long : length w.list ≡ k = cc in
+    → ◌≡◌ {A = Answer} (after_merge_list o rows out) (Ok (record { counts = counts; length = k }), (new, list)) → Told o rows out counts k new list
+told (Err q) rows out e = never_both (sym (ap (λ (x : Answer). x.0) e))
+told (Ok w) rows out {counts} {k} {new} {list} e =
+    let f = answered_inj (ap (λ (x : Answer). x.0) e) in
+    let long = ap (λ (m : MergedList). m.length) f in
     record {
       what = w;
       was = refl;
-      counts_are = cc;
+      counts_are = ap (λ (m : MergedList). m.counts) f;
       rows_are = ap (λ (x : Answer). x.1.0) e;
       list_is = ap (take k) (sym (ap (λ (x : Answer). x.1.1) e)) ∙ take-over out w.list k long;
     }
 
 module _ (base ours theirs : List ℕ) (floor gate : Float) (old out : List ℕ) {counts : Counts} {k : ℕ} {new list : List ℕ}
-    (e : ◌≡◌ {A = Answer} (after_merge_list (merging_list base ours theirs floor gate (length old) (length out)) old out) (Written counts k, (new, list))) where
+    (e : ◌≡◌ {A = Answer} (after_merge_list (merging_list base ours theirs floor gate (length old) (length out)) old out) (Ok (record { counts = counts; length = k }), (new, list))) where
   told_here : Told (merging_list base ours theirs floor gate (length old) (length out)) old out counts k new list
   told_here = told (merging_list base ours theirs floor gate (length old) (length out)) old out e
 
   -- what the merge found, and the list of it
   record Made : Type 0 where
     pub found-lists : MergedLists
-    pub was_merged : merging base ours theirs floor gate (length old) ≡ answered found-lists
-    pub was_listed : list_of_rows (length out) found-lists.rows (list_of (chosen_list floor found-lists)) ≡ answered (take k list)
+    pub was_merged : merging base ours theirs floor gate (length old) ≡ Ok found-lists
+    pub was_listed : list_of_rows (length out) found-lists.rows (list_of (chosen_list floor found-lists)) ≡ Ok (take k list)
     pub counts_found : counts_of found-lists.rows ≡ counts
     pub rows-found : rows_left found-lists.rows old ≡ new
 
@@ -261,27 +258,29 @@ module _ (base ours theirs : List ℕ) (floor gate : Float) (old out : List ℕ)
       record {
         found-lists = a.0;
         was_merged = a.1;
-        was_listed = b.1 ∙ ap answered l;
+        was_listed = b.1 ∙ ap Ok l;
         counts_found = ap (λ (n : MergedLists). counts_of n.rows) m ∙ t.counts_are;
         rows-found = ap (λ (n : MergedLists). rows_left n.rows old) m ∙ t.rows_are;
       }
 
   -- The counts and the rows are those of the merge.
-  pub merge_list-merges : ◌≡◌ {A = Merged × List ℕ} (after_merge (merging base ours theirs floor gate (length old)) old) (merged.Counts counts, new)
+  pub merge_list-merges : ◌≡◌ {A = Outcome Counts × List ℕ} (after_merge (merging base ours theirs floor gate (length old)) old) (Ok counts, new)
   merge_list-merges =
       let w = made_here in
-      ap (λ (o : Outcome MergedLists). after_merge o old) w.was_merged ∙ (λ i. (merged.Counts (w.counts_found i), w.rows-found i))
+      ap (λ (o : Outcome MergedLists). after_merge o old) w.was_merged ∙ (λ i. (Ok (w.counts_found i), w.rows-found i))
 
   module _ (hb : Bytes base) (ho : Bytes ours) (ht : Bytes theirs) where
-    -- The first bytes of the buffer, up to the answered length, read back as the tracks that the rows take, in their order.
-    pub merge_list-reads_back : (m : MergedLists) × (merging base ours theirs floor gate (length old) ≡ answered m) × ReadsBack (chosen_list floor m) (take k list)
+    -- The first bytes of the buffer, up to the answered length, read back as the tracks that the rows take, in their
+    -- order.
+    pub merge_list-reads_back : (m : MergedLists) × (merging base ours theirs floor gate (length old) ≡ Ok m) × ReadsBack (chosen_list floor m) (take k list)
     merge_list-reads_back =
         let w = made_here in
         let m = w.found-lists in
         (m, w.was_merged, reads_back base ours theirs hb ho ht floor gate old m (take k list) w.was_merged (listed (length out) floor m w.was_listed))
 
-    -- Each row's track stands there, at the place that the rows before it give: byte for byte as in the list that it is taken from, or the fused one; and no other track.
-    pub nobody_lost : (m : MergedLists) × (merging base ours theirs floor gate (length old) ≡ answered m)
+    -- Each row's track stands there, at the place that the rows before it give: byte for byte as in the list that it is
+    -- taken from, or the fused one; and no other track.
+    pub nobody_lost : (m : MergedLists) × (merging base ours theirs floor gate (length old) ≡ Ok m)
         × ((none : Row) → NobodyLost base ours theirs m.lists floor m.rows (take k list) none)
     nobody_lost =
         let w = made_here in
@@ -289,7 +288,7 @@ module _ (base ours theirs : List ℕ) (floor gate : Float) (old out : List ℕ)
         (m, w.was_merged, nobody base ours theirs hb ho ht floor gate old m (take k list) w.was_merged (listed (length out) floor m w.was_listed))
 
     -- A fused track is read back as it was fused, state and lower triangle.
-    pub fused-reads_back : (m : MergedLists) × (merging base ours theirs floor gate (length old) ≡ answered m)
+    pub fused-reads_back : (m : MergedLists) × (merging base ours theirs floor gate (length old) ≡ Ok m)
         × ((none : Row) → FusedReadBack m.lists floor m.rows (take k list) none)
     fused-reads_back =
         let w = made_here in

@@ -1,7 +1,8 @@
 -- The words of the private functions' contracts: no caller needs them, and no definition that a caller reads.
-use Rattle.std.specs.Prelude.{ℕ, ◌+◌, ◌*◌, ◌<◌, ◌≤◌, ◌≡◌, Bool, true, false, cond, eqb, ltb, Float, length, replicate}
-use mathlib.Core.List.{List, [], ◌∷◌, ◌++◌, flat_map}
-use Rattle.kernel.specs.Lists.{tabulate}
+use Rattle.std.specs.Prelude.{ℕ, ◌+◌, ◌*◌, ◌<◌, ◌≤◌, ◌≡◌, cond, eqb, Float, length, replicate, take, Ok, Err}
+use mathlib.Core.List.{List, [], ◌∷◌, flat_map}
+use Rattle.kernel.specs.Answer.{Outcome}
+use Rattle.kernel.specs.Lists.{over, tabulate}
 use Rattle.dense.specs.Matrix.{row_of}
 use Rattle.tracks.specs.Layout.{fields}
 use Rattle.tracks.specs.Read.{dimension}
@@ -9,22 +10,16 @@ use Rattle.tracks.specs.Write.{record_of}
 use Rattle.tracks.specs.Record.{track_record}
 use Rattle.tracks.specs.Calls.{track_offsets}
 use Rattle.tracks.specs.Private.{track_of_doubles}
-use Rattle.tracks.specs.declared.write.WrittenList.{WrittenList}
-use Rattle.tracks.specs.declared.write.WrittenList.TheVariants.{Length, Refused}
 use Rattle.merge.specs.Rows.{Row, keep, take_ours, take_theirs}
 use Rattle.merge.specs.Fused.{fuse}
 use Rattle.merge.specs.Merge.{MergedLists}
 use Rattle.merge.specs.Buffer.{base_in, ours_in, theirs_in, verdict_in}
 use Rattle.merge.specs.Private.{held_three}
+use Rattle.merge_list.specs.MergeList.{takers, list_of_rows}
 use Rattle.merge.specs.declared.Counts.{Counts}
-use Rattle.merge_list.specs.MergeList.{takers}
-use Rattle.merge_list.specs.declared.MergedList.{MergedList}
-use Rattle.merge_list.specs.declared.MergedList.TheVariants as merged
 use Rattle.merge.specs.declared.verdict.Offsets.{Offsets}
-
--- A buffer's length, or that of the longest rows.
-abbrev pub shorter : ℕ → ℕ
-shorter n = cond (ltb n 384) n 384
+use Rattle.merge_list.specs.declared.MergedList.{MergedList}
+use Rattle.merge_list.specs.declared.records.Lists.{Lists}
 
 -- ---- rows in a buffer
 
@@ -42,7 +37,12 @@ pub record RowsStand (rows : List ℕ) (total : ℕ) : Type 0 where
 
 -- ---- the records that rows take
 
--- Three lists, where their tracks start and end, and values in which a fused track stands in the place of its base track.
+-- The offsets that `track_offsets` leaves.
+abbrev pub offsets_of : List ℕ → List ℕ
+offsets_of l = (track_offsets l (replicate 33 0)).1
+
+-- Three lists, where their tracks start and end, and values in which a fused track stands in the place of its base
+-- track.
 pub record Sources : Type 0 where
   pub base : List ℕ
   pub ours : List ℕ
@@ -50,33 +50,32 @@ pub record Sources : Type 0 where
   pub offsets : Offsets
   pub values : List Float
 
-abbrev pub sources : List ℕ → List ℕ → List ℕ → Offsets → List Float → Sources
-sources b o t offsets values = record { base = b; ours = o; theirs = t; offsets = offsets; values = values }
+abbrev pub sources : Lists → Offsets → Sources
+sources lists offsets =
+    record { base = lists.base.now; ours = lists.ours.now; theirs = lists.theirs.now; offsets = offsets; values = lists.values.now }
 
 -- The same with the offsets that `track_offsets` leaves.
-abbrev pub offsets_of : List ℕ → List ℕ
-offsets_of l = (track_offsets l (replicate 33 0)).1
-
-abbrev pub located : List ℕ → List ℕ → List ℕ → List Float → Sources
-located b o t values = sources b o t (record { base = offsets_of b; ours = offsets_of o; theirs = offsets_of t }) values
-
--- Bytes where they are wanted.
-abbrev pub bytes_if : Bool → List ℕ → List ℕ
-bytes_if wanted bytes = cond wanted bytes []
+abbrev pub located : Lists → Sources
+located lists =
+    sources lists (record { base = offsets_of lists.base.now; ours = offsets_of lists.ours.now; theirs = offsets_of lists.theirs.now })
 
 -- The record of the fields that stand in values in the place of track i of a list.
 unfoldable pub placed_record : List ℕ → List Float → ℕ → List ℕ
 unfolding record_of row_of
 placed_record l values i = record_of (dimension l) (track_of_doubles (row_of values (fields (dimension l)) i))
 
+abbrev pub placed_in : Lists → ℕ → List ℕ
+placed_in lists i = placed_record lists.base.now lists.values.now i
+
 -- The record that a row takes, and those of rows one after another.
 unfoldable pub record_taken : Sources → Row → List ℕ
 unfolding track_record placed_record
 record_taken s w =
-    bytes_if (eqb w.verdict keep) (track_record s.base s.offsets.base w.base)
-    ++ (bytes_if (eqb w.verdict take_ours) (track_record s.ours s.offsets.ours w.ours)
-    ++ (bytes_if (eqb w.verdict take_theirs) (track_record s.theirs s.offsets.theirs w.theirs)
-    ++ bytes_if (eqb w.verdict fuse) (placed_record s.base s.values w.base)))
+    cond (eqb w.verdict keep) (track_record s.base s.offsets.base w.base)
+    (cond (eqb w.verdict take_ours) (track_record s.ours s.offsets.ours w.ours)
+    (cond (eqb w.verdict take_theirs) (track_record s.theirs s.offsets.theirs w.theirs)
+    (cond (eqb w.verdict fuse) (placed_record s.base s.values w.base)
+    [])))
 
 abbrev pub records_taken : Sources → List Row → List ℕ
 records_taken s rows = flat_map (record_taken s) rows
@@ -96,39 +95,57 @@ pub record Sized (l : List ℕ) : Type 0 where
   pub two : 2 ≤ length l
   pub small : dimension l ≤ 9
 
--- That values have the place of track i of a list, where it is wanted.
-abbrev pub HasPlace : Bool → List ℕ → List Float → ℕ → Type 0
-HasPlace wanted l values i = wanted ≡ true → i * fields (dimension l) + fields (dimension l) ≤ length values
+-- That values have the place of track i of a list.
+abbrev pub HasPlace : List ℕ → List Float → ℕ → Type 0
+HasPlace l values i = i * fields (dimension l) + fields (dimension l) ≤ length values
 
 -- That rows stand in a buffer, and that values have the places of base's tracks that are fused.
-pub record ToTake (base : List ℕ) (values : List Float) (rows : List ℕ) (total : ℕ) : Type 0 where
+pub record ToTake (lists : Lists) (rows : List ℕ) (total : ℕ) : Type 0 where
   pub stand : RowsStand rows total
-  pub sized : Sized base
-  pub fused : (r : ℕ) → r < total → HasPlace (eqb (verdict_in rows r) fuse) base values (base_in rows r)
+  pub sized : Sized lists.base.now
+  pub fused : (r : ℕ) → r < total → verdict_in rows r ≡ fuse → HasPlace lists.base.now lists.values.now (base_in rows r)
 
--- The same, and that their list is no longer than the longest one, if it has no more tracks.
-pub record ToList (s : Sources) (rows : List ℕ) (total : ℕ) : Type 0 where
-  pub takes : ToTake s.base s.values rows total
-  pub size : takers (rows_in rows total) ≤ 32 → length (list_taken s (rows_in rows total)) ≤ 14050
+-- That row r is one of them.
+pub record RowToTake (lists : Lists) (rows : List ℕ) (r : ℕ) : Type 0 where
+  pub few : r < 96
+  pub room : 4 * r + 4 ≤ length rows
+  pub sized : Sized lists.base.now
+  pub fused : verdict_in rows r ≡ fuse → HasPlace lists.base.now lists.values.now (base_in rows r)
+
+-- That they can be taken, and that their list is no longer than the longest one, if it has no more tracks.
+pub record ToList (lists : Lists) (rows : List ℕ) (total : ℕ) : Type 0 where
+  pub takes : ToTake lists rows total
+  pub size : takers (rows_in rows total) ≤ 32 → length (list_taken (located lists) (rows_in rows total)) ≤ 14050
 
 -- That the list has so many tracks, and that there is room for it.
-pub record ToPut (s : Sources) (rows : List ℕ) (total count : ℕ) (list : List ℕ) : Type 0 where
-  pub takes : ToTake s.base s.values rows total
+pub record ToPut (lists : Lists) (rows : List ℕ) (total count : ℕ) (list : List ℕ) : Type 0 where
+  pub takes : ToTake lists rows total
   pub counted : count ≡ takers (rows_in rows total)
   pub few : count ≤ 32
-  pub room : length (list_taken s (rows_in rows total)) ≤ length list
+  pub room : length (list_taken (located lists) (rows_in rows total)) ≤ length list
+
+-- How many rows there are of these counts.
+abbrev pub all_rows : Counts → ℕ
+all_rows counts = counts.full + counts.half + counts.single
+
+-- That the rows of a merge stand in an array, that their list can be written, and that there is room for them.
+pub record ToLeave (lists : Lists) (found : List ℕ) (counts : Counts) (rows : List ℕ) : Type 0 where
+  pub list : ToList lists found (all_rows counts)
+  pub room : 4 * all_rows counts ≤ length rows
+
+-- What is answered where that list is asked for, and both buffers afterwards.
+abbrev pub list_left : Outcome (List ℕ) → Counts → List ℕ → List ℕ → List ℕ → Outcome MergedList × (List ℕ × List ℕ)
+list_left (Err q) counts found rows out = (Err q, (rows, out))
+list_left (Ok l) counts found rows out =
+    (Ok (record { counts = counts; length = length l }), (over rows 0 (take (4 * all_rows counts) found), over out 0 l))
+
+abbrev pub list_asked : Lists → List ℕ → Counts → ℕ → Outcome (List ℕ)
+list_asked lists found counts room =
+    let rows = rows_in found (all_rows counts) in
+    list_of_rows room rows (list_taken (located lists) rows)
 
 -- ---- all of it
 
 -- What a merge of these lists found whose first rows stand in a buffer.
 abbrev pub found : List ℕ → List ℕ → List ℕ → List ℕ → ℕ → MergedLists
 found base ours theirs rows total = record { lists = held_three base ours theirs; rows = rows_in rows total }
-
--- Whether a list is written, and the answer by that to the list and by a merge's counts.
-abbrev pub is_written : WrittenList → Bool
-is_written (Length n) = true
-is_written (Refused q) = false
-
-abbrev pub answer_with : WrittenList → Counts → MergedList
-answer_with (Length n) counts = merged.Written counts n
-answer_with (Refused q) counts = merged.Refused q

@@ -2,101 +2,91 @@
 ghost use Rattle.std.specs.Prelude.{◌+◌, ◌≤◌, length};
 ghost use Rattle.tracks.specs.Record.{track_record};
 ghost use Rattle.tracks.specs.Private.{Writes};
-ghost use Rattle.merge_list.specs.Private.{bytes_if, rows_in, sources, placed_record, records_taken, RecordsFit, Sized, HasPlace, ToTake};
+ghost use Rattle.merge_list.specs.Private.{row_in, rows_in, placed_in, sources, record_taken, records_taken, RecordsFit, Sized, HasPlace, RowToTake, ToTake};
 
 use dense::shape::row;
-use merge::verdict::{FUSE, KEEP, Offsets, TAKE_OURS, TAKE_THEIRS};
+use merge::verdict::{Offsets, Verdict};
 use tracks::inside::{fields, write_track};
 use tracks::record::track_record;
 
-// Copies bytes, where they are wanted, into a slice from an index on, and gives the index after them.
-pub(crate) fn copy_bytes(wanted: bool, from: &[u8], to: &mut [u8], at: usize) -> usize
-    requires { at + length (bytes_if wanted from.now) ≤ length to.old }
-    ensures { Writes (bytes_if wanted from.now) to.old at result to.new }
-{
-    if !wanted {
-        return at;
-    }
-    for i in 0..from.len() {
-        to[at + i] = from[i];
-    }
-    at + from.len()
+// Base, ours and theirs, and values in which a fused track stands in the place of its base track.
+#[derive(Clone, Copy)]
+pub(crate) struct Lists<'a> {
+    pub(crate) base: &'a [u8],
+    pub(crate) ours: &'a [u8],
+    pub(crate) theirs: &'a [u8],
+    pub(crate) values: &'a [f64],
 }
 
-// The same of the record of track i of a list.
-fn copy_record(
-    wanted: bool,
-    list: &[u8],
-    offsets: &[usize],
-    i: u8,
+// Copies the record of track i of a list into a slice from an index on, and gives the index after it.
+#[tactic(auto, using(crate::proofs::Taken::part_copied))]
+fn copy_record(list: &[u8], offsets: &[usize], i: u8, out: &mut [u8], at: usize) -> usize
+    requires { at + length (track_record list.now offsets.now i) ≤ length out.old }
+    ensures { Writes (track_record list.now offsets.now i) out.old at result out.new }
+{
+    let record = track_record(list, offsets, i as usize);
+    let end = at + record.len();
+    out[at..end].copy_from_slice(record);
+    end
+}
+
+// The same of the record of the fields that stand in values in the place of track i of base. It is written, not copied.
+#[tactic(auto, unfolding(crate::specs::Private::placed_record))]
+fn write_placed(lists: Lists, i: u8, out: &mut [u8], at: usize) -> usize
+    requires { Sized lists.base.now × HasPlace lists.base.now lists.values.now i × (at + length (placed_in lists i) ≤ length out.old) }
+    ensures { Writes (placed_in lists.entry i) out.old at result out.new }
+{
+    let d = lists.base[1] as usize;
+    write_track(row(lists.values, fields(d), i as usize), d, out, at)
+}
+
+// The same of the record that row r takes, if it takes one.
+#[tactic(auto, using(kernel::proofs::Lists::over_none), unfolding(crate::specs::Private::record_taken))]
+fn write_taken(
+    lists: Lists,
+    offsets: &Offsets,
+    rows: &[u8],
+    r: usize,
     out: &mut [u8],
     at: usize,
 ) -> usize
-    requires { at + length (bytes_if wanted (track_record list.now offsets.now i)) ≤ length out.old }
-    ensures { Writes (bytes_if wanted (track_record list.now offsets.now i)) out.old at result out.new }
+    requires to_take { RowToTake lists rows.now r }
+    requires fits { at + length (record_taken (sources lists offsets.now) (row_in rows.now r)) ≤ length out.old }
+    ensures { Writes (record_taken (sources lists.entry offsets.now) (row_in rows.now r)) out.old at result out.new }
 {
-    copy_bytes(wanted, track_record(list, offsets, i as usize), out, at)
-}
-
-// The same of the record of the fields that stand in values in the place of track i of a list. It is written, not copied.
-fn write_placed(
-    wanted: bool,
-    list: &[u8],
-    values: &[f64],
-    i: u8,
-    out: &mut [u8],
-    at: usize,
-) -> usize
-    requires { Sized list.now × HasPlace wanted list.now values.now i × (at + length (bytes_if wanted (placed_record list.now values.now i)) ≤ length out.old) }
-    ensures { Writes (bytes_if wanted (placed_record list.now values.now i)) out.old at result out.new }
-{
-    if !wanted {
-        return at;
+    let verdict = rows[4 * r + 3];
+    if verdict == Verdict::Keep.number() {
+        return copy_record(lists.base, &offsets.base, rows[4 * r], out, at);
     }
-    let d = list[1] as usize;
-    write_track(row(values, fields(d), i as usize), d, out, at)
+    if verdict == Verdict::TakeOurs.number() {
+        return copy_record(lists.ours, &offsets.ours, rows[4 * r + 1], out, at);
+    }
+    if verdict == Verdict::TakeTheirs.number() {
+        return copy_record(lists.theirs, &offsets.theirs, rows[4 * r + 2], out, at);
+    }
+    if verdict == Verdict::Fuse.number() {
+        return write_placed(lists, rows[4 * r], out, at);
+    }
+    at
 }
 
-// Writes the records that the first `total` rows take, after the two bytes of count and dimension, and gives where they end.
+// Writes the records that the first `total` rows take, after the two bytes of count and dimension, and gives where they
+// end.
 pub(crate) fn write_records(
-    base: &[u8],
-    ours: &[u8],
-    theirs: &[u8],
-    offsets: Offsets,
-    values: &[f64],
+    lists: Lists,
+    offsets: &Offsets,
     rows: &[u8],
     total: usize,
     out: &mut [u8],
 ) -> usize
-    requires to_take { ToTake base.now values.now rows.now total }
-    requires records_fit { RecordsFit (sources base.now ours.now theirs.now offsets values.now) (rows_in rows.now total) out.old }
-    ensures { Writes (records_taken (sources base.now ours.now theirs.now offsets values.now) (rows_in rows.now total))
-        out.old 2 result out.new }
+    requires to_take { ToTake lists rows.now total }
+    requires records_fit { RecordsFit (sources lists offsets.now) (rows_in rows.now total) out.old }
+    ensures { Writes (records_taken (sources lists.entry offsets.now) (rows_in rows.now total)) out.old 2 result out.new }
 {
-    let base_offsets = offsets.base;
-    let ours_offsets = offsets.ours;
-    let theirs_offsets = offsets.theirs;
     let mut at = 2;
+    // Each record goes after the one before.
     for r in 0..total {
-        let v = rows[4 * r + 3];
-        at = copy_record(v == KEEP, base, &base_offsets, rows[4 * r], out, at);
-        at = copy_record(
-            v == TAKE_OURS,
-            ours,
-            &ours_offsets,
-            rows[4 * r + 1],
-            out,
-            at,
-        );
-        at = copy_record(
-            v == TAKE_THEIRS,
-            theirs,
-            &theirs_offsets,
-            rows[4 * r + 2],
-            out,
-            at,
-        );
-        at = write_placed(v == FUSE, base, values, rows[4 * r], out, at);
+        at = write_taken(lists, offsets, rows, r, out, at);
     }
     at
 }

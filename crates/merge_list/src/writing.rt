@@ -2,95 +2,89 @@
 ghost use Rattle.std.specs.Prelude.{◌≡◌, ◌≤◌, length};
 ghost use Rattle.tracks.specs.Calls.{write_answer, write_bytes};
 ghost use Rattle.tracks.specs.Private.{Writes};
-ghost use Rattle.merge_list.specs.MergeList.{with_verdict, list_of_rows};
+ghost use Rattle.merge.specs.Verdict.{verdict_number};
+ghost use Rattle.merge_list.specs.MergeList.{with_verdict, takers, list_of_rows};
 ghost use Rattle.merge_list.specs.Private.{rows_in, located, list_taken, RowsStand, ToList, ToPut};
 
-use crate::records::{copy_bytes, write_records};
-use kernel::question;
-use merge::verdict::{CONFLICT, FUSE, KEEP, Offsets, TAKE_OURS, TAKE_THEIRS};
+use crate::records::{Lists, write_records};
+use kernel::question::Question;
+use merge::verdict::{Offsets, Verdict};
 use tracks::record::track_offsets;
-use tracks::write::WrittenList;
 
 // How many of the first `total` rows have a verdict.
-fn with_verdict(rows: &[u8], total: usize, verdict: u8) -> usize
+#[tactic(auto, using(crate::proofs::Verdicts::with_first), unfolding(crate::specs::MergeList::with_verdict, kernel::specs::Lists::tabulate))]
+fn with_verdict(rows: &[u8], total: usize, verdict: Verdict) -> usize
     requires { RowsStand rows.now total }
-    ensures { (result ≡ with_verdict verdict (rows_in rows.now total)) × (result ≤ 96) }
+    ensures { (result ≡ with_verdict (verdict_number verdict) (rows_in rows.now total)) × (result ≤ 96) }
 {
     let mut count = 0;
+    // Rows are read by their places, of which there may be more than are counted.
     for r in 0..total {
-        if rows[4 * r + 3] == verdict {
+        if rows[4 * r + 3] == verdict.number() {
             count += 1;
         }
     }
     count
 }
 
-// Writes the list of so many tracks, and gives its length.
-fn put_list(
-    base: &[u8],
-    ours: &[u8],
-    theirs: &[u8],
-    values: &[f64],
-    rows: &[u8],
-    total: usize,
-    count: usize,
-    list: &mut [u8],
-) -> usize
-    requires { ToPut (located base.now ours.now theirs.now values.now) rows.now total count list.old }
-    ensures writes { Writes (list_taken (located base.now ours.now theirs.now values.now) (rows_in rows.now total))
-        list.old 0 result list.new }
-    ensures upper_bound { result ≤ length list.new }
+// How many of them take a track.
+fn takers(rows: &[u8], total: usize) -> usize
+    requires { RowsStand rows.now total }
+    ensures { result ≡ takers (rows_in rows.now total) }
 {
-    let mut base_offsets = [0usize; 33];
-    let mut ours_offsets = [0usize; 33];
-    let mut theirs_offsets = [0usize; 33];
-    track_offsets(base, &mut base_offsets);
-    track_offsets(ours, &mut ours_offsets);
-    track_offsets(theirs, &mut theirs_offsets);
-    let offsets = Offsets {
-        base: base_offsets,
-        ours: ours_offsets,
-        theirs: theirs_offsets,
-    };
-    list[0] = count as u8;
-    list[1] = base[1];
-    write_records(base, ours, theirs, offsets, values, rows, total, list)
+    with_verdict(rows, total, Verdict::Keep)
+        + with_verdict(rows, total, Verdict::TakeOurs)
+        + with_verdict(rows, total, Verdict::TakeTheirs)
+        + with_verdict(rows, total, Verdict::Fuse)
 }
 
-// Writes the list of the tracks that the first `total` rows of a merge of three lists take. It stands in a local array before its length
-// is asked; no list of at most 32 tracks is longer than that.
+// Writes the list of so many tracks, and gives its length.
+fn put_list(lists: Lists, rows: &[u8], total: usize, count: usize, list: &mut [u8]) -> usize
+    requires { ToPut lists rows.now total count list.old }
+    ensures writes { Writes (list_taken (located lists.entry) (rows_in rows.now total)) list.old 0 result list.new }
+    ensures upper_bound { result ≤ length list.new }
+{
+    let mut offsets = Offsets {
+        base: [0usize; 33],
+        ours: [0usize; 33],
+        theirs: [0usize; 33],
+    };
+    // which have nothing to refuse, since the merge read these lists
+    let _ = track_offsets(lists.base, &mut offsets.base);
+    let _ = track_offsets(lists.ours, &mut offsets.ours);
+    let _ = track_offsets(lists.theirs, &mut offsets.theirs);
+    list[0] = count as u8;
+    list[1] = lists.base[1];
+    write_records(lists, &offsets, rows, total, list)
+}
+
+// Writes the list of the tracks that the first `total` rows of a merge of three lists take. It stands in a local array
+// before its length is asked; no list of at most 32 tracks is longer than that.
+#[tactic(auto, using(crate::proofs::Taken::front_written), unfolding(crate::specs::MergeList::list_of_rows))]
 pub(crate) fn write_chosen(
-    base: &[u8],
-    ours: &[u8],
-    theirs: &[u8],
-    values: &[f64],
+    lists: Lists,
     rows: &[u8],
     total: usize,
     out: &mut [u8],
-) -> WrittenList
-    requires { ToList (located base.now ours.now theirs.now values.now) rows.now total }
+) -> Result<usize, Question>
+    requires { ToList lists rows.now total }
     ensures value { result ≡ write_answer (list_of_rows (length out.old) (rows_in rows.now total)
-        (list_taken (located base.now ours.now theirs.now values.now) (rows_in rows.now total))) }
+        (list_taken (located lists.entry) (rows_in rows.now total))) }
     ensures out_after { out.new ≡ write_bytes (list_of_rows (length out.old) (rows_in rows.now total)
-        (list_taken (located base.now ours.now theirs.now values.now) (rows_in rows.now total))) out.old }
+        (list_taken (located lists.entry) (rows_in rows.now total))) out.old }
 {
-    let conflicts = with_verdict(rows, total, CONFLICT);
-    let kept = with_verdict(rows, total, KEEP);
-    let from_ours = with_verdict(rows, total, TAKE_OURS);
-    let from_theirs = with_verdict(rows, total, TAKE_THEIRS);
-    let fused = with_verdict(rows, total, FUSE);
-    let count = kept + from_ours + from_theirs + fused;
-    if conflicts != 0 {
-        return WrittenList::Refused(question::NO_CONFLICT);
+    if with_verdict(rows, total, Verdict::Conflict) != 0 {
+        return Err(Question::NoConflict);
     }
+    let count = takers(rows, total);
     if count > 32 {
-        return WrittenList::Refused(question::MERGED_COUNT);
+        return Err(Question::MergedCount);
     }
     let mut list = [0u8; 14050];
-    let length = put_list(base, ours, theirs, values, rows, total, count, &mut list);
+    let length = put_list(lists, rows, total, count, &mut list);
     if out.len() < length {
-        return WrittenList::Refused(question::LIST_BUFFER);
+        return Err(Question::ListBuffer);
     }
-    copy_bytes(true, &list[..length], out, 0);
-    WrittenList::Length(length)
+    out[..length].copy_from_slice(&list[..length]);
+    Ok(length)
 }

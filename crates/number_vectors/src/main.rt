@@ -3,67 +3,89 @@
 #![tactic(auto)]
 
 use kernel::number;
-use std::io;
-use std::io::Read;
+use replay::{BLOCK, Tally};
+use std::fmt::{Display, Formatter};
+use std::{fmt, io};
 
-// The bytes of a block.
-const BLOCK: usize = 65536;
-
+// The bytes of a record.
 const RECORD: usize = 32;
 
-const CALLS: usize = 5;
+#[derive(Clone, Copy, Debug, PartialEq, Eq)]
+enum Call {
+    Sqrt,
+    Abs,
+    Max,
+    Value,
+    Constant,
+}
 
-// The answer of a call, by its number in a record.
-fn answer(call: usize, x: f64, y: f64) -> f64 {
-    match call {
-        0 => number::sqrt(x),
-        1 => number::abs(x),
-        2 => number::max(x, y),
-        3 => number::value(x),
-        _ => number::constant(x),
+impl Call {
+    // In the order of their numbers in a record.
+    const ALL: [Call; 5] = [
+        Call::Sqrt,
+        Call::Abs,
+        Call::Max,
+        Call::Value,
+        Call::Constant,
+    ];
+
+    // The call with a number of a record.
+    fn of(number: u64) -> Call {
+        match number % 5 {
+            0 => Call::Sqrt,
+            1 => Call::Abs,
+            2 => Call::Max,
+            3 => Call::Value,
+            _ => Call::Constant,
+        }
+    }
+
+    fn answer(self, x: f64, y: f64) -> f64 {
+        match self {
+            Call::Sqrt => number::sqrt(x),
+            Call::Abs => number::abs(x),
+            Call::Max => number::max(x, y),
+            Call::Value => number::value(x),
+            Call::Constant => number::constant(x),
+        }
     }
 }
 
-// Counts the record at the start of s under its call, and where the answer is another, that too.
-fn replay_record(s: &[u8], cases: &mut [u64; CALLS], differences: &mut [u64; CALLS]) {
-    let call = (replay::number(s, 0) % 5) as usize;
-    let x = replay::double(replay::number(s, 1));
-    let y = replay::double(replay::number(s, 2));
-    cases[call] = replay::one_more(cases[call]);
-    if !replay::is_same(answer(call, x, y), replay::number(s, 3)) {
-        differences[call] = replay::one_more(differences[call]);
+impl Display for Call {
+    fn fmt<W: fmt::Write>(&self, f: &mut Formatter<W>) -> fmt::Result {
+        f.write_str(match self {
+            Call::Sqrt => "sqrt",
+            Call::Abs => "abs",
+            Call::Max => "max",
+            Call::Value => "value",
+            Call::Constant => "constant",
+        })
     }
 }
 
-// The records of s, one after the other.
-fn replay_all(s: &[u8], cases: &mut [u64; CALLS], differences: &mut [u64; CALLS]) {
-    let mut at = 0;
-    while RECORD <= s.len() - at {
-        replay_record(&s[at..], cases, differences);
-        at += RECORD;
-    }
-}
-
-// Reads a block of records and replays it.
-fn replay_block<R: Read>(reader: &mut R, cases: &mut [u64; CALLS], differences: &mut [u64; CALLS]) {
-    let mut buffer = [0u8; BLOCK];
-    let n = replay::read_full(reader, &mut buffer);
-    replay_all(&buffer[..n], cases, differences);
-}
-
-fn print_call(rt: &impl Print, name: &str, cases: u64, differences: u64) -> io::Result<()> {
-    println!(rt; "{name} {cases} cases {differences} differences")
+// Counts a record under its call.
+fn replay_record(record: &[u8], tallies: &mut [Tally; 5]) {
+    let call = Call::of(replay::number(record, 0));
+    let x = replay::double(replay::number(record, 1));
+    let y = replay::double(replay::number(record, 2));
+    tallies[call as usize].count(replay::is_same(call.answer(x, y), replay::number(record, 3)));
 }
 
 fn main(rt: HostRuntime) -> io::Result<()> {
     let mut reader = rt.reader();
-    let mut cases = [0u64; CALLS];
-    let mut differences = [0u64; CALLS];
-    replay_block(&mut reader, &mut cases, &mut differences);
-    replay_block(&mut reader, &mut cases, &mut differences);
-    print_call(&rt, "sqrt", cases[0], differences[0])?;
-    print_call(&rt, "abs", cases[1], differences[1])?;
-    print_call(&rt, "max", cases[2], differences[2])?;
-    print_call(&rt, "value", cases[3], differences[3])?;
-    print_call(&rt, "constant", cases[4], differences[4])
+    let mut buffer = [0u8; BLOCK];
+    let mut tallies = [Tally::default(); 5];
+    for _ in 0..2 {
+        let n = reading::read_full(&mut reader, &mut buffer);
+        for record in buffer[..n].chunks_exact(RECORD) {
+            replay_record(record, &mut tallies);
+        }
+    }
+    for (call, tally) in Call::ALL.iter().zip(&tallies) {
+        println!(rt;
+            "{call} {} cases {} differences",
+            tally.cases, tally.differences
+        )?;
+    }
+    Ok(())
 }

@@ -6,37 +6,31 @@ ghost use Rattle.pairing.specs.Private.{look_at, search_row, search};
 use crate::{Foremost, NOBODY};
 
 // The best so far, and then the pair of first track i with second track j, which comes after it by index.
-fn look_at(best: Foremost, key: f64, i: usize, j: usize) -> Foremost
+#[tactic(auto, unfolding(crate::specs::Private::look_at))]
+fn look_at(best: Option<Foremost>, key: f64, i: usize, j: usize) -> Option<Foremost>
     ensures { result ≡ look_at best key i j }
 {
-    if best.found {
-        if key < best.key {
-            return Foremost {
-                found: true,
-                key: key,
-                first: i,
-                second: j,
-            };
-        }
-        return best;
+    let looked_at = Some(Foremost {
+        key,
+        first: i,
+        second: j,
+    });
+    match best {
+        Some(best) if key < best.key => looked_at,
+        None if key == key => looked_at,
+        _ => best,
     }
-    if key == key {
-        return Foremost {
-            found: true,
-            key: key,
-            first: i,
-            second: j,
-        };
-    }
-    best
 }
 
-// The best so far, and then the pairs of first track i with the free ones of n second tracks.
-fn search_row(keys: &[f64], n: usize, seconds: &[u8], i: usize, start: Foremost) -> Foremost
-    requires { (i * n + n ≤ length keys.now) × (length seconds.now ≡ n) }
-    ensures { result ≡ search_row keys.now n seconds.now i n start }
+// The best so far, and then the pairs of first track i with the free second tracks.
+#[tactic(auto, unfolding(crate::specs::Private::search_row, crate::specs::Keys::key_of))]
+fn search_row(keys: &[f64], seconds: &[u8], i: usize, start: Option<Foremost>) -> Option<Foremost>
+    requires { i * length seconds.now + length seconds.now ≤ length keys.now }
+    ensures { result ≡ search_row keys.now (length seconds.now) seconds.now i (length seconds.now) start }
 {
+    let n = seconds.len();
     let mut best = start;
+    // The best so far goes on from pair to pair: a fold is no plainer.
     for j in 0..n {
         if seconds[j] == NOBODY {
             best = look_at(best, keys[i * n + j], i, j);
@@ -45,20 +39,17 @@ fn search_row(keys: &[f64], n: usize, seconds: &[u8], i: usize, start: Foremost)
     best
 }
 
-// The best of the pairs of free tracks, of m first and n second ones.
-pub(crate) fn search(keys: &[f64], m: usize, n: usize, firsts: &[u8], seconds: &[u8]) -> Foremost
-    requires { Shape keys.now m n firsts.now seconds.now }
-    ensures { result ≡ search keys.now n firsts.now seconds.now m }
+// The best of the pairs of free tracks.
+#[tactic(auto, unfolding(crate::specs::Private::search))]
+pub(crate) fn search(keys: &[f64], firsts: &[u8], seconds: &[u8]) -> Option<Foremost>
+    requires { Shape keys.now (length firsts.now) (length seconds.now) firsts.now seconds.now }
+    ensures { result ≡ search keys.now (length seconds.now) firsts.now seconds.now (length firsts.now) }
 {
-    let mut best = Foremost {
-        found: false,
-        key: 0.0,
-        first: 0,
-        second: 0,
-    };
-    for i in 0..m {
+    let mut best = None;
+    // Likewise from row to row.
+    for i in 0..firsts.len() {
         if firsts[i] == NOBODY {
-            best = search_row(keys, n, seconds, i, best);
+            best = search_row(keys, seconds, i, best);
         }
     }
     best

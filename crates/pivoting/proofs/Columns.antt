@@ -8,12 +8,14 @@ use mathlib.Core.List.{List}
 use mathlib.Core.Path.{◌≡◌, refl, sym, ap, ◌∙◌}
 use borrow.Author.Tests.{eq-eqb, ne_eqb, lt-ltb, le-ltb}
 use lib.Ieee.{Float}
-use Rattle.kernel.specs.Answer.{answered, ask, through}
+use Rattle.kernel.specs.Answer.{ask, through}
 use Rattle.dense.specs.Matrix.{nth, at, matrix, column_of}
 use Rattle.dense.proofs.Laws.{length-matrix, nth-tabulate, by_entries, at-matrix}
 use Rattle.pivoting.specs.Pivot.{row_norms, some_scale, best_of, swapped, swapped_norms, Stage, pivot_at, pivoted}
 use Rattle.pivoting.specs.Solve.{step_entry, column, reduced, augmented_entry, augmented, start, solution, solved}
 use Rattle.pivoting.proofs.Pivots.{pivot-row}
+use Rattle.std.specs.Prelude.{Ok}
+use Rattle.kernel.specs.declared.question.Question.TheVariants as question
 
 -- Two stages of n rows, with w and v columns, have equal norms and equal first n columns, and column c of the one is column d of the other.
 pub record Alike (n w v c d : ℕ) (t u : Stage) : Type 0 where
@@ -139,7 +141,8 @@ solved-column a b n r j h = rw pivots (go (some_scale n (row_norms a n)) (pivote
     pivots : pivoted n (n + r) (reduced n (n + r) (start a b n r)) n ≡ pivoted n (n + 1) (reduced n (n + 1) (start a (column_of b n r j) n 1)) n
     pivots = same-pivoted n (n + r) (n + 1) (n + j) n (omega arith) (omega arith) (omega arith) (omega arith) _ _ (start_alike a b n r j h) n (omega arith)
 
-    go : (x p : Bool) → through (λ v. column_of v n r j) (ask 5 x (ask 6 p (answered (solution a b n r)))) ≡ ask 5 x (ask 6 p (answered (solution a (column_of b n r j) n 1)))
-    go true true = ap answered (solution-column a b n r j h)
+    go : (x p : Bool) → through (λ v. column_of v n r j) (ask question.RowNorm x (ask question.PivotRatio p (Ok (solution a b n r))))
+        ≡ ask question.RowNorm x (ask question.PivotRatio p (Ok (solution a (column_of b n r j) n 1)))
+    go true true = ap Ok (solution-column a b n r j h)
     go true false = refl
     go false p = refl

@@ -1,22 +1,25 @@
 -- Laws of the reduction below the diagonal: one step from its parts (`forward_stepped`), and one column more of the matrix (`triangulated_more`), of the sign (`sign_more`)
 -- and of the product (`product_more`).
-use Prim.Native.Nat.{ℕ, ◌+◌, ◌<◌}
+use Prim.Native.Nat.{ℕ, ◌+◌, ◌*◌, ◌<◌, ◌≤◌}
 use native.Mathlib.Omega.{arith}
 use native.Mathlib.Numerals.{add-one}
 use native.Mathlib.Decide.{dec_lt, ℕ_discrete}
-use mathlib.Core.Bool.{cond}
+use mathlib.Core.Bool.{true, cond}
 use mathlib.Core.List.{List}
-use mathlib.Core.Path.{◌≡◌, ap, ◌∙◌}
+use mathlib.Core.Path.{◌≡◌, sym, ap, ◌∙◌}
 use borrow.Author.Tests.{eq-eqb, ne_eqb, lt-ltb, le-ltb}
 use lib.Dec.{eqb, ltb}
 use lib.Ieee.{Float}
 use Rattle.kernel.specs.Number.{mul}
-use Rattle.dense.specs.Matrix.{nth, at, matrix}
+use Rattle.dense.specs.Matrix.{nth, at, row_of, matrix}
 use Rattle.kernel.specs.Lists.{tabulate}
-use Rattle.dense.proofs.Laws.{nth-tabulate, at-matrix, matrix_ext}
-use Rattle.pivoting.specs.declared.Pivot.{Pivot}
-use Rattle.pivoting.specs.Pivot.{pivot, swapped, swapped_norms, Stage, stage}
-use Rattle.pivoting.specs.Det.{forward_entry, forward_step, triangulated, flipped, swap_sign, pivot_product}
+use Rattle.kernel.proofs.Lists.{length-tabulate}
+use Rattle.dense.proofs.Laws.{nth-tabulate, by_entries, at-matrix, matrix_ext, length-row, nth-row}
+use Rattle.std.specs.List.{SwappedAt}
+use Rattle.pivoting.proofs.Stages.{PivotFound, swapped_lem, Columns}
+use lib.ListN.{length}
+use Rattle.pivoting.specs.Pivot.{row_norm, row_norms, some_scale, swapped, Stage, stage}
+use Rattle.pivoting.specs.Det.{forward_entry, forward_step, triangulated, flipped, swap_sign, pivot_product, signed_product, determinant}
 use Rattle.pivoting.specs.Private.{pivot_or_below}
 
 -- entry (i, j) when row k of m, of n columns, becomes x, and every row below it loses its part of x
@@ -43,16 +46,35 @@ forward_stepped m x m₁ n k p h e f = matrix_ext n n _ _ (λ i j a b. go i j a 
         below : (i : ℕ) → (i < k → ⊥) → (i ≡ k → ⊥) → k < i
         below i l s = omega arith
 
-module _ (n : ℕ) (f : ℕ → Stage) (k : ℕ) {m s : List Float} {b : Pivot} (here : stage m s ≡ f k) (best : b ≡ pivot m s n n k) where
-  pub sign_more : {g r : Float} → g ≡ swap_sign n f k → r ≡ flipped g k b.row → r ≡ swap_sign n f (k + 1)
+-- row i of m, by its entries
+pub row_entries : (m : List Float) (n i : ℕ) → i * n + n ≤ length m → row_of m n i ≡ tabulate n (at m n i)
+row_entries m n i h = by_entries n _ (row_of m n i) (length-row m n i h) (λ j l. nth-row m n i j l)
+
+module _ (n : ℕ) (f : ℕ → Stage) (k : ℕ) {m s : List Float} {p : ℕ} (here : stage m s ≡ f k) (best : PivotFound m s n n k p) where
+  pub sign_more : {g r : Float} → g ≡ swap_sign n f k → r ≡ flipped g k p → r ≡ swap_sign n f (k + 1)
   unfolding swap_sign
-  sign_more p q = q ∙ rw (add-one, p, best, ← here)
+  sign_more e q = q ∙ rw (add-one, e, ← best.row, ← here)
 
-  pub product_more : {d v : Float} → d ≡ pivot_product n f k → v ≡ at m n b.row k → mul d v ≡ pivot_product n f (k + 1)
+  pub product_more : {d v : Float} → d ≡ pivot_product n f k → v ≡ at m n p k → mul d v ≡ pivot_product n f (k + 1)
   unfolding pivot_product
-  product_more p q = rw (add-one, p, q, best, ← here)
+  product_more e q = rw (add-one, e, q, ← best.row, ← here)
 
-pub triangulated_more : (n : ℕ) (t : Stage) (k : ℕ) (m s m₁ s₁ : List Float) (b : Pivot) → stage m s ≡ triangulated n t k → b ≡ pivot m s n n k
-    → m₁ ≡ matrix n n (forward_entry m n k b.row) → s₁ ≡ swapped_norms n k b.row s → stage m₁ s₁ ≡ triangulated n t (k + 1)
+pub triangulated_more : (n : ℕ) (t : Stage) (k : ℕ) (m s m₁ s₁ : List Float) {p : ℕ} → stage m s ≡ triangulated n t k → PivotFound m s n n k p
+    → m₁ ≡ matrix n n (forward_entry m n k p) → length s₁ ≡ n → SwappedAt s s₁ k p → stage m₁ s₁ ≡ triangulated n t (k + 1)
 unfolding triangulated forward_step
-triangulated_more n t k m s m₁ s₁ b here best p q = rw (add-one, p, q, best, ← here)
+triangulated_more n t k m s m₁ s₁ {p} here best e l q = rw (add-one, e, swapped_lem n k p s s₁ l q, ← best.row, ← here)
+
+-- the first k columns are reduced, as f says, and sign and product are those of their pivots
+pub record Multiplying (n : ℕ) (f : ℕ → Stage) (k : ℕ) (m s : List Float) (sign det : Float) : Type 0 where
+  pub columns : Columns n n f k m s
+  pub flips : sign ≡ swap_sign n f k
+  pub product : det ≡ pivot_product n f k
+
+-- question 5 is met, and the copy of a with its norms has the signed product r
+pub determined : (a m s : List Float) (n : ℕ) {r : Float} → m ≡ a → s ≡ row_norms a n → some_scale (length s) s ≡ true
+    → r ≡ signed_product n (triangulated n (stage m s)) → r ≡ determinant a n
+unfolding determinant
+determined a m s n {r} e f t q = rw (sym f, rw l at t, sym e) q
+  where
+    l : length s ≡ n
+    l = ap length f ∙ length-tabulate n (row_norm a n)

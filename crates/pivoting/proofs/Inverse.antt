@@ -12,6 +12,7 @@ use Rattle.dense.proofs.Laws.{at-matrix}
 use Rattle.dense.proofs.Tests.{long_of}
 use Rattle.pivoting.specs.Solve.{solved, mat_solve, inverse, mat_inv}
 use Rattle.pivoting.proofs.Columns.{solved-column}
+use Rattle.kernel.specs.declared.question.Question.TheVariants as question
 
 identity-column : (n j : ℕ) → j < n → column_of (identity n) n n j ≡ unit_vector n j
 identity-column n j h = tabulate_ext n _ _ (λ i k. at-matrix n n unit_entry i j k h)
@@ -25,7 +26,8 @@ inverse-column a out x n j h p q =
     column : through (λ v. column_of v n n j) (inverse a n) ≡ solved a (unit_vector n j) n 1
     column = solved-column a (identity n) n n j h ∙ ap (λ (b : List Float). solved a b n 1) (identity-column n j h)
 
-    go : (s l : Bool) → through (λ v. column_of v n n j) (ask 1 s (ask 2 (l && true) (inverse a n))) ≡ ask 1 s (ask 2 (l && (true && true)) (solved a (unit_vector n j) n 1))
+    go : (s l : Bool) → through (λ v. column_of v n n j) (ask question.Side s (ask question.Length (l && true) (inverse a n)))
+        ≡ ask question.Side s (ask question.Length (l && (true && true)) (solved a (unit_vector n j) n 1))
     go true true = column
     go true false = refl
     go false l = refl

@@ -1,10 +1,8 @@
 pub mod Ratios
 pub mod Pivots
 pub mod Stages
-pub mod Started
 pub mod Columns
 pub mod Inverse
 pub mod Determinants
 pub mod Distances
-pub mod Rooms
 pub mod Single

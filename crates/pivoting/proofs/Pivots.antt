@@ -1,9 +1,10 @@
 -- Laws of the choice of a pivot row. `best_none` and `best_more`: the best before the first row, and after one row more. `best_abs`: its ratio has no sign.
--- `pivot-row`: it is one of the rows.
+-- `pivot-row`: it is one of the rows. `scale_found`: a norm that answers question 5.
 use Prim.Native.Nat.{ℕ, zero, suc, ◌+◌, ◌-◌, ◌<◌, ◌≤◌}
 use native.Mathlib.Omega.{arith}
-use native.Mathlib.Nat.{sub_self}
-use mathlib.Core.Bool.{Bool, true, false, cond}
+use native.Mathlib.Nat.{sub_self, eq-or-lt_of_le, le_of_suc-le-suc}
+use mathlib.Core.Logic.{⊎_elim}
+use mathlib.Core.Bool.{Bool, true, false, cond, not, ◌||◌, or-true}
 use mathlib.Core.List.{List}
 use mathlib.Core.Path.{◌≡◌, refl, sym, ap, ◌∙◌, subst}
 use lib.Ieee.{Float, lt, of_bits}
@@ -11,7 +12,7 @@ use Rattle.kernel.specs.Number.{abs, div}
 use Rattle.kernel.specs.Constants.{nought, min_scale}
 use Rattle.dense.specs.Matrix.{nth, at}
 use Rattle.pivoting.specs.declared.Pivot.{Pivot}
-use Rattle.pivoting.specs.Pivot.{consider, best_of, pivot}
+use Rattle.pivoting.specs.Pivot.{some_scale, consider, best_of, pivot}
 use Rattle.dense.proofs.Signs.{abs-abs}
 use Rattle.pivoting.proofs.Ratios.{abs-ratio}
 
@@ -84,3 +85,13 @@ best_row m s n w k (suc d) h l =
 -- the pivot b stands in one of the n rows
 pub pivot-row : (m s : List Float) (n w k : ℕ) {b : Pivot} → k < n → b ≡ pivot m s n w k → b.row < n
 pivot-row m s n w k h e = subst (λ (q : Pivot). q.row < n) (sym e) (best_row m s n w k (n - k) h (omega arith))
+
+-- a norm that is not too small answers question 5 for all
+pub scale_found : (s : List Float) (n j : ℕ) → j < n → lt (nth s j) min_scale ≡ false → some_scale n s ≡ true
+unfolding some_scale
+scale_found s zero j h e = absurd (omega arith)
+scale_found s (suc n) j h e =
+    ⊎_elim
+    (λ (l : j ≡ n). ap (λ (b : Bool). some_scale n s || not b) (ap (λ (k : ℕ). lt (nth s k) min_scale) (sym l) ∙ e) ∙ or-true (some_scale n s))
+    (λ (l : j < n). rw (scale_found s n j l e))
+    (eq-or-lt_of_le (le_of_suc-le-suc h))

@@ -2,11 +2,13 @@
 use Rattle.std.specs.Prelude.{ℕ, zero, suc, ◌*◌, cond, ◌&&◌, List, eqb, ltb, Float}
 use Rattle.std.specs.Float.Ieee.{neg}
 use Rattle.kernel.specs.Number.{sub, mul, div}
-use Rattle.kernel.specs.Answer.{Outcome, answered, ask}
+use Rattle.kernel.specs.Answer.{Outcome, ask}
 use Rattle.kernel.specs.Constants.{nought, one}
 use Rattle.dense.specs.Matrix.{at, row_of, matrix, is_side, has_length, max_abs}
 use Rattle.kernel.specs.Lists.{tabulate}
 use Rattle.pivoting.specs.Pivot.{row_norms, some_scale, best_of, swapped, swapped_norms, Stage, stage, pivot_at, pivoted}
+use Rattle.std.specs.Prelude.{Ok}
+use Rattle.kernel.specs.declared.question.Question.TheVariants as question
 
 -- Entry (i, j) when the pivot of column k is in row p: rows k and p of m, of n columns, have changed places, and each row
 -- below row k loses, right of column k, its own entry in column k over the pivot, times row k.
@@ -59,4 +61,4 @@ determinant a n = cond (some_scale n (row_norms a n)) (signed_product n (triangu
 -- `mat_det`
 unfoldable pub mat_det : List Float → ℕ → Outcome Float
 unfolding determinant is_side has_length
-mat_det a n = ask 1 (is_side n) (ask 2 (has_length a (n * n)) (answered (determinant a n)))
+mat_det a n = ask question.Side (is_side n) (ask question.Length (has_length a (n * n)) (Ok (determinant a n)))

@@ -2,11 +2,13 @@
 use Rattle.std.specs.Prelude.{ℕ, zero, suc, ◌+◌, ◌*◌, ◌-◌, Bool, true, false, cond, not, ◌&&◌, ◌||◌, List, eqb, Float}
 use Rattle.std.specs.Float.Ieee.{lt}
 use Rattle.kernel.specs.Number.{abs, div}
-use Rattle.kernel.specs.Answer.{Outcome, answered, ask}
+use Rattle.kernel.specs.Answer.{Outcome, ask}
 use Rattle.kernel.specs.Constants.{nought, rel_tol, min_scale}
 use Rattle.dense.specs.Matrix.{nth, at, row_of, is_side, has_length, max_abs}
 use Rattle.kernel.specs.Lists.{tabulate}
 use Rattle.pivoting.specs.declared.Pivot.{Pivot}
+use Rattle.std.specs.Prelude.{Ok}
+use Rattle.kernel.specs.declared.question.Question.TheVariants as question
 
 -- the norm of row i of a, n by n: its greatest |entry|, from 0.0
 abbrev pub row_norm : List Float → ℕ → ℕ → Float
@@ -19,7 +21,7 @@ row_norms a n = tabulate n (row_norm a n)
 -- `row_inf_norms`
 unfoldable pub row_inf_norms : List Float → ℕ → List Float → Outcome (List Float)
 unfolding max_abs row_of tabulate is_side has_length
-row_inf_norms a n out = ask 1 (is_side n) (ask 2 (has_length a (n * n) && has_length out n) (answered (row_norms a n)))
+row_inf_norms a n out = ask question.Side (is_side n) (ask question.Length (has_length a (n * n) && has_length out n) (Ok (row_norms a n)))
 
 -- whether one of the first n norms is not below 1e-150
 unfoldable pub some_scale : ℕ → List Float → Bool

@@ -1,19 +1,11 @@
 -- Words of the private contracts: what the functions ask of their slices, and what they do to a row. No definition that a user reads needs them.
-use Rattle.std.specs.Prelude.{ℕ, ◌+◌, ◌*◌, ◌<◌, ◌≤◌, Bool, cond, List, ◌≡◌, eqb, ltb, Float, length}
+use Rattle.std.specs.Prelude.{ℕ, ◌*◌, ◌<◌, cond, List, ◌≡◌, eqb, ltb, Float, length}
 use Rattle.kernel.specs.Number.{sub, mul, div}
-use Rattle.dense.specs.Private.{Reaches}
-use Rattle.dense.specs.declared.Written.{Written}
-use Rattle.dense.specs.declared.Written.TheVariants as written
-use Rattle.dense.specs.declared.Number.{Number}
-use Rattle.dense.specs.declared.Number.TheVariants as number
-use Rattle.pivoting.specs.Pivot.{Stage, pivoted}
-use Rattle.pivoting.specs.Solve.{reduced}
 
--- two rows of w entries, with a column k
-pub record TwoRows (w k : ℕ) (x y : List Float) : Type 0 where
-  pub column : k < w
-  pub left : length x ≡ w
-  pub right : length y ≡ w
+-- two rows of equally many entries, with a column k
+pub record TwoRows (k : ℕ) (x y : List Float) : Type 0 where
+  pub column : k < length x
+  pub even : length x ≡ length y
 
 -- a matrix m, n by w, with a column k and a row x that is taken from its rows
 pub record Clearing (n w k : ℕ) (x m : List Float) : Type 0 where
@@ -46,32 +38,11 @@ pub record System (n r : ℕ) (a b out : List Float) : Type 0 where
   pub sides : length b ≡ n * r
   pub solution : length out ≡ n * r
 
--- the same with room for its elimination
-pub record SystemIn (n r : ℕ) (a b m s x out : List Float) : Type 0 where
-  pub narrow : n + r ≤ 32
-  pub system : System n r a b out
-  pub room : Elimination n (n + r) m s x
-
--- the same with few rows and right sides
-pub record SystemTo (most n r : ℕ) (a b out : List Float) : Type 0 where
-  pub order : n ≤ most
-  pub few : r ≤ most
-  pub system : System n r a b out
-
 -- two vectors of n entries, and an n by n matrix
 pub record Under (x mu cov : List Float) (n : ℕ) : Type 0 where
   pub first : length x ≡ n
   pub second : length mu ≡ n
   pub square : length cov ≡ n * n
-
--- question 6 of n rows and w columns that were at stage t has the answer r, and where it is yes they are reduced, to stage u
-abbrev pub Reduces : ℕ → ℕ → Stage → Bool → Stage → Type 0
-Reduces n w t r u = Reaches (pivoted n w (reduced n w t) n) r (u ≡ reduced n w t n)
-
--- the answer where v is the number that follows a call that wrote: its refusal stays
-abbrev pub following : Written → Float → Number
-following (written.Refused k) v = number.Refused k
-following written.Done v = number.Value v
 
 -- entry j of y less, right of column k, its own entry in column k over that of x, times x
 abbrev pub below_pivot : (ℕ → Float) → (ℕ → Float) → ℕ → ℕ → Float

@@ -1,11 +1,13 @@
 -- Gauss–Jordan elimination by scaled pivots, of document 01, "Pivoting": `mat_solve`, `mat_inv` and the distance over the inverse.
 use Rattle.std.specs.Prelude.{ℕ, zero, suc, ◌+◌, ◌*◌, ◌-◌, cond, ◌&&◌, List, eqb, ltb, Float}
 use Rattle.kernel.specs.Number.{sub, mul, div}
-use Rattle.kernel.specs.Answer.{Outcome, answered, ask, through}
+use Rattle.kernel.specs.Answer.{Outcome, ask, through}
 use Rattle.dense.specs.Matrix.{at, row_of, matrix, identity, is_side, has_length, max_abs}
 use Rattle.kernel.specs.Lists.{tabulate}
 use Rattle.linalg.specs.Sums.{difference, quadratic_form}
 use Rattle.pivoting.specs.Pivot.{row_norms, some_scale, best_of, swapped, swapped_norms, Stage, stage, pivot_at, pivoted}
+use Rattle.std.specs.Prelude.{Ok}
+use Rattle.kernel.specs.declared.question.Question.TheVariants as question
 
 -- entry j of row p of m, of w columns, divided by its entry in column k
 abbrev pub divided_entry : List Float → ℕ → ℕ → ℕ → ℕ → Float
@@ -59,9 +61,9 @@ solution a b n r = right_of n r (reduced n (n + r) (start a b n r) n)
 -- questions 5 and 6 of a stage of n rows and n + r columns, and then its right part when the first n columns are reduced
 abbrev pub solved_from : ℕ → ℕ → Stage → Outcome (List Float)
 solved_from n r t =
-    ask 5 (some_scale n t.norms)
-    (ask 6 (pivoted n (n + r) (reduced n (n + r) t) n)
-    (answered (right_of n r (reduced n (n + r) t n))))
+    ask question.RowNorm (some_scale n t.norms)
+    (ask question.PivotRatio (pivoted n (n + r) (reduced n (n + r) t) n)
+    (Ok (right_of n r (reduced n (n + r) t n))))
 
 -- questions 5 and 6, and then the solution
 unfoldable pub solved : List Float → List Float → ℕ → ℕ → Outcome (List Float)
@@ -72,8 +74,8 @@ solved a b n r = solved_from n r (start a b n r)
 unfoldable pub mat_solve : List Float → List Float → ℕ → List Float → Outcome (List Float)
 unfolding solved is_side has_length
 mat_solve a b n out =
-    ask 1 (is_side n)
-    (ask 2 (has_length a (n * n) && (has_length b n && has_length out n))
+    ask question.Side (is_side n)
+    (ask question.Length (has_length a (n * n) && (has_length b n && has_length out n))
     (solved a b n 1))
 
 -- questions 5 and 6, and then the inverse of a, n by n: the solution against the identity
@@ -85,8 +87,8 @@ inverse a n = solved a (identity n) n n
 unfoldable pub mat_inv : List Float → ℕ → List Float → Outcome (List Float)
 unfolding inverse is_side has_length
 mat_inv a n out =
-    ask 1 (is_side n)
-    (ask 2 (has_length a (n * n) && has_length out (n * n))
+    ask question.Side (is_side n)
+    (ask question.Length (has_length a (n * n) && has_length out (n * n))
     (inverse a n))
 
 -- the quadratic form of x - mu under the inverse of cov, n by n, where it has one
@@ -98,6 +100,6 @@ distance x mu cov n = through (λ inv. quadratic_form (difference x mu n) inv n)
 unfoldable pub mahalanobis : List Float → List Float → List Float → ℕ → Outcome Float
 unfolding distance is_side has_length
 mahalanobis x mu cov n =
-    ask 1 (is_side n)
-    (ask 2 (has_length x n && (has_length mu n && has_length cov (n * n)))
+    ask question.Side (is_side n)
+    (ask question.Length (has_length x n && (has_length mu n && has_length cov (n * n)))
     (distance x mu cov n))

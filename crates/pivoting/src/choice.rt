@@ -1,13 +1,17 @@
 // The choice of a pivot row, and question 6.
-ghost use Rattle.std.specs.Prelude.{◌≡◌, ◌*◌, ◌<◌, length};
+ghost use Rattle.std.specs.Prelude.{◌≡◌, ◌*◌, ◌<◌, length, Ok};
+ghost use Rattle.kernel.specs.Answer.{ask};
 ghost use Rattle.kernel.specs.Number.{abs};
-ghost use Rattle.pivoting.specs.Pivot.{consider, pivot, taken, swapped_norms};
+ghost use Rattle.kernel.specs.declared.question.Question.TheVariants as question;
+ghost use Rattle.pivoting.specs.Pivot.{consider, pivot, taken};
 
 use crate::Pivot;
 use dense::shape::entry;
 use kernel::constants::{MIN_SCALE, REL_TOL};
+use kernel::question::Question;
 
 // The best row so far, and then row i, whose norm is s and whose entry in the column is x.
+#[tactic(auto, unfolding(crate::specs::Pivot::consider))]
 pub(crate) fn consider(best: Pivot, s: f64, x: f64, i: usize) -> Pivot
     requires { abs best.ratio ≡ best.ratio }
     ensures { result ≡ consider best s x i }
@@ -17,10 +21,7 @@ pub(crate) fn consider(best: Pivot, s: f64, x: f64, i: usize) -> Pivot
     }
     let ratio = x / s;
     if ratio > best.ratio {
-        return Pivot {
-            ratio: ratio,
-            row: i,
-        };
+        return Pivot { ratio, row: i };
     }
     if -ratio > best.ratio {
         return Pivot {
@@ -32,11 +33,12 @@ pub(crate) fn consider(best: Pivot, s: f64, x: f64, i: usize) -> Pivot
 }
 
 // The pivot of column k of m, n by w, with norms s.
-pub(crate) fn choose(m: &[f64], s: &[f64], n: usize, w: usize, k: usize) -> Pivot
+fn choose(m: &[f64], s: &[f64], n: usize, w: usize, k: usize) -> Pivot
     requires { (k < n) × (k < w) × (length m.now ≡ n * w) × (length s.now ≡ n) }
     ensures { result ≡ pivot m.now s.now n w k }
 {
     let mut best = Pivot { ratio: 0.0, row: k };
+    // The best so far goes on from row to row: a fold is no plainer.
     for i in k..n {
         best = consider(best, s[i], entry(m, w, i, k), i);
     }
@@ -44,18 +46,27 @@ pub(crate) fn choose(m: &[f64], s: &[f64], n: usize, w: usize, k: usize) -> Pivo
 }
 
 // Question 6: whether the pivot p is taken.
+#[tactic(auto, unfolding(crate::specs::Pivot::taken))]
 pub(crate) fn is_taken(p: Pivot) -> bool
     ensures { result ≡ taken p }
 {
     !(p.ratio < REL_TOL)
 }
 
-// The norms of rows k and p change places.
-pub(crate) fn swap_norms(s: &mut [f64], n: usize, k: usize, p: usize)
-    requires { (k < n) × (p < n) × (length s.old ≡ n) }
-    ensures { s.new ≡ swapped_norms n k p s.old }
+// Question 6 in column k of m, n by w, with norms s, and then the row of its pivot.
+pub(crate) fn pivot_row(
+    m: &[f64],
+    s: &[f64],
+    n: usize,
+    w: usize,
+    k: usize,
+) -> Result<usize, Question>
+    requires { (k < n) × (k < w) × (length m.now ≡ n * w) × (length s.now ≡ n) }
+    ensures { result ≡ ask question.PivotRatio (taken (pivot m.now s.now n w k)) (Ok (pivot m.now s.now n w k).row) }
 {
-    let x = s[k];
-    s[k] = s[p];
-    s[p] = x;
+    let best = choose(m, s, n, w, k);
+    if !is_taken(best) {
+        return Err(Question::PivotRatio);
+    }
+    Ok(best.row)
 }

@@ -1,27 +1,25 @@
 // The distance over the inverse for a caller that knows the lengths: what the project's own crates call, and no user does.
 ghost use Rattle.std.specs.Prelude.{◌≡◌, [], ◌∷◌, ◌≤◌};
-ghost use Rattle.dense.specs.Answer.{given};
 ghost use Rattle.dense.specs.Matrix.{max_abs};
 ghost use Rattle.pivoting.specs.Private.{Under};
 ghost use Rattle.pivoting.specs.Solve.{distance};
 
 use crate::Pivot;
 use crate::choice::{consider, is_taken};
-use crate::distance::{large_distance, small_distance};
-use dense::Number;
+use crate::distance::distance_within;
 use kernel::constants::MIN_SCALE;
 use kernel::number::abs;
-use kernel::question::{PIVOT_RATIO, ROW_NORM};
+use kernel::question::Question;
 
 // Questions 5 and 6, and then the quadratic form of x - mu under the inverse of cov, n by n, with the room that the order needs.
-pub fn distance(x: &[f64], mu: &[f64], cov: &[f64], n: usize) -> Number
+pub fn distance(x: &[f64], mu: &[f64], cov: &[f64], n: usize) -> Result<f64, Question>
     requires { Under x.now mu.now cov.now n × (n ≤ 16) }
-    ensures { result ≡ given (distance x.now mu.now cov.now n) }
+    ensures { result ≡ distance x.now mu.now cov.now n }
 {
     if n <= 4 {
-        return small_distance(x, mu, cov, n);
+        return distance_within::<16>(x, mu, cov, n);
     }
-    large_distance(x, mu, cov, n)
+    distance_within::<256>(x, mu, cov, n)
 }
 
 // The norm of a row of one entry.
@@ -36,17 +34,17 @@ fn single_norm(x: f64) -> f64
 }
 
 // The distance of order 1, of three numbers: no loops, and no room to clear.
-pub fn single_distance(x: f64, mu: f64, cov: f64) -> Number
-    ensures { result ≡ given (distance (x ∷ []) (mu ∷ []) (cov ∷ []) 1) }
+pub fn single_distance(x: f64, mu: f64, cov: f64) -> Result<f64, Question>
+    ensures { result ≡ distance (x ∷ []) (mu ∷ []) (cov ∷ []) 1 }
 {
     let norm = single_norm(cov);
     if norm < MIN_SCALE {
-        return Number::Refused(ROW_NORM);
+        return Err(Question::RowNorm);
     }
     let best = Pivot { ratio: 0.0, row: 0 };
     if !is_taken(consider(best, norm, cov, 0)) {
-        return Number::Refused(PIVOT_RATIO);
+        return Err(Question::PivotRatio);
     }
     let d = x - mu;
-    Number::Value(0.0 + d * (1.0 / cov) * d)
+    Ok(0.0 + d * (1.0 / cov) * d)
 }

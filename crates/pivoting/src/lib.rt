@@ -6,16 +6,13 @@ mod det;
 mod distance;
 pub mod generic;
 pub mod inside;
-mod invert;
 mod norms;
 mod reduce;
 mod rows;
 mod solve;
 
-pub use dense::{Number, Written};
-
 // The best pivot row of a column so far, and its ratio.
-#[derive(Clone, Copy)]
+#[derive(Clone, Copy, Debug)]
 pub struct Pivot {
     pub ratio: f64,
     pub row: usize,

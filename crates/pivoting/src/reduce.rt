@@ -1,22 +1,25 @@
 // Gauss–Jordan elimination in place.
-ghost use Rattle.std.specs.Prelude.{◌≡◌, ◌<◌, ◌≤◌};
+ghost use Rattle.std.specs.Prelude.{◌≡◌, ◌<◌, ◌≤◌, Ok};
 ghost use Rattle.dense.specs.Matrix.{nth, at, matrix};
-ghost use Rattle.pivoting.specs.Pivot.{pivot, taken, stage};
-ghost use Rattle.pivoting.specs.Solve.{cleared_entry, step_entry, column};
-ghost use Rattle.dense.specs.Private.{Reaches};
-ghost use Rattle.pivoting.specs.Private.{Clearing, PivotRow, Elimination, Column, Reduces};
+ghost use Rattle.kernel.specs.Answer.{ask};
+ghost use Rattle.kernel.specs.declared.question.Question.TheVariants as question;
+ghost use Rattle.pivoting.specs.Pivot.{pivot, taken, pivoted, stage};
+ghost use Rattle.pivoting.specs.Solve.{cleared_entry, step_entry, column, reduced};
+ghost use Rattle.pivoting.specs.Private.{Clearing, PivotRow, Elimination, Column};
 
-use crate::choice::{choose, is_taken, swap_norms};
+use crate::choice::pivot_row;
 use crate::rows::{copy_row, divided_row, reduce_row};
+use kernel::question::Question;
 
 // Row k of m, n by w, becomes x, and every other row loses its entry in column k times x.
 fn reduce_rows(x: &[f64], m: &mut [f64], n: usize, w: usize, k: usize)
     requires { Clearing n w k x.now m.old }
     ensures { m.new ≡ matrix n w (λ i. cleared_entry (nth x.now) (at m.old w i) k i) }
 {
+    // Each row is lent and changed in place.
     for i in 0..n {
         let start = i * w;
-        reduce_row(x, w, k, i, &mut m[start..start + w]);
+        reduce_row(x, k, i, &mut m[start..start + w]);
     }
 }
 
@@ -31,29 +34,40 @@ fn step(m: &mut [f64], x: &mut [f64], n: usize, w: usize, k: usize, p: usize)
 }
 
 // Question 6 in column k of m, n by w, with norms s; where it is met the column is reduced. x is room for a row.
-fn reduce_column(m: &mut [f64], s: &mut [f64], x: &mut [f64], n: usize, w: usize, k: usize) -> bool
+fn reduce_column(
+    m: &mut [f64],
+    s: &mut [f64],
+    x: &mut [f64],
+    n: usize,
+    w: usize,
+    k: usize,
+) -> Result<(), Question>
     requires { Column n w k m.old s.old x.old }
-    ensures { Reaches (taken (pivot m.old s.old n w k)) result (stage m.new s.new ≡ column n w k (stage m.old s.old)) }
+    ensures answers { result ≡ ask question.PivotRatio (taken (pivot m.old s.old n w k)) (Ok tt) }
+    ensures reduced { result ≡ Ok tt → stage m.new s.new ≡ column n w k (stage m.old s.old) }
 {
-    let best = choose(m, s, n, w, k);
-    if !is_taken(best) {
-        return false;
-    }
-    let p = best.row;
-    swap_norms(s, n, k, p);
+    let p = pivot_row(m, s, n, w, k)?;
+    s.swap(k, p);
     step(m, x, n, w, k, p);
-    true
+    Ok(())
 }
 
 // Question 6 in the first n columns of m, n by w, with norms s; where it is met all are reduced. x is room for a row.
-pub(crate) fn reduce(m: &mut [f64], s: &mut [f64], x: &mut [f64], n: usize, w: usize) -> bool
+#[tactic(auto, using(crate::proofs::Stages::column_laws), unfolding(crate::specs::Solve::reduced, crate::specs::Pivot::pivoted))]
+pub(crate) fn reduce(
+    m: &mut [f64],
+    s: &mut [f64],
+    x: &mut [f64],
+    n: usize,
+    w: usize,
+) -> Result<(), Question>
     requires { (n ≤ w) × Elimination n w m.old s.old x.old }
-    ensures { Reduces n w (stage m.old s.old) result (stage m.new s.new) }
+    ensures answers { result ≡ ask question.PivotRatio (pivoted n w (reduced n w (stage m.old s.old)) n) (Ok tt) }
+    ensures reduced { result ≡ Ok tt → stage m.new s.new ≡ reduced n w (stage m.old s.old) n }
 {
+    // Steps: each column is reduced after the one before.
     for k in 0..n {
-        if !reduce_column(m, s, x, n, w, k) {
-            return false;
-        }
+        reduce_column(m, s, x, n, w, k)?;
     }
-    true
+    Ok(())
 }

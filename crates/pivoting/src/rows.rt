@@ -1,24 +1,27 @@
 // Loops over one row of a matrix.
-ghost use Rattle.std.specs.Prelude.{◌≡◌, cond, ◌+◌, ◌*◌, ◌-◌, ◌<◌, eqb, length};
+ghost use Rattle.std.specs.Prelude.{◌≡◌, cond, ◌+◌, ◌*◌, ◌<◌, eqb, length};
 ghost use Rattle.dense.specs.Matrix.{nth, at, matrix};
 ghost use Rattle.kernel.specs.Lists.{tabulate};
 ghost use Rattle.pivoting.specs.Solve.{divided_entry, cleared_entry};
 ghost use Rattle.pivoting.specs.Private.{TwoRows, PivotRow};
 
+use dense::fill::fill;
 use dense::shape::entry;
-use dense::vector::{copy, subtract_scaled};
+use dense::vector::subtract_scaled;
 
-// Row i of a Gauss–Jordan step in column k, from y: the divided pivot row x where i is k, else y less its entry in column k times x.
-pub(crate) fn reduce_row(x: &[f64], w: usize, k: usize, i: usize, y: &mut [f64])
-    requires { TwoRows w k x.now y.old }
-    ensures { y.new ≡ tabulate w (cleared_entry (nth x.now) (nth y.old) k i) }
+// Row i of a Gauss–Jordan step in column k, from y: the divided pivot row x where i is k, else y less its entry in column
+// k times x.
+#[tactic(auto, using(dense::proofs::Laws::by_entries))]
+pub(crate) fn reduce_row(x: &[f64], k: usize, i: usize, y: &mut [f64])
+    requires { TwoRows k x.now y.old }
+    ensures { y.new ≡ tabulate (length x.now) (cleared_entry (nth x.now) (nth y.old) k i) }
 {
     if i == k {
-        copy(x, w, y);
+        fill(|j| x[j], y); // at these orders a loop takes less time than a copy by `copy_from_slice`
         return;
     }
     let factor = y[k];
-    subtract_scaled(factor, x, w, y);
+    subtract_scaled(factor, x, y);
 }
 
 // Writes row p of m, n by w, divided by its entry in column k.
@@ -27,9 +30,7 @@ pub(crate) fn divided_row(m: &[f64], n: usize, w: usize, p: usize, k: usize, y: 
     ensures { y.new ≡ tabulate w (divided_entry m.now w p k) }
 {
     let d = entry(m, w, p, k);
-    for j in 0..w {
-        y[j] = entry(m, w, p, j) / d;
-    }
+    fill(|j| entry(m, w, p, j) / d, y);
 }
 
 // Copies row k of m, n by w, to row p.
@@ -37,6 +38,7 @@ pub(crate) fn copy_row(m: &mut [f64], n: usize, w: usize, k: usize, p: usize)
     requires { (k < n) × (p < n) × (length m.old ≡ n * w) }
     ensures { m.new ≡ matrix n w (λ i j. at m.old w (cond (eqb i p) k i) j) }
 {
+    // A loop: `copy_within` calls memmove, and small orders took up to a fifth longer.
     for j in 0..w {
         m[p * w + j] = entry(m, w, k, j);
     }

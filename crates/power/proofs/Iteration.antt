@@ -1,5 +1,5 @@
 -- Laws of the rounds of the power iteration. `round_made`: what a round computes is `converges` and `advanced`. `Before` is what the loop holds before round k: `begun`
--- at the first, `goes_on` after a round that is not the last; `ends_vanished`, `ends-converged` and `ends-after_all`: what it leaves. `stays`: a vector that a round
+-- at the first, `goes_on` after a round that is not the last; `ends_vanished`, `ends_converged` and `ends_after_all`: what it leaves. `stays`: a vector that a round
 -- leaves as it is. `no_rounds`: with max_iter 0 the start is left, with its Rayleigh quotient.
 use Prim.Native.Nat.{ℕ, zero, suc, ◌+◌, ◌*◌, ◌<◌, ◌≤◌}
 use native.Mathlib.Numerals.{add-one}
@@ -9,19 +9,21 @@ use mathlib.Core.Path.{◌≡◌, refl, sym, ap, ◌∙◌}
 use lib.Dec.{ltb}
 use lib.Ieee.{Float, lt}
 use lib.ListN.{length}
-use Rattle.kernel.specs.Answer.{answered}
 use Rattle.kernel.specs.Constants.{nought, vanishing}
 use Rattle.kernel.specs.First.{first_below}
 use Rattle.kernel.specs.Lists.{tabulate}
 use Rattle.kernel.specs.Number.{sub, mul, div}
 use Rattle.kernel.proofs.First.{Standing, stands-first, stands-next}
 use Rattle.kernel.proofs.Lists.{length-tabulate}
-use Rattle.dense.specs.Matrix.{nth, is_side, has_length, dot_product, norm}
+use Rattle.kernel.specs.Sqrt.{sqrt}
+use Rattle.dense.proofs.Laws.{sum_ext, nth-tabulate}
+use Rattle.dense.specs.Matrix.{sum_from, nth, is_side, has_length, dot_product, norm}
 use Rattle.power.specs.Power.{rayleigh, residual, advanced, sign_of, round_value, vanishes, is_small, converges, after_rounds, is_last, eigenpair, refined, concluded, last_round}
 use Rattle.power.specs.Power.{iterated, even_vector, dominant, mat_eigenvector_max}
-use Rattle.power.specs.Private.{Multiplied, Measured, Rounded}
+use Rattle.power.specs.Private.{Measured, Rounded}
 use Rattle.linalg.specs.Products.{times}
 use Rattle.power.proofs.Stops.{ends_stopped, ends_unstopped}
+use Rattle.std.specs.Prelude.{Ok}
 
 length-times : (a : List Float) (n : ℕ) (x : List Float) {w : List Float} → w ≡ times a x n n → length w ≡ n
 unfolding times
@@ -33,9 +35,9 @@ length-advanced a n v e = ap length e ∙ length-tabulate n _
 
 -- ---- one round, from the vector v and its product w
 
-module _ {n : ℕ} {a v w : List Float} (m : Multiplied n a v w) where
-  pub product-size : length w ≡ n
-  product-size = length-times a n v m.product
+-- the root of the sum of the squares of f
+pub residual_norm : (n : ℕ) (f : ℕ → Float) → sqrt (sum_from nought n (λ i. mul (f i) (f i))) ≡ norm (tabulate n f) n
+residual_norm n f = ap sqrt (sum_ext nought n _ _ (λ i h. let e = nth-tabulate n f i h in rw e))
 
 module _ {n : ℕ} {a v w : List Float} {size : Float} (m : Measured n a v w size) where
   -- the size is the norm of the product
@@ -62,17 +64,15 @@ module _ {n : ℕ} {a v w : List Float} {size : Float} (m : Measured n a v w siz
 pub record Before (a : List Float) (n max : ℕ) (tol : Float) (v : List Float) (k : ℕ) (u w : List Float) : Type 0 where
   pub at : Standing (after_rounds a n v) (is_last a n tol) max k u
   pub vector : length u ≡ n
+  pub room : length w ≡ n
   pub product : w ≡ times a u n n
 
 module _ {a : List Float} {n max : ℕ} {tol : Float} {v : List Float} where
-  pub begun : {w : List Float} → length v ≡ n → w ≡ times a v n n → Before a n max tol v 0 v w
+  pub begun : {w : List Float} → length v ≡ n → length w ≡ n → w ≡ times a v n n → Before a n max tol v 0 v w
   unfolding after_rounds
-  begun l p = record { at = stands-first refl; vector = l; product = p }
+  begun l m p = record { at = stands-first refl; vector = l; room = m; product = p }
 
   module _ {k : ℕ} {u w : List Float} (b : Before a n max tol v k u w) where
-    pub wide : length w ≡ n
-    wide = length-times a n u b.product
-
     -- what the test of the norm says
     pub vanish_test : {size : Float} → size ≡ norm w n → lt size vanishing ≡ vanishes a n u
     unfolding vanishes
@@ -80,9 +80,9 @@ module _ {a : List Float} {n max : ℕ} {tol : Float} {v : List Float} where
 
     pub goes_on : {q : Bool} {x y : List Float} → k < max → vanishes a n u ≡ false → Rounded a n tol u q x y → q ≡ false → Before a n max tol v (k + 1) x y
     unfolding is_last after_rounds
-    goes_on h p r e =
+    goes_on {x = x} h p r e =
         let o : converges a n tol u ≡ false = sym r.converged ∙ e in
-        record { at = stands-next b.at h (rw (p, o)) (r.vector ∙ rw (add-one, b.at.reached)); vector = length-advanced a n u r.vector; product = r.product }
+        record { at = stands-next b.at h (rw (p, o)) (r.vector ∙ rw (add-one, b.at.reached)); vector = length-advanced a n u r.vector; room = length-times a n x r.product; product = r.product }
 
     -- the end at the last round
     concludes : k < max → is_last a n tol u ≡ true → concluded a n u ≡ iterated a n max tol v
@@ -93,16 +93,16 @@ module _ {a : List Float} {n max : ℕ} {tol : Float} {v : List Float} where
     unfolding is_last concluded
     ends_vanished h p = rw p at (concludes h (rw p))
 
-    pub ends-converged : {q : Bool} {x y : List Float} {r : Float} → k < max → vanishes a n u ≡ false → Rounded a n tol u q x y → q ≡ true → r ≡ dot_product x y n
+    pub ends_converged : {q : Bool} {x y : List Float} {r : Float} → k < max → vanishes a n u ≡ false → Rounded a n tol u q x y → q ≡ true → r ≡ dot_product x y n
         → eigenpair x r ≡ iterated a n max tol v
     unfolding is_last concluded refined rayleigh
-    ends-converged h p o e er =
+    ends_converged h p o e er =
         let t : converges a n tol u ≡ true = sym o.converged ∙ e in
         rw (er, o.product, o.vector) (rw p at (concludes h (rw (p, t))))
 
-    pub ends-after_all : {r : Float} → max ≤ k → r ≡ dot_product u w n → eigenpair u r ≡ iterated a n max tol v
+    pub ends_after_all : {r : Float} → max ≤ k → r ≡ dot_product u w n → eigenpair u r ≡ iterated a n max tol v
     unfolding iterated last_round refined rayleigh
-    ends-after_all h er = rw (er, b.product) (sym (ends_unstopped (concluded a n) (refined a n) b.at h))
+    ends_after_all h er = rw (er, b.product) (sym (ends_unstopped (concluded a n) (refined a n) b.at h))
 
 -- ---- a vector that a round leaves as it is
 
@@ -134,6 +134,6 @@ unfolding dominant iterated last_round after_rounds first_below
 none a n tol = refl
 
 pub no_rounds : (a : List Float) (n : ℕ) (tol : Float) (v : List Float) → is_side n ≡ true → (has_length v n && has_length a (n * n)) ≡ true
-    → mat_eigenvector_max a n 0 tol v ≡ answered (eigenpair (even_vector n) (rayleigh a n (even_vector n)))
+    → mat_eigenvector_max a n 0 tol v ≡ Ok (eigenpair (even_vector n) (rayleigh a n (even_vector n)))
 unfolding mat_eigenvector_max refined
-no_rounds a n tol v s l = rw (s, l) (ap answered (none a n tol))
+no_rounds a n tol v s l = rw (s, l) (ap Ok (none a n tol))

@@ -1,5 +1,5 @@
 pub mod Calls
-pub mod Vectors
+pub mod Damping
 pub mod Stops
 pub mod Iteration
 pub mod Starts

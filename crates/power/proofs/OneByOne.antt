@@ -17,7 +17,6 @@ use lib.Ieee.{Float, nan, inf, fin, binary64, fits, of_bits, round, lt, up, down
 use lib.Ieee.Fits.{mul-fits}
 use lib.Ieee.Positive.{positive}
 use lib.Ieee.Scale.{finite}
-use Rattle.kernel.specs.Answer.{answered}
 use Rattle.kernel.specs.Constants.{nought, one, rel_tol, infinity}
 use Rattle.kernel.specs.Number.{add, mul}
 use Rattle.kernel.specs.Sqrt.{scaled}
@@ -28,6 +27,7 @@ use Rattle.power.proofs.OneByOne.Ones.{measured, unsigned_of, round_measured, sq
 use Rattle.power.proofs.OneByOne.Underflow.{small-vanishes}
 use Rattle.linalg.specs.Products.{gram}
 use Rattle.power.proofs.OneByOne.Overflow.{over-ratio}
+use Rattle.std.specs.Prelude.{Ok, Err}
 
 cases : (x : Float) → T (measured x) → T (finite x) ⊎ (x ≡ inf false)
 cases nan u = absurd u
@@ -74,6 +74,6 @@ alone : (w : Float) → condition (w ∷ []) 1 ≡ infinity
 unfolding condition
 alone w = ap (λ (g : List Float). ratio_of g 1 (dominant g 1 max_rounds rel_tol)) (gram-one w) ∙ by_size (mul w w) (mul-fits binary64 w w) (own_square w)
 
-pub one_by_one : (w : Float) → condition_number (w ∷ []) 1 ≡ answered infinity
+pub one_by_one : (w : Float) → condition_number (w ∷ []) 1 ≡ Ok infinity
 unfolding condition_number
-one_by_one w = ap answered (alone w)
+one_by_one w = ap Ok (alone w)

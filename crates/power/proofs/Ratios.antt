@@ -1,12 +1,12 @@
--- Laws of the inverse iteration and of the condition number. `fails-refused` and `fails_test`: what the two tests of a round say. `Before` is what the loop holds before
--- round k: `begun` at the first, `goes_on` after a round that is not the last; `ends_failed`, `ends_steady` and `ends-after_all`: what it leaves. `ratio-low`,
+-- Laws of the inverse iteration and of the condition number. `fails_refused` and `fails_test`: what the two tests of a round say. `Before` is what the loop holds before
+-- round k: `begun` at the first, `goes_on` after a round that is not the last; `ends_failed`, `ends_steady` and `ends_after_all`: what it leaves. `ratio_low`,
 -- `ratio_unstarted` and `ratio_started`: an eigenvalue that is too low, and the search for a start. `conditioned`: the condition number.
 use Prim.Native.Nat.{ℕ, ◌+◌, ◌<◌, ◌≤◌}
 use native.Mathlib.Numerals.{add-one}
-use mathlib.Core.Bool.{Bool, true, false, not, cond}
+use mathlib.Core.Bool.{Bool, true, false, cond}
 use mathlib.Core.List.{List}
 use mathlib.Core.Path.{◌≡◌, refl, sym, ap, ◌∙◌}
-use borrow.Author.Tests.{not-true, not-false}
+use lib.Dec.{ltb}
 use lib.Ieee.{Float, lt, le}
 use lib.ListN.{length}
 use Rattle.kernel.specs.Constants.{nought, rel_tol, least_norm, infinity}
@@ -20,7 +20,6 @@ use Rattle.power.specs.Condition.{max_rounds, normalized, deflated, start_index,
 use Rattle.power.specs.Condition.{after_inverses, is_last_inverse, last_inverse, ratio, concluded_ratio, iterated_ratio, ratio_from, ratio_of, condition}
 use Rattle.power.proofs.Stops.{ends_stopped, ends_unstopped}
 use Rattle.linalg.specs.Products.{gram}
-use Rattle.power.proofs.Starts.{Starts}
 
 -- what a test leaves
 if_true : {b : Bool} (x y : Float) → b ≡ true → x ≡ cond b x y
@@ -35,26 +34,25 @@ pub length-normalized : (x : List Float) (n : ℕ) {w : List Float} → w ≡ no
 unfolding normalized
 length-normalized x n e = ap length e ∙ length-tabulate n _
 
--- before round k from s: none was the last, x and the estimate l are the state, and y is room for a vector
-pub record Before (g : List Float) (n : ℕ) (s : Iterate) (k : ℕ) (x : List Float) (l : Float) (y : List Float) : Type 0 where
+-- before round k from s: none was the last, and x and the estimate l are the state
+pub record Before (g : List Float) (n : ℕ) (s : Iterate) (k : ℕ) (x : List Float) (l : Float) : Type 0 where
   pub at : Standing (after_inverses g n s) (is_last_inverse g n) max_rounds k (iterate x l)
   pub vector : length x ≡ n
-  pub room : length y ≡ n
 
-pub begun : {g x y : List Float} {n : ℕ} {l : Float} → length x ≡ n → length y ≡ n → Before g n (iterate x l) 0 x l y
+pub begun : {g x : List Float} {n : ℕ} {l : Float} → length x ≡ n → Before g n (iterate x l) 0 x l
 unfolding after_inverses
-begun p q = record { at = stands-first refl; vector = p; room = q }
+begun p = record { at = stands-first refl; vector = p }
 
-module _ {g : List Float} {n : ℕ} {s : Iterate} {k : ℕ} {x : List Float} {l : Float} {y₀ : List Float} (b : Before g n s k x l y₀) where
-  pub fails-refused : not (is_refused (solved g x n 1)) ≡ false → fails g n (iterate x l) ≡ true
+module _ {g : List Float} {n : ℕ} {s : Iterate} {k : ℕ} {x : List Float} {l : Float} (b : Before g n s k x l) where
+  pub fails_refused : is_refused (solved g x n 1) ≡ true → fails g n (iterate x l) ≡ true
   unfolding fails
-  fails-refused e = rw (not-false (is_refused (solved g x n 1)) e)
+  fails_refused e = rw e
 
   -- what the test of the norm says
-  pub fails_test : {y : List Float} {size : Float} → not (is_refused (solved g x n 1)) ≡ true → y ≡ solution_of g n x → size ≡ norm y n
+  pub fails_test : {y : List Float} {size : Float} → is_refused (solved g x n 1) ≡ false → y ≡ solution_of g n x → size ≡ norm y n
       → lt size least_norm ≡ fails g n (iterate x l)
   unfolding fails
-  fails_test e ey es = rw (not-true (is_refused (solved g x n 1)) e, es, ey)
+  fails_test e ey es = rw (e, es, ey)
 
   -- the end at the last round
   concludes : (sigma : Float) → k < max_rounds → is_last_inverse g n (iterate x l) ≡ true → concluded_ratio g n sigma (iterate x l) ≡ iterated_ratio g n sigma s
@@ -65,9 +63,9 @@ module _ {g : List Float} {n : ℕ} {s : Iterate} {k : ℕ} {x : List Float} {l 
   unfolding is_last_inverse concluded_ratio
   ends_failed sigma h p q = q ∙ rw p at (concludes sigma h (rw p))
 
-  pub ends-after_all : (sigma : Float) {r : Float} → max_rounds ≤ k → r ≡ infinity → r ≡ iterated_ratio g n sigma s
+  pub ends_after_all : (sigma : Float) {r : Float} → max_rounds ≤ k → r ≡ infinity → r ≡ iterated_ratio g n sigma s
   unfolding iterated_ratio last_inverse
-  ends-after_all sigma h e = e ∙ sym (ends_unstopped (concluded_ratio g n sigma) (λ t. infinity) b.at h)
+  ends_after_all sigma h e = e ∙ sym (ends_unstopped (concluded_ratio g n sigma) (λ t. infinity) b.at h)
 
   module _ {y : List Float} {m : Float} (p : fails g n (iterate x l) ≡ false) (ey : y ≡ solution_of g n x) (em : m ≡ dot_product x y n) where
     -- the next estimate
@@ -84,21 +82,20 @@ module _ {g : List Float} {n : ℕ} {s : Iterate} {k : ℕ} {x : List Float} {l 
     unfolding concluded_ratio
     ends_steady sigma h t q = q ∙ rw (p, next) at (concludes sigma h (is_last ∙ t))
 
-    pub goes_on : {u : List Float} → k < max_rounds → is_steady l m ≡ false → u ≡ normalized y n → length y ≡ n → Before g n s (k + 1) u m y
+    pub goes_on : {u : List Float} → k < max_rounds → is_steady l m ≡ false → u ≡ normalized y n → Before g n s (k + 1) u m
     unfolding after_inverses inverted
-    goes_on h t eu w =
+    goes_on h t eu =
         record {
           at = stands-next b.at h (is_last ∙ t) (rw (add-one, sym b.at.reached, eu, em, ey));
           vector = length-normalized y n eu;
-          room = w;
         }
 
 -- ---- from the greatest eigenvalue λ and its vector v
 
 module _ (g : List Float) (n : ℕ) (lambda : Float) (v : List Float) where
-  pub ratio-low : {r : Float} → le lambda nought ≡ true → r ≡ infinity → r ≡ ratio_of g n (eigenpair v lambda)
+  pub ratio_low : {r : Float} → le lambda nought ≡ true → r ≡ infinity → r ≡ ratio_of g n (eigenpair v lambda)
   unfolding ratio_of
-  ratio-low h e = e ∙ if_true infinity (ratio_from g n (sqrt lambda) v) h
+  ratio_low h e = e ∙ if_true infinity (ratio_from g n (sqrt lambda) v) h
 
   -- the ratio of a λ that is not too low
   high : {r sigma : Float} → le lambda nought ≡ false → sigma ≡ sqrt lambda → r ≡ ratio_from g n sigma v → r ≡ ratio_of g n (eigenpair v lambda)
@@ -109,15 +106,15 @@ module _ (g : List Float) (n : ℕ) (lambda : Float) (v : List Float) where
   abbrev started : Float → Float
   started sigma = iterated_ratio g n sigma (iterate (normalized (deflated v n (start_index v n)) n) nought)
 
-  pub ratio_unstarted : {r sigma : Float} {x : List Float} → le lambda nought ≡ false → sigma ≡ sqrt lambda → Starts v n false x → r ≡ infinity → r ≡ ratio_of g n (eigenpair v lambda)
+  pub ratio_unstarted : {r sigma : Float} → le lambda nought ≡ false → sigma ≡ sqrt lambda → ltb (start_index v n) n ≡ false → r ≡ infinity → r ≡ ratio_of g n (eigenpair v lambda)
   unfolding ratio_from
-  ratio_unstarted {sigma = sigma} h es w e = high h es (e ∙ if_false (started sigma) infinity (sym w.0))
+  ratio_unstarted {sigma = sigma} h es w e = high h es (e ∙ if_false (started sigma) infinity w)
 
-  pub ratio_started : {r sigma : Float} {x : List Float} → le lambda nought ≡ false → sigma ≡ sqrt lambda → Starts v n true x → r ≡ iterated_ratio g n sigma (iterate x nought)
-      → r ≡ ratio_of g n (eigenpair v lambda)
+  pub ratio_started : {r sigma : Float} {x : List Float} → le lambda nought ≡ false → sigma ≡ sqrt lambda → ltb (start_index v n) n ≡ true
+      → x ≡ normalized (deflated v n (start_index v n)) n → r ≡ iterated_ratio g n sigma (iterate x nought) → r ≡ ratio_of g n (eigenpair v lambda)
   unfolding ratio_from
-  ratio_started {sigma = sigma} h es w e =
-      high h es (e ∙ ap (λ (z : List Float). iterated_ratio g n sigma (iterate z nought)) (w.1 refl) ∙ if_true (started sigma) infinity (sym w.0))
+  ratio_started {sigma = sigma} h es w ex e =
+      high h es (e ∙ ap (λ (z : List Float). iterated_ratio g n sigma (iterate z nought)) ex ∙ if_true (started sigma) infinity w)
 
 -- by the product of the transpose of a and a, and its greatest eigenvalue
 pub conditioned : (a : List Float) (n : ℕ) {g v : List Float} {lambda r : Float} → g ≡ gram a n n → eigenpair v lambda ≡ dominant g n max_rounds rel_tol → r ≡ ratio_of g n (eigenpair v lambda)

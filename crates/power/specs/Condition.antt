@@ -3,7 +3,7 @@ use Rattle.std.specs.Prelude.{ℕ, zero, suc, ◌*◌, Bool, true, false, cond, 
 use Rattle.std.specs.Float.Ieee.{lt, le}
 use Rattle.kernel.specs.Number.{sub, mul, div, abs}
 use Rattle.kernel.specs.Sqrt.{sqrt}
-use Rattle.kernel.specs.Answer.{Outcome, refused, answered, ask}
+use Rattle.kernel.specs.Answer.{Outcome, ask}
 use Rattle.kernel.specs.Constants.{nought, one, rel_tol, least_norm, infinity}
 use Rattle.kernel.specs.First.{first_below}
 use Rattle.kernel.specs.Lists.{tabulate}
@@ -12,9 +12,9 @@ use Rattle.linalg.specs.Products.{gram}
 use Rattle.linalg.specs.Regularize.{damped}
 use Rattle.pivoting.specs.Solve.{solution, solved}
 use Rattle.power.specs.declared.TikhonovReport.{TikhonovReport}
-use Rattle.power.specs.declared.Damped.{Damped}
-use Rattle.power.specs.declared.Damped.TheVariants as answer
 use Rattle.power.specs.Power.{Eigenpair, dominant}
+use Rattle.std.specs.Prelude.{Ok, Err}
+use Rattle.kernel.specs.declared.question.Question.TheVariants as question
 
 -- `CONDITION_NUMBER_MAX_ITER`
 abbrev pub max_rounds : ℕ
@@ -59,8 +59,8 @@ abbrev pub solution_of : List Float → ℕ → List Float → List Float
 solution_of g n x = solution g x n 1
 
 abbrev pub is_refused : {A : Type 0} → Outcome A → Bool
-is_refused (refused k) = true
-is_refused (answered v) = false
+is_refused (Err k) = true
+is_refused (Ok v) = false
 
 -- the next round: the solution, normalized, with the Rayleigh quotient x · y
 unfoldable pub inverted : List Float → ℕ → Iterate → Iterate
@@ -132,7 +132,7 @@ condition a n = let g = gram a n n in ratio_of g n (dominant g n max_rounds rel_
 -- `condition_number`
 unfoldable pub condition_number : List Float → ℕ → Outcome Float
 unfolding is_side has_length
-condition_number a n = ask 1 (is_side n) (ask 2 (has_length a (n * n)) (answered (condition a n)))
+condition_number a n = ask question.Side (is_side n) (ask question.Length (has_length a (n * n)) (Ok (condition a n)))
 
 pub record Damping : Type 0 where
   pub damped : List Float
@@ -149,11 +149,11 @@ damping cov alpha n =
 unfoldable pub tikhonov_with_report : List Float → Float → ℕ → List Float → Outcome Damping
 unfolding is_side has_length
 tikhonov_with_report cov alpha n out =
-    ask 1 (is_side n)
-    (ask 2 (has_length cov (n * n) && has_length out (n * n))
-    (answered (damping cov alpha n)))
+    ask question.Side (is_side n)
+    (ask question.Length (has_length cov (n * n) && has_length out (n * n))
+    (Ok (damping cov alpha n)))
 
 -- The answer, and what the slice holds afterwards: a refusal leaves it as it was.
-abbrev pub after_damping : Outcome Damping → List Float → Damped × List Float
-after_damping (refused k) old = (answer.Refused k, old)
-after_damping (answered d) old = (answer.Report d.report, d.damped)
+abbrev pub after_damping : Outcome Damping → List Float → Outcome TikhonovReport × List Float
+after_damping (Err k) old = (Err k, old)
+after_damping (Ok d) old = (Ok d.report, d.damped)

@@ -4,14 +4,14 @@ use Rattle.std.specs.Float.{binary64}
 use Rattle.std.specs.Float.Ieee.{of_int, lt, le}
 use Rattle.kernel.specs.Number.{sub, mul, div, abs}
 use Rattle.kernel.specs.Sqrt.{sqrt}
-use Rattle.kernel.specs.Answer.{Outcome, refused, answered, ask}
+use Rattle.kernel.specs.Answer.{Outcome, ask}
 use Rattle.kernel.specs.Constants.{nought, one, minus_one, vanishing}
 use Rattle.kernel.specs.First.{first_below}
 use Rattle.kernel.specs.Lists.{tabulate}
 use Rattle.dense.specs.Matrix.{nth, dot_product, is_side, has_length, norm}
-use Rattle.dense.specs.declared.Number.{Number}
-use Rattle.dense.specs.declared.Number.TheVariants as number
 use Rattle.linalg.specs.Products.{times, gram}
+use Rattle.std.specs.Prelude.{Ok, Err}
+use Rattle.kernel.specs.declared.question.Question.TheVariants as question
 
 -- the Rayleigh quotient of a, n by n, at a unit vector v
 unfoldable pub rayleigh : List Float → ℕ → List Float → Float
@@ -113,14 +113,14 @@ dominant a n limit tol = iterated a n limit tol (even_vector n)
 unfoldable pub mat_eigenvector_max : List Float → ℕ → ℕ → Float → List Float → Outcome Eigenpair
 unfolding dominant is_side has_length
 mat_eigenvector_max a n limit tol v =
-    ask 1 (is_side n)
-    (ask 2 (has_length v n && has_length a (n * n))
-    (answered (dominant a n limit tol)))
+    ask question.Side (is_side n)
+    (ask question.Length (has_length v n && has_length a (n * n))
+    (Ok (dominant a n limit tol)))
 
 -- The answer of a call that gives an eigenvalue and writes its vector, and what the slice holds afterwards: a refusal leaves it as it was.
-abbrev pub after_eigenpair : Outcome Eigenpair → List Float → Number × List Float
-after_eigenpair (refused k) old = (number.Refused k, old)
-after_eigenpair (answered p) old = (number.Value p.value, p.vector)
+abbrev pub after_eigenpair : Outcome Eigenpair → List Float → Outcome Float × List Float
+after_eigenpair (Err k) old = (Err k, old)
+after_eigenpair (Ok p) old = (Ok p.value, p.vector)
 
 -- the singular value whose square is an eigenvalue of the Gram matrix: 0.0 where that is not above 0
 unfoldable pub singular_value : Float → Float
@@ -131,6 +131,6 @@ singular_value lambda = cond (le lambda nought) nought (sqrt lambda)
 unfoldable pub mat_largest_singular_value : List Float → ℕ → ℕ → Float → Outcome Float
 unfolding gram dominant singular_value is_side has_length
 mat_largest_singular_value a n limit tol =
-    ask 1 (is_side n)
-    (ask 2 (has_length a (n * n))
-    (answered (singular_value (dominant (gram a n n) n limit tol).value)))
+    ask question.Side (is_side n)
+    (ask question.Length (has_length a (n * n))
+    (Ok (singular_value (dominant (gram a n n) n limit tol).value)))

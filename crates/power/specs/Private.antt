@@ -1,5 +1,5 @@
 -- Words of the private contracts: what the functions ask of their slices, and what a round leaves. No definition that a user reads needs them.
-use Rattle.std.specs.Prelude.{ℕ, ◌*◌, ◌<◌, Bool, true, List, ◌≡◌, Float, length}
+use Rattle.std.specs.Prelude.{ℕ, ◌*◌, Bool, true, List, ◌≡◌, Float, length}
 use Rattle.dense.specs.Matrix.{is_side, norm}
 use Rattle.linalg.specs.Products.{times}
 use Rattle.power.specs.Power.{advanced, converges}
@@ -22,6 +22,7 @@ pub record Multiplied (n : ℕ) (a v w : List Float) : Type 0 where
   pub order : is_side n ≡ true
   pub matrix : length a ≡ n * n
   pub vector : length v ≡ n
+  pub room : length w ≡ n
   pub product : w ≡ times a v n n
 
 -- the same with the size of the product, which is its norm
@@ -29,26 +30,8 @@ pub record Measured (n : ℕ) (a v w : List Float) (size : Float) : Type 0 where
   pub multiplied : Multiplied n a v w
   pub measure : size ≡ norm w n
 
--- a matrix a, n by n, with room for another and for two vectors
-pub record Spaces (n : ℕ) (a g v w : List Float) : Type 0 where
-  pub matrices : Matrices n a g
-  pub left : length v ≡ n
-  pub right : length w ≡ n
-
 -- what a round from v leaves: whether it has converged, the next vector u and its product x
 pub record Rounded (a : List Float) (n : ℕ) (tol : Float) (v : List Float) (r : Bool) (u x : List Float) : Type 0 where
   pub converged : r ≡ converges a n tol v
   pub vector : u ≡ advanced a n v
   pub product : x ≡ times a u n n
-
--- vectors of n entries: v, the room y and the start x
-pub record Starting (n : ℕ) (v y x : List Float) : Type 0 where
-  pub vector : length v ≡ n
-  pub room : length y ≡ n
-  pub start : length x ≡ n
-
--- unit vector k of n entries, with a vector v and room y
-pub record Deflating (n k : ℕ) (v y : List Float) : Type 0 where
-  pub index : k < n
-  pub vector : length v ≡ n
-  pub room : length y ≡ n

@@ -1,45 +1,37 @@
 // Inverse iteration, and the condition number that it leads to.
-ghost use Rattle.std.specs.Prelude.{true, not, ◌≡◌, ◌*◌, ◌<◌, ltb, length};
+ghost use Rattle.std.specs.Prelude.{true, false, ◌≡◌, ◌*◌, ltb, length, Float, Some, None};
 ghost use Rattle.kernel.specs.Constants.{nought};
-ghost use Rattle.dense.specs.Matrix.{norm, unit_vector, is_side};
-ghost use Rattle.pivoting.specs.Solve.{solved};
+ghost use Rattle.dense.specs.Matrix.{norm, is_side};
 ghost use Rattle.power.specs.Power.{eigenpair};
-ghost use Rattle.power.specs.Condition.{normalized, deflated, is_start, start_index, iterate, solution_of, is_refused, is_steady, ratio, iterated_ratio, ratio_of, condition};
+ghost use Rattle.power.specs.Condition.{normalized, deflated, is_start, start_index, iterate, is_steady, ratio, iterated_ratio, ratio_of, condition};
 ghost use Rattle.linalg.specs.Products.{gram};
-ghost use Rattle.power.specs.Private.{Matrices, Vectors, Spaces, Starting, Deflating};
+ghost use Rattle.power.specs.Private.{Matrices, Vectors};
 
 use crate::rounds::dominant;
-use crate::vector::{fill, multiply};
+use dense::fill::fill;
+use dense::unit::unit;
 use dense::vector::{dot, norm, subtract_scaled};
 use kernel::constants::{LEAST_NORM, REL_TOL, infinity};
 use kernel::number::{abs, sqrt};
 use linalg::generic::mat_ata;
-use pivoting::Written;
 use pivoting::generic::mat_solve;
 
 // `CONDITION_NUMBER_MAX_ITER`: the most rounds that are made.
 const MAX_ROUNDS: u32 = 500;
 
-// Writes unit vector k.
-fn unit_vector(n: usize, k: usize, y: &mut [f64])
-    requires { (k < n) × (length y.old ≡ n) }
-    ensures { y.new ≡ unit_vector n k }
-{
-    fill(0.0, n, y);
-    y[k] = 1.0;
-}
-
 // Writes unit vector k, less its part along v.
-fn deflate(v: &[f64], n: usize, k: usize, y: &mut [f64])
-    requires { Deflating n k v.now y.old }
-    ensures { y.new ≡ deflated v.now n k }
+#[tactic(auto, unfolding(crate::specs::Condition::deflated))]
+fn deflate(v: &[f64], k: usize, y: &mut [f64])
+    requires { length v.now ≡ length y.old }
+    ensures { y.new ≡ deflated v.now (length v.now) k }
 {
-    unit_vector(n, k, y);
-    let d = dot(y, v, n);
-    subtract_scaled(d, v, n, y);
+    fill(|i| unit(i, k), y);
+    let d = dot(y, v);
+    subtract_scaled(d, v, y);
 }
 
 // Whether unit vector k, deflated to the norm s, is the start.
+#[tactic(auto, unfolding(crate::specs::Condition::is_start))]
 fn is_start(k: usize, s: f64) -> bool
     ensures { result ≡ is_start k s }
 {
@@ -50,41 +42,36 @@ fn is_start(k: usize, s: f64) -> bool
 }
 
 // Writes x, of norm s, times 1 over its norm.
-fn normalize(x: &[f64], s: f64, n: usize, y: &mut [f64])
-    requires { (length x.now ≡ n) × (length y.old ≡ n) × (s ≡ norm x.now n) }
-    ensures { y.new ≡ normalized x.now n }
+#[tactic(auto, unfolding(crate::specs::Condition::normalized))]
+fn normalize(x: &[f64], s: f64, y: &mut [f64])
+    requires { (length x.now ≡ length y.old) × (s ≡ norm x.now (length x.now)) }
+    ensures { y.new ≡ normalized x.now (length x.now) }
 {
-    multiply(x, 1.0 / s, n, y);
+    let part = 1.0 / s;
+    fill(|i| x[i] * part, y);
 }
 
-// Writes the start that v leaves to x, where there is one; y is room for a vector.
-fn start(v: &[f64], n: usize, y: &mut [f64], x: &mut [f64]) -> bool
-    requires { Starting n v.now y.old x.old }
-    ensures { (result ≡ ltb (start_index v.now n) n) × (result ≡ true → x.new ≡ normalized (deflated v.now n (start_index v.now n)) n) }
+// The norm of the start that v leaves, where there is one; it is written to y, not yet normalized.
+fn start(v: &[f64], y: &mut [f64]) -> Option<f64>
+    requires { length v.now ≡ length y.old }
+    ensures none { result ≡ None → ltb (start_index v.now (length v.now)) (length v.now) ≡ false }
+    ensures found { (s : Float) → result ≡ Some s → ltb (start_index v.now (length v.now)) (length v.now) ≡ true }
+    ensures written { (s : Float) → result ≡ Some s → y.new ≡ deflated v.now (length v.now) (start_index v.now (length v.now)) }
+    ensures measured { (s : Float) → result ≡ Some s → s ≡ norm y.new (length v.now) }
 {
-    for k in 0..n {
-        deflate(v, n, k, y);
-        let size = norm(y, n);
+    // A loop that leaves at the first unit vector that is a start.
+    for k in 0..v.len() {
+        deflate(v, k, y);
+        let size = norm(y);
         if is_start(k, size) {
-            normalize(y, size, n, x);
-            return true;
+            return Some(size);
         }
     }
-    false
-}
-
-// Whether g y = x has a solution, which is written to y.
-fn solve(g: &[f64], x: &[f64], n: usize, y: &mut [f64]) -> bool
-    requires { Vectors n g.now x.now y.old }
-    ensures { (result ≡ not (is_refused (solved g.now x.now n 1))) × (result ≡ true → y.new ≡ solution_of g.now n x.now) }
-{
-    match mat_solve(g, x, n, y) {
-        Written::Refused(q) => false,
-        Written::Done => true,
-    }
+    None
 }
 
 // Whether an estimate is near enough to the one before.
+#[tactic(auto, unfolding(crate::specs::Condition::is_steady))]
 fn is_steady(old: f64, new: f64) -> bool
     ensures { result ≡ is_steady old new }
 {
@@ -92,6 +79,7 @@ fn is_steady(old: f64, new: f64) -> bool
 }
 
 // The greatest singular value, sigma, over the least, by the estimate of 1 over its square.
+#[tactic(auto, unfolding(crate::specs::Condition::ratio))]
 fn ratio(sigma: f64, estimate: f64) -> f64
     ensures { result ≡ ratio sigma estimate }
 {
@@ -107,19 +95,20 @@ fn rounds(g: &[f64], n: usize, sigma: f64, x: &mut [f64], y: &mut [f64]) -> f64
     ensures { result ≡ iterated_ratio g.now n sigma (iterate x.old nought) }
 {
     let mut estimate = 0.0;
+    // Steps: each round goes on from the one before, until it is steady.
     for k in 0..MAX_ROUNDS {
-        if !solve(g, x, n, y) {
+        if mat_solve(g, x, n, y).is_err() {
             return infinity(); // no solution
         }
-        let size = norm(y, n);
+        let size = norm(y);
         if size < LEAST_NORM {
             return infinity();
         }
-        let next = dot(x, y, n);
+        let next = dot(x, y);
         if is_steady(estimate, next) {
             return ratio(sigma, next);
         }
-        normalize(y, size, n, x);
+        normalize(y, size, x);
         estimate = next;
     }
     infinity()
@@ -134,38 +123,24 @@ fn ratio_of(g: &[f64], n: usize, lambda: f64, v: &[f64], x: &mut [f64], y: &mut 
         return infinity();
     }
     let sigma = sqrt(lambda);
-    if !start(v, n, y, x) {
+    let Some(size) = start(v, y) else {
         return infinity();
-    }
+    };
+    normalize(y, size, x);
     rounds(g, n, sigma, x, y)
 }
 
 // Writes the product of the transpose of a, n by n, and a.
+#[tactic(auto, using(crate::proofs::Calls::gram_left))]
 pub(crate) fn gram(a: &[f64], n: usize, g: &mut [f64])
     requires { Matrices n a.now g.old }
     ensures { g.new ≡ gram a.now n n }
 {
-    mat_ata(a, n, n, g);
+    let _ = mat_ata(a, n, n, g); // which has nothing to refuse
 }
 
-// The condition number of a, n by n; g, v, x and y are room for a matrix and three vectors.
-fn condition_in(
-    a: &[f64],
-    n: usize,
-    g: &mut [f64],
-    v: &mut [f64],
-    x: &mut [f64],
-    y: &mut [f64],
-) -> f64
-    requires { Spaces n a.now g.old v.old y.old × (length x.old ≡ n) }
-    ensures { result ≡ condition a.now n }
-{
-    gram(a, n, g);
-    let lambda = dominant(g, n, MAX_ROUNDS, REL_TOL, v, y);
-    ratio_of(g, n, lambda, v, x, y)
-}
-
-// The same with room of its own.
+// The condition number of a, n by n.
+#[tactic(auto, using(dense::proofs::Tests::side_high, dense::proofs::Tests::square_area))]
 pub(crate) fn condition(a: &[f64], n: usize) -> f64
     requires { (is_side n ≡ true) × (length a.now ≡ n * n) }
     ensures { result ≡ condition a.now n }
@@ -174,6 +149,10 @@ pub(crate) fn condition(a: &[f64], n: usize) -> f64
     let mut v = [0.0f64; 16];
     let mut x = [0.0f64; 16];
     let mut y = [0.0f64; 16];
-    let size = n * n;
-    condition_in(a, n, &mut g[..size], &mut v[..n], &mut x[..n], &mut y[..n])
+    let g = &mut g[..n * n];
+    let v = &mut v[..n];
+    let y = &mut y[..n];
+    gram(a, n, g);
+    let lambda = dominant(g, n, MAX_ROUNDS, REL_TOL, v, y);
+    ratio_of(g, n, lambda, v, &mut x[..n], y)
 }

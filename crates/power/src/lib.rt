@@ -7,19 +7,10 @@ pub mod regularize;
 mod rounds;
 mod vector;
 
-pub use dense::Number;
-
 // What a damping did to the condition number.
-#[derive(Clone, Copy)]
+#[derive(Clone, Copy, Debug, PartialEq)]
 pub struct TikhonovReport {
     pub alpha: f64,
     pub condition_number_before: f64,
     pub condition_number_after: f64,
-}
-
-// The answer of a damping.
-#[derive(Clone, Copy)]
-pub enum Damped {
-    Report(TikhonovReport),
-    Refused(u8),
 }

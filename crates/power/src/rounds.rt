@@ -6,12 +6,15 @@ ghost use Rattle.dense.specs.Matrix.{nth, is_side, norm};
 ghost use Rattle.power.specs.Power.{sign_of, is_small, eigenpair, iterated, even_vector, dominant};
 ghost use Rattle.power.specs.Private.{Vectors, Multiplied, Measured, Rounded};
 
-use crate::vector::{divide, fill, times};
+use crate::vector::times;
+use dense::fill::fill;
+use dense::sum::sum_from;
 use dense::vector::{dot, norm};
 use kernel::constants::VANISHING;
 use kernel::number::{abs, sqrt};
 
 // The sign of an inner product, 1.0 or -1.0.
+#[tactic(auto, unfolding(crate::specs::Power::sign_of))]
 fn sign_of(d: f64) -> f64
     ensures { result ≡ sign_of d }
 {
@@ -22,27 +25,24 @@ fn sign_of(d: f64) -> f64
 }
 
 // The norm of w - lambda v.
-fn residual(w: &[f64], lambda: f64, v: &[f64], n: usize) -> f64
-    requires { (length w.now ≡ n) × (length v.now ≡ n) }
-    ensures { result ≡ norm (tabulate n (λ i. sub (nth w.now i) (mul lambda (nth v.now i)))) n }
+fn residual(w: &[f64], lambda: f64, v: &[f64]) -> f64
+    requires { length w.now ≡ length v.now }
+    ensures { result ≡ norm (tabulate (length w.now) (λ i. sub (nth w.now i) (mul lambda (nth v.now i)))) (length w.now) }
 {
-    let mut s = 0.0;
-    for i in 0..n {
+    let square = |i: usize| {
         let diff = w[i] - lambda * v[i];
-        s = s + diff * diff;
-    }
-    sqrt(s)
+        diff * diff
+    };
+    sqrt(sum_from(0.0, w.len(), square))
 }
 
 // Whether the residual r of lambda is small enough.
+#[tactic(auto, unfolding(crate::specs::Power::is_small))]
 fn is_small(tol: f64, lambda: f64, r: f64) -> bool
     ensures { result ≡ is_small tol lambda r }
 {
     let size = abs(lambda);
-    if !(size > VANISHING) {
-        return false;
-    }
-    r / size < tol
+    size > VANISHING && r / size < tol
 }
 
 // One round from v, whose product has the norm size; whether it has converged.
@@ -50,10 +50,10 @@ fn round(a: &[f64], n: usize, tol: f64, size: f64, v: &mut [f64], w: &mut [f64])
     requires { Measured n a.now v.old w.old size }
     ensures { Rounded a.now n tol v.old result v.new w.new }
 {
-    let lambda = sign_of(dot(w, v, n)) * size;
-    divide(w, size, n, v);
+    let lambda = sign_of(dot(w, v)) * size;
+    fill(|i| w[i] / size, v);
     times(a, v, n, w);
-    is_small(tol, lambda, residual(w, lambda, v, n))
+    is_small(tol, lambda, residual(w, lambda, v))
 }
 
 // At most max_iter rounds from v, whose product is w.
@@ -61,28 +61,31 @@ fn rounds(a: &[f64], n: usize, max_iter: u32, tol: f64, v: &mut [f64], w: &mut [
     requires { Multiplied n a.now v.old w.old }
     ensures { eigenpair v.new result ≡ iterated a.now n max_iter tol v.old }
 {
+    // Steps: each round goes on from the one before, until it has converged.
     for k in 0..max_iter {
-        let size = norm(w, n);
+        let size = norm(w);
         if size < VANISHING {
             return 0.0;
         }
         if round(a, n, tol, size, v, w) {
-            return dot(v, w, n);
+            return dot(v, w);
         }
     }
-    dot(v, w, n)
+    dot(v, w)
 }
 
 // Writes the start.
-fn begin(n: usize, v: &mut [f64])
-    requires { (is_side n ≡ true) × (length v.old ≡ n) }
-    ensures { v.new ≡ even_vector n }
+#[tactic(auto, unfolding(crate::specs::Power::even_vector))]
+fn begin(v: &mut [f64])
+    requires { is_side (length v.old) ≡ true }
+    ensures { v.new ≡ even_vector (length v.old) }
 {
-    let s = 1.0 / sqrt(n as f64);
-    fill(s, n, v);
+    let s = 1.0 / sqrt(v.len() as f64);
+    fill(|i| s, v);
 }
 
 // The eigenvalue of a, n by n, that is greatest in size, and its vector into v; w is room for a vector.
+#[tactic(auto, unfolding(crate::specs::Power::dominant))]
 pub(crate) fn dominant(
     a: &[f64],
     n: usize,
@@ -94,7 +97,7 @@ pub(crate) fn dominant(
     requires { Vectors n a.now v.old w.old }
     ensures { eigenpair v.new result ≡ dominant a.now n max_iter tol }
 {
-    begin(n, v);
+    begin(v);
     times(a, v, n, w);
     rounds(a, n, max_iter, tol, v, w)
 }

@@ -1,33 +1,39 @@
--- Laws of the report, one eigenvalue more: `count_more` (by one at most, `one_at_most`), `clip_more`, `mask_more`.
-use Prim.Native.Nat.{ℕ, ◌+◌, ◌<◌, ◌≤◌}
+-- Laws of the report: `counted`, and one eigenvalue more: `clip_more`, `mask_more`. `report_made`: the report of its
+-- parts.
+use Prim.Native.Nat.{ℕ, zero, suc, ◌+◌, ◌<◌, ◌≤◌}
 use native.Mathlib.Omega.{arith}
 use native.Mathlib.Numerals.{add-one}
 use native.Mathlib.Nat.{le_antisymm}
 use native.Mathlib.Decide.{ℕ_discrete, dec_lt}
-use mathlib.Core.Bool.{Bool, true, false, cond, ◌&&◌}
+use mathlib.Core.Bool.{Bool, false, ◌&&◌}
 use mathlib.Core.List.{List}
-use mathlib.Core.Path.{◌≡◌, ap, ◌∙◌}
+use mathlib.Core.Path.{◌≡◌, refl, sym, ap, ◌∙◌}
 use borrow.Author.Tests.{lt-ltb, le-ltb}
 use lib.Dec.{ltb}
-use lib.Ieee.{Float}
-use lib.ListN.{length, set, get_or, length-set}
-use lib.Seq.{get_or-set_same, get_or-set_other}
+use lib.Ieee.{Float, nan, lt}
+use lib.ListN.{length, take, set, get_or, length-set}
+use lib.Seq.{get_or-set_same, get_or-set_other, take_all}
+use Rattle.std.specs.Prelude.{count_by}
+use Rattle.std.specs.List.{filter}
+use Rattle.std.proofs.lemmas.List.Sums.{length-filter}
+use Rattle.std.proofs.lemmas.List.Filters.{length-filter_more}
 use Rattle.kernel.specs.Lists.{tabulate}
 use Rattle.kernel.proofs.Lists.{length-tabulate, get_d_tabulate, by_elements, tabulate_ext}
 use Rattle.dense.specs.Matrix.{nth}
 use Rattle.repair.specs.Repair.{clips, clip_count, greater_clip, largest_clip, clip_mask, report_of}
 
 module _ (e : List Float) (floor : Float) where
-  pub count_more : (i : ℕ) {c r : ℕ} → c ≡ clip_count e floor i → r ≡ cond (clips floor (nth e i)) 1 0 → c + r ≡ clip_count e floor (i + 1)
+  -- the count is that of the entries below the floor
+  pub counted : count_by (λ x. lt x floor) e ≡ clip_count e floor (length e)
   unfolding clip_count
-  count_more i p q = rw (add-one, p, q)
-
-  pub one_at_most : (i : ℕ) {r : ℕ} → r ≡ cond (clips floor (nth e i)) 1 0 → r ≤ 1
-  one_at_most i {r} q = go (clips floor (nth e i)) q
+  counted =
+      sym (length-filter (λ x. lt x floor) e)
+      ∙ ap (λ (l : List Float). length (filter (λ x. lt x floor) l)) (sym (take_all (length e) e (omega arith)))
+      ∙ go (length e) (omega arith)
     where
-      go : (b : Bool) → r ≡ cond b 1 0 → r ≤ 1
-      go true p = omega arith
-      go false p = omega arith
+      go : (k : ℕ) → k ≤ length e → length (filter (λ x. lt x floor) (take k e)) ≡ clip_count e floor k
+      go zero h = refl
+      go (suc k) h = ap (λ (m : ℕ). length (filter (λ x. lt x floor) (take m e))) (sym (add-one k)) ∙ length-filter_more (λ x. lt x floor) e k nan h ∙ rw (go k (omega arith))
 
   pub clip_more : (i : ℕ) {g r : Float} → g ≡ largest_clip e floor i → r ≡ greater_clip g (nth e i) floor → r ≡ largest_clip e floor (i + 1)
   unfolding largest_clip

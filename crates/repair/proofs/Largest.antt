@@ -10,7 +10,6 @@ use lib.Dec.{T}
 use lib.Ieee.{Float, lt}
 use lib.Ieee.Scale.{finite}
 use Rattle.kernel.specs.Number.{sub}
-use Rattle.kernel.specs.Answer.{answered}
 use Rattle.kernel.specs.Constants.{nought}
 use Rattle.kernel.proofs.Doubles.Differences.{finite_number, first-sub, greater_sub}
 use Rattle.dense.specs.Matrix.{nth}
@@ -19,6 +18,7 @@ use Rattle.eigen.specs.Eigen.{Eigenpairs}
 use Rattle.eigen.proofs.Ordering.Stability.{below_too}
 use Rattle.repair.specs.Repair.{clips, greater_clip, largest_clip, report_of, Repair, repair_of, nearest_psd}
 use Rattle.repair.proofs.Masks.{pairs_of, masked, order_side, spectrum, mask_tells, spectrum_finite, spectrum_descends, mask_false_then_true}
+use Rattle.std.specs.Prelude.{Ok}
 
 -- the clip of x, 0.0 where it is not clipped
 abbrev pub clip_of : Float → Float → Float
@@ -55,7 +55,7 @@ largest_of : (floor : Float) (n : ℕ) (p : Eigenpairs) → (repair_of floor n p
 unfolding repair_of report_of
 largest_of floor n p = refl
 
-module _ (cov : List Float) (floor : Float) (n : ℕ) (out : List Float) (r : Repair) (met : nearest_psd cov floor n out ≡ answered r) where
+module _ (cov : List Float) (floor : Float) (n : ℕ) (out : List Float) (r : Repair) (met : nearest_psd cov floor n out ≡ Ok r) where
   -- the last eigenvalue
   abbrev pub least : Float
   least = nth (spectrum cov floor n out r met) (n - 1)

@@ -11,7 +11,6 @@ use lib.Dec.{T, ltb}
 use lib.Ieee.{Float, lt}
 use lib.Ieee.Scale.{finite}
 use lib.ListN.{get_or, get_or-eq_default}
-use Rattle.kernel.specs.Answer.{answered}
 use Rattle.kernel.proofs.Answers.{ask_met, through_met}
 use Rattle.kernel.specs.Lists.{tabulate}
 use Rattle.kernel.proofs.Lists.{length-tabulate, get_d_tabulate}
@@ -23,6 +22,8 @@ use Rattle.eigen.proofs.Answered.{eigen_descends, eigen_finite}
 use Rattle.eigen.proofs.Ordering.Stability.{below_too}
 use Rattle.repair.specs.Repair.{clips, clip_count, clip_mask, report_of, Repair, repair_of, repair, nearest_psd}
 use Rattle.repair.proofs.Reports.{mask_is}
+use Rattle.std.specs.Prelude.{Ok}
+use Rattle.kernel.specs.declared.question.Question.TheVariants as question
 
 -- element k of the mask, by the eigenvalues e, and past them
 bit : (e : List Float) (floor : Float) (n k : ℕ) → n ≤ 16 → k < n → get_or (clip_mask e floor n) k false ≡ clips floor (nth e k)
@@ -38,12 +39,12 @@ bit_past e floor n k h = ap (λ (l : List Bool). get_or l k false) (mask_is e fl
 -- ---- false, then true
 
 -- the eigenpairs of an answered repair, and what is made of them
-pub pairs_of : (cov : List Float) (floor : Float) (n : ℕ) (out : List Float) (r : Repair) → nearest_psd cov floor n out ≡ answered r
-    → (p : Eigenpairs) × (eigenpairs cov n ≡ answered p) × (repair_of floor n p ≡ r)
+pub pairs_of : (cov : List Float) (floor : Float) (n : ℕ) (out : List Float) (r : Repair) → nearest_psd cov floor n out ≡ Ok r
+    → (p : Eigenpairs) × (eigenpairs cov n ≡ Ok p) × (repair_of floor n p ≡ r)
 unfolding nearest_psd repair
 pairs_of cov floor n out r met =
-    let shaped = ask_met 2 (has_length cov (n * n) && has_length out (n * n)) _ (ask_met 1 (is_side n) _ met).1 in
-    through_met (repair_of floor n) (eigenpairs cov n) (ask_met 3 (finite_entries cov (n * n)) _ shaped.1).1
+    let shaped = ask_met question.Length (has_length cov (n * n) && has_length out (n * n)) _ (ask_met question.Side (is_side n) _ met).1 in
+    through_met (repair_of floor n) (eigenpairs cov n) (ask_met question.FiniteEntries (finite_entries cov (n * n)) _ shaped.1).1
 
 -- its mask and its count
 mask_of : (floor : Float) (n : ℕ) (p : Eigenpairs) → (repair_of floor n p).report.clipped_indices ≡ clip_mask p.values floor n
@@ -75,10 +76,10 @@ count_mask e floor n h = go n (omega arith)
 abbrev pub masked : Repair → ℕ → Bool
 masked r i = get_or r.report.clipped_indices i false
 
-module _ (cov : List Float) (floor : Float) (n : ℕ) (out : List Float) (r : Repair) (met : nearest_psd cov floor n out ≡ answered r) where
+module _ (cov : List Float) (floor : Float) (n : ℕ) (out : List Float) (r : Repair) (met : nearest_psd cov floor n out ≡ Ok r) where
   pub order_side : is_side n ≡ true
   unfolding nearest_psd
-  order_side = (ask_met 1 (is_side n) _ met).0
+  order_side = (ask_met question.Side (is_side n) _ met).0
 
   -- the eigenvalues of cov
   abbrev pub spectrum : List Float

@@ -55,7 +55,7 @@ module _ (floor : Float) (never : (x : Float) → clips floor x ≡ false) where
   none_masked : (e : List Float) (n : ℕ) → clip_mask e floor n ≡ tabulate 16 (λ k. false)
   none_masked e n = mask_is e floor n ∙ tabulate_ext 16 (λ k. ltb k n && clips floor (nth e k)) (λ k. false) (λ k h. ap (λ (b : Bool). ltb k n && b) (never (nth e k)) ∙ and-false (ltb k n))
 
-  -- the report is that of a refusal
+  -- the report is blank
   none-reported : (e : List Float) (n : ℕ) → report_of e floor n ≡ blank
   none-reported e n = sym (report_made e floor n (sym (none-counted e n)) (sym (none_larger e n)) (sym (none_masked e n))) ∙ sym blank_is
 

@@ -11,13 +11,6 @@ pub record Mending (n : ℕ) (cov out : List Float) : Type 0 where
   pub matrix-size : length cov ≡ n * n
   pub out_size : length out ≡ n * n
 
--- room for the work of order n: the eigenvalues e and the vectors v, and m and w for the eigensolver
-pub record Room (n : ℕ) (e v m w : List Float) : Type 0 where
-  pub values-room : length e ≡ n
-  pub vectors-room : length v ≡ n * n
-  pub matrix-room : length m ≡ n * n
-  pub rows-room : length w ≡ n * n
-
 -- the entry of the repair of a matrix of one entry: its eigenvector is 1.0
 abbrev pub single_rebuilt : Float → Float → Float
 single_rebuilt floor x = add nought (mul (mul one (raised floor x)) one)

@@ -2,14 +2,14 @@
 use Rattle.std.specs.Prelude.{ℕ, zero, suc, ◌+◌, ◌*◌, Bool, false, cond, ◌&&◌, List, ltb, Float}
 use Rattle.std.specs.Float.Ieee.{lt}
 use Rattle.kernel.specs.Number.{sub, mul}
-use Rattle.kernel.specs.Answer.{Outcome, refused, answered, ask, through}
+use Rattle.kernel.specs.Answer.{Outcome, ask, through}
 use Rattle.kernel.specs.Constants.{nought}
 use Rattle.kernel.specs.Lists.{tabulate}
 use Rattle.dense.specs.Matrix.{total, sum_from, nth, at, matrix, is_side, has_length, finite_entries}
-use Rattle.dense.specs.declared.Written.TheVariants as written
 use Rattle.eigen.specs.Eigen.{Eigenpairs, eigenpairs}
 use Rattle.repair.specs.declared.RegularizationReport.{RegularizationReport}
-use Rattle.repair.specs.declared.Repaired.{Repaired}
+use Rattle.std.specs.Prelude.{Ok, Err}
+use Rattle.kernel.specs.declared.question.Question.TheVariants as question
 
 -- ---- the eigenvalues
 
@@ -68,7 +68,7 @@ repair_of floor n p =
 -- the repair of cov, n by n: question 3, then 4, which the eigenpairs ask
 unfoldable pub repair : List Float → Float → ℕ → Outcome Repair
 unfolding repair_of eigenpairs finite_entries
-repair cov floor n = ask 3 (finite_entries cov (n * n)) (through (repair_of floor n) (eigenpairs cov n))
+repair cov floor n = ask question.FiniteEntries (finite_entries cov (n * n)) (through (repair_of floor n) (eigenpairs cov n))
 
 -- ---- the calls
 
@@ -76,30 +76,21 @@ repair cov floor n = ask 3 (finite_entries cov (n * n)) (through (repair_of floo
 unfoldable pub nearest_psd : List Float → Float → ℕ → List Float → Outcome Repair
 unfolding repair is_side has_length
 nearest_psd cov floor n out =
-    ask 1 (is_side n)
-    (ask 2 (has_length cov (n * n) && has_length out (n * n))
+    ask question.Side (is_side n)
+    (ask question.Length (has_length cov (n * n) && has_length out (n * n))
     (repair cov floor n))
 
--- the report of a refusal
+-- the report where nothing is clipped
 unfoldable pub blank : RegularizationReport
 unfolding tabulate
 blank = record { n_clipped = 0; max_clip_magnitude = nought; clipped_indices = tabulate 16 (λ k. false) }
 
--- the answer of a call that is refused with question q
-unfoldable pub refusal : ℕ → Repaired
-unfolding blank
-refusal q = record { answer = written.Refused q; report = blank }
-
--- the answer of a repair with the report t
-abbrev pub reported : RegularizationReport → Repaired
-reported t = record { answer = written.Done; report = t }
-
--- The answer by its outcome.
-abbrev pub repair_answer : Outcome Repair → Repaired
-repair_answer (refused q) = refusal q
-repair_answer (answered r) = reported r.report
+-- The answer by its outcome: the report.
+abbrev pub repair_answer : Outcome Repair → Outcome RegularizationReport
+repair_answer (Err q) = Err q
+repair_answer (Ok r) = Ok r.report
 
 -- The answer, and what the slice holds afterwards: a refusal leaves it as it was.
-abbrev pub after_repair : Outcome Repair → List Float → Repaired × List Float
-after_repair (refused q) old = (repair_answer (refused q), old)
-after_repair (answered r) old = (repair_answer (answered r), r.rebuilt)
+abbrev pub after_repair : Outcome Repair → List Float → Outcome RegularizationReport × List Float
+after_repair (Err q) old = (Err q, old)
+after_repair (Ok r) old = (Ok r.report, r.rebuilt)

@@ -1,84 +1,71 @@
 // The eigenvalues that are below the floor.
-ghost use Rattle.std.specs.Prelude.{◌≡◌, cond, ◌≤◌, length};
+ghost use Rattle.std.specs.Prelude.{◌≡◌, ◌≤◌, length};
 ghost use Rattle.kernel.specs.Lists.{tabulate};
 ghost use Rattle.dense.specs.Matrix.{nth};
-ghost use Rattle.repair.specs.Repair.{clips, clip_count, greater_clip, largest_clip, clip_mask, raised, report_of};
+ghost use Rattle.repair.specs.Repair.{clip_count, greater_clip, largest_clip, clip_mask, raised, report_of};
 
 use crate::RegularizationReport;
 
-// 1 where x is below the floor.
-pub(crate) fn clip(x: f64, floor: f64) -> usize
-    ensures { result ≡ cond (clips floor x) 1 0 }
-{
-    if x < floor {
-        return 1;
-    }
-    0
-}
-
 // How many of the entries of e are below the floor.
-fn clip_count(e: &[f64], n: usize, floor: f64) -> usize
-    requires { (n ≤ 16) × (length e.now ≡ n) }
-    ensures { result ≡ clip_count e.now floor n }
+#[tactic(auto, using(crate::proofs::Clips::counted))]
+fn clip_count(e: &[f64], floor: f64) -> usize
+    ensures { result ≡ clip_count e.now floor (length e.now) }
 {
-    let mut c = 0;
-    for i in 0..n {
-        c = c + clip(e[i], floor);
-    }
-    c
+    e.iter().filter(|x| **x < floor).count()
 }
 
 // g, or the clip of the entry x where that is greater.
-pub(crate) fn greater_clip(g: f64, x: f64, floor: f64) -> f64
+#[tactic(auto, unfolding(crate::specs::Repair::greater_clip))]
+fn greater_clip(g: f64, x: f64, floor: f64) -> f64
     ensures { result ≡ greater_clip g x floor }
 {
-    if !(x < floor) {
-        return g;
-    }
     let clip = floor - x;
-    if clip > g {
+    if x < floor && clip > g {
         return clip;
     }
     g
 }
 
 // The largest clip of the entries of e.
-fn largest_clip(e: &[f64], n: usize, floor: f64) -> f64
-    requires { length e.now ≡ n }
-    ensures { result ≡ largest_clip e.now floor n }
+#[tactic(auto, using(crate::proofs::Clips::clip_more), unfolding(crate::specs::Repair::largest_clip))]
+fn largest_clip(e: &[f64], floor: f64) -> f64
+    ensures { result ≡ largest_clip e.now floor (length e.now) }
 {
     let mut g = 0.0;
-    for i in 0..n {
-        g = greater_clip(g, e[i], floor);
+    for x in e {
+        g = greater_clip(g, *x, floor);
     }
     g
 }
 
 // Which of the entries of e are below the floor.
-fn clip_mask(e: &[f64], n: usize, floor: f64) -> [bool; 16]
-    requires { (n ≤ 16) × (length e.now ≡ n) }
-    ensures { result ≡ clip_mask e.now floor n }
+fn clip_mask(e: &[f64], floor: f64) -> [bool; 16]
+    requires { length e.now ≤ 16 }
+    ensures { result ≡ clip_mask e.now floor (length e.now) }
 {
     let mut mask = [false; 16];
-    for i in 0..n {
+    // Only the first of the sixteen truths are written.
+    for i in 0..e.len() {
         mask[i] = e[i] < floor;
     }
     mask
 }
 
 // What is told of the eigenvalues e.
-pub(crate) fn report(e: &[f64], n: usize, floor: f64) -> RegularizationReport
-    requires { (n ≤ 16) × (length e.now ≡ n) }
-    ensures { result ≡ report_of e.now floor n }
+#[tactic(auto, unfolding(crate::specs::Repair::report_of))]
+pub(crate) fn report(e: &[f64], floor: f64) -> RegularizationReport
+    requires { length e.now ≤ 16 }
+    ensures { result ≡ report_of e.now floor (length e.now) }
 {
     RegularizationReport {
-        n_clipped: clip_count(e, n, floor),
-        max_clip_magnitude: largest_clip(e, n, floor),
-        clipped_indices: clip_mask(e, n, floor),
+        n_clipped: clip_count(e, floor),
+        max_clip_magnitude: largest_clip(e, floor),
+        clipped_indices: clip_mask(e, floor),
     }
 }
 
 // x, or the floor where x is below it.
+#[tactic(auto, unfolding(crate::specs::Repair::raised))]
 pub(crate) fn raised(x: f64, floor: f64) -> f64
     ensures { result ≡ raised floor x }
 {
@@ -89,11 +76,11 @@ pub(crate) fn raised(x: f64, floor: f64) -> f64
 }
 
 // Raises the entries of e to the floor.
-pub(crate) fn raise(e: &mut [f64], n: usize, floor: f64)
-    requires { length e.old ≡ n }
-    ensures { e.new ≡ tabulate n (λ k. raised floor (nth e.old k)) }
+#[tactic(auto, using(dense::proofs::Laws::by_entries))]
+pub(crate) fn raise(e: &mut [f64], floor: f64)
+    ensures { e.new ≡ tabulate (length e.old) (λ k. raised floor (nth e.old k)) }
 {
-    for i in 0..n {
-        e[i] = raised(e[i], floor);
+    for x in e.iter_mut() {
+        *x = raised(*x, floor);
     }
 }

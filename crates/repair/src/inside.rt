@@ -1,115 +1,73 @@
 // A repair for a caller that knows the lengths: what the project's own crates call, and no user does.
-ghost use Rattle.std.specs.Prelude.{◌≡◌, [], ◌∷◌, ◌≤◌};
+ghost use Rattle.std.specs.Prelude.{◌≡◌, [], ◌∷◌, ◌*◌, ◌≤◌};
 ghost use Rattle.kernel.specs.Answer.{through};
 ghost use Rattle.eigen.specs.Eigen.{eigenpairs};
-ghost use Rattle.repair.specs.Private.{Mending, Room, single_rebuilt};
+ghost use Rattle.repair.specs.Private.{Mending, single_rebuilt};
 ghost use Rattle.repair.specs.Repair.{repair_of, repair, repair_answer, after_repair};
 
-use crate::Repaired;
-use crate::answer::{done, refused};
+use crate::RegularizationReport;
 use crate::clip::{raise, raised, report};
-use crate::direct::{plane_repair, single_report};
+use crate::direct::plane_repair;
 use crate::rebuild::{rebuild, share};
-use dense::Written;
 use dense::vector::{are_finite, is_finite};
 use eigen::inside::eigenpairs_in;
-use kernel::question::FINITE_ENTRIES;
+use kernel::question::Question;
 
-// The repair of cov, n by n, from question 4 on. The slices e and v are room for the eigenvalues and the vectors, m and w for the eigensolver's work.
-fn repair_in(
+// The repair of cov, n by n, from question 4 on, with room for orders to N, whose matrices have SIZE entries.
+fn repair_within<const N: usize, const SIZE: usize>(
     cov: &[f64],
     floor: f64,
     n: usize,
-    e: &mut [f64],
-    v: &mut [f64],
-    m: &mut [f64],
-    w: &mut [f64],
     out: &mut [f64],
-) -> Repaired
-    requires { Mending n cov.now out.old × Room n e.old v.old m.old w.old }
+) -> Result<RegularizationReport, Question>
+    requires { Mending n cov.now out.old × (n ≤ N) × (n * n ≤ SIZE) × (N ≤ 16) × (SIZE ≤ 256) }
     ensures { (result, out.new) ≡ after_repair (through (repair_of floor n) (eigenpairs cov.now n)) out.old }
 {
-    match eigenpairs_in(cov, n, m, w, e, v) {
-        Written::Refused(q) => refused(q),
-        Written::Done => {
-            let report = report(e, n, floor);
-            raise(e, n, floor);
-            rebuild(v, e, n, out);
-            done(report)
-        }
-    }
-}
-
-// The same with room for orders to 4.
-fn small_repair(cov: &[f64], floor: f64, n: usize, out: &mut [f64]) -> Repaired
-    requires { Mending n cov.now out.old × (n ≤ 4) }
-    ensures { (result, out.new) ≡ after_repair (through (repair_of floor n) (eigenpairs cov.now n)) out.old }
-{
-    let mut e = [0.0f64; 4];
-    let mut v = [0.0f64; 16];
-    let mut m = [0.0f64; 16];
-    let mut w = [0.0f64; 16];
+    let mut values_room = [0.0f64; N];
+    let mut vectors_room = [0.0f64; SIZE];
+    let mut m = [0.0f64; SIZE];
+    let mut w = [0.0f64; SIZE];
     let size = n * n;
-    repair_in(
-        cov,
-        floor,
-        n,
-        &mut e[..n],
-        &mut v[..size],
-        &mut m[..size],
-        &mut w[..size],
-        out,
-    )
-}
-
-// The same with room for orders to 16.
-fn large_repair(cov: &[f64], floor: f64, n: usize, out: &mut [f64]) -> Repaired
-    requires { Mending n cov.now out.old }
-    ensures { (result, out.new) ≡ after_repair (through (repair_of floor n) (eigenpairs cov.now n)) out.old }
-{
-    let mut e = [0.0f64; 16];
-    let mut v = [0.0f64; 256];
-    let mut m = [0.0f64; 256];
-    let mut w = [0.0f64; 256];
-    let size = n * n;
-    repair_in(
-        cov,
-        floor,
-        n,
-        &mut e[..n],
-        &mut v[..size],
-        &mut m[..size],
-        &mut w[..size],
-        out,
-    )
+    let e = &mut values_room[..n];
+    let v = &mut vectors_room[..size];
+    eigenpairs_in(cov, n, &mut m[..size], &mut w[..size], e, v)?;
+    let report = report(e, floor);
+    raise(e, floor);
+    rebuild(v, e, n, out);
+    Ok(report)
 }
 
 // The repair of cov, n by n, into out, from question 3 on, with the room that the order needs.
-pub fn repair(cov: &[f64], floor: f64, n: usize, out: &mut [f64]) -> Repaired
+#[tactic(auto, using(eigen::proofs::Pairs::small_size, eigen::proofs::Pairs::full_size, dense::proofs::Tests::side_high))]
+pub fn repair(
+    cov: &[f64],
+    floor: f64,
+    n: usize,
+    out: &mut [f64],
+) -> Result<RegularizationReport, Question>
     requires { Mending n cov.now out.old }
     ensures { (result, out.new) ≡ after_repair (repair cov.now floor n) out.old }
 {
-    let size = n * n;
-    if !are_finite(cov, size) {
-        return refused(FINITE_ENTRIES);
+    if !are_finite(cov) {
+        return Err(Question::FiniteEntries);
     }
     if n == 2 {
         return plane_repair(cov, floor, out);
     }
     if n <= 4 {
-        return small_repair(cov, floor, n, out);
+        return repair_within::<4, 16>(cov, floor, n, out);
     }
-    large_repair(cov, floor, n, out)
+    repair_within::<16, 256>(cov, floor, n, out)
 }
 
 // What the repair of a matrix of one entry x answers.
-pub fn single_answer(x: f64, floor: f64) -> Repaired
+pub fn single_answer(x: f64, floor: f64) -> Result<RegularizationReport, Question>
     ensures { result ≡ repair_answer (repair (x ∷ []) floor 1) }
 {
     if !is_finite(x) {
-        return refused(FINITE_ENTRIES);
+        return Err(Question::FiniteEntries);
     }
-    done(single_report(x, floor))
+    Ok(report(&[x], floor))
 }
 
 // The entry of that repair.

@@ -1,26 +1,16 @@
 // The repair of a covariance: eigenvalues below a floor are raised to it, and the matrix is built again from its eigenvectors.
 #![tactic(auto)]
 
-mod answer;
 mod clip;
 mod direct;
 pub mod inside;
 mod rebuild;
 pub mod regularize;
 
-pub use dense::Written;
-
 // What a repair did: how many eigenvalues were clipped, by how much at most, and which, in descending order of the eigenvalues.
-#[derive(Clone, Copy)]
+#[derive(Clone, Copy, Debug, PartialEq)]
 pub struct RegularizationReport {
     pub n_clipped: usize,
     pub max_clip_magnitude: f64,
     pub clipped_indices: [bool; 16],
-}
-
-// The answer of a repair.
-#[derive(Clone, Copy)]
-pub struct Repaired {
-    pub answer: Written,
-    pub report: RegularizationReport,
 }

@@ -2,29 +2,39 @@
 ghost use Rattle.std.specs.Prelude.{◌≡◌};
 ghost use Rattle.repair.specs.Repair.{nearest_psd, after_repair};
 
-use crate::Repaired;
-use crate::answer::refused;
+use crate::RegularizationReport;
 use crate::direct::single_repair;
 use crate::inside::repair;
 use dense::shape::{are_matrices, is_side};
-use kernel::question::{LENGTH, SIDE};
+use kernel::question::Question;
 
 // The questions, and then the repair, for callers of any order.
-fn asked_repair(cov: &[f64], floor: f64, n: usize, out: &mut [f64]) -> Repaired
+fn asked_repair(
+    cov: &[f64],
+    floor: f64,
+    n: usize,
+    out: &mut [f64],
+) -> Result<RegularizationReport, Question>
     ensures { (result, out.new) ≡ after_repair (nearest_psd cov.now floor n out.old) out.old }
 {
     if !is_side(n) {
-        return refused(SIDE);
+        return Err(Question::Side);
     }
     if !are_matrices(cov, n, n, out, n, n) {
-        return refused(LENGTH);
+        return Err(Question::Length);
     }
     repair(cov, floor, n, out)
 }
 
-// The matrix nearest to cov, n by n, whose eigenvalues are not below min_eig, into out. One entry is repaired here: that is so little code
-// that a compiler puts it where the call is made, and no report goes through memory.
-pub fn nearest_psd(cov: &[f64], min_eig: f64, n: usize, out: &mut [f64]) -> Repaired
+// The matrix nearest to cov, n by n, whose eigenvalues are not below min_eig, into out. One entry is repaired here, and
+// where the call is made, since that is little code: so no report goes through memory.
+#[inline(always)]
+pub fn nearest_psd(
+    cov: &[f64],
+    min_eig: f64,
+    n: usize,
+    out: &mut [f64],
+) -> Result<RegularizationReport, Question>
     ensures { (result, out.new) ≡ after_repair (nearest_psd cov.now min_eig n out.old) out.old }
 {
     if n == 1 {
@@ -34,11 +44,13 @@ pub fn nearest_psd(cov: &[f64], min_eig: f64, n: usize, out: &mut [f64]) -> Repa
 }
 
 // The same, by the name that says what is wanted of the spectrum.
-pub fn eigenvalue_floor(cov: &[f64], min_eig: f64, n: usize, out: &mut [f64]) -> Repaired
+pub fn eigenvalue_floor(
+    cov: &[f64],
+    min_eig: f64,
+    n: usize,
+    out: &mut [f64],
+) -> Result<RegularizationReport, Question>
     ensures { (result, out.new) ≡ after_repair (nearest_psd cov.now min_eig n out.old) out.old }
 {
-    if n == 1 {
-        return single_repair(cov, min_eig, out);
-    }
-    asked_repair(cov, min_eig, n, out)
+    nearest_psd(cov, min_eig, n, out)
 }

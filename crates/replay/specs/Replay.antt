@@ -1,8 +1,12 @@
--- Doubles by their bit patterns, bytes that are compared with frozen ones, and the records of a block.
-use Rattle.std.specs.Prelude.{ℕ, ◌+◌, ◌*◌, ◌/◌, Bool, true, cond, ◌&&◌, List, [], ◌∷◌, length, take, drop, ◌==◌, is_nan, nat_le, slice_index, to_bits, Float}
+-- Doubles by their bit patterns, and the records of a block.
+use Rattle.std.specs.Prelude.{ℕ, ◌+◌, ◌*◌, ◌/◌, Bool, true, cond, ◌&&◌, List, [], ◌∷◌, length, take, drop, ◌==◌, is_nan, nat_le, to_bits, Float, get_or}
 use Rattle.std.specs.Float.{binary64}
-use Rattle.std.specs.Float.Ieee.{nan_bits}
+use Rattle.std.specs.Float.Ieee.{nan, nan_bits}
 use Rattle.kernel.specs.Bytes.{word}
+
+-- Entry i of values; where there is none, a NaN.
+abbrev pub entry : List Float → ℕ → Float
+entry values i = get_or values i nan
 
 -- Whether x is the double with the bit pattern p: any NaN is any NaN.
 unfoldable pub same : Float → ℕ → Bool
@@ -19,16 +23,6 @@ same_from s at (x ∷ values) = nat_le (at + 8) (length s) && (same x (word s at
 unfoldable pub all_same : List Float → List ℕ → Bool
 unfolding same_from
 all_same values s = same_from s 0 values
-
--- Whether these bytes are those of b from an index on.
-unfoldable pub bytes_from : List ℕ → ℕ → List ℕ → Bool
-bytes_from b i [] = true
-bytes_from b i (x ∷ a) = x == slice_index b i && bytes_from b (i + 1) a
-
--- Whether a and b have one length and the same bytes.
-unfoldable pub equal_bytes : List ℕ → List ℕ → Bool
-unfolding bytes_from
-equal_bytes a b = length a == length b && bytes_from b 0 a
 
 -- The n bytes of s at an offset; none where they are not all there.
 unfoldable pub bytes_at : List ℕ → ℕ → ℕ → List ℕ

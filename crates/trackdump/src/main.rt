@@ -1,20 +1,18 @@
-// trackdump FILE [triangle]: shows a track list as text. The first line has the count and the dimension; then there is a line
-// for each track, with its index, its state and its variances, or with the word `triangle` the lower triangle of its
-// covariance, row by row. A list that is refused is shown as `no`, the question's number and the question.
+// trackdump FILE [triangle]: shows a track list as text. The first line has the count and the dimension; then there is
+// a line for each track, with its index, its state and its variances, or with the word `triangle` the lower triangle of
+// its covariance, row by row. A list that is refused is shown as `no`, the question's number and the question.
 #![tactic(auto)]
 
-ghost use Rattle.std.specs.Prelude.{◌≤◌, ◌≡◌, length, take};
+mod question;
 
-mod number;
-mod shortest;
-mod whole;
+ghost use Rattle.std.specs.Prelude.{◌<◌, ◌≤◌};
 
-use kernel::question;
+use crate::question::InWords;
 use std::fs::File;
 use std::io::Read;
 use std::rt::Files;
 use std::{env, io};
-use tracks::read::ReadList;
+use tracks::read::ListSize;
 use tracks::{inside, read};
 
 // The most bytes of a path.
@@ -22,145 +20,72 @@ const LONGEST_PATH: usize = 4096;
 // The values of the largest list: 32 tracks of 54 fields.
 const VALUES: usize = 1728;
 
-fn print_value(rt: &impl Print, values: &[f64], i: usize) -> io::Result<()> {
-    if i < values.len() {
-        print!(rt; " ")?;
-        number::print_number(rt, values[i])?;
-    }
-    Ok(())
+// What is shown of a track's covariance.
+#[derive(Clone, Copy, Debug, PartialEq, Eq)]
+enum Shown {
+    Variances,
+    Triangle,
 }
 
 fn print_values(rt: &impl Print, values: &[f64]) -> io::Result<()> {
-    for i in 0..values.len() {
-        print_value(rt, values, i)?;
+    for x in values {
+        print!(rt; " {x:?}")?;
     }
     Ok(())
 }
 
 // The last value of each row of a triangle, which has at most nine.
 fn print_variances(rt: &impl Print, triangle: &[f64]) -> io::Result<()> {
-    let mut at = 0;
+    // The places of the variances are reckoned: no iterator has them.
     for i in 0..9 {
-        at += i;
-        print_value(rt, triangle, at)?;
-        at += 1;
+        if let Some(x) = triangle.get(i * (i + 3) / 2) {
+            print!(rt; " {x:?}")?;
+        }
     }
     Ok(())
 }
 
 // A track's fields: d values of the state, then the triangle.
-fn print_track(rt: &impl Print, fields: &[f64], d: usize, whole: bool) -> io::Result<()> {
-    if fields.len() < d {
+fn print_track(rt: &impl Print, fields: &[f64], d: usize, shown: Shown) -> io::Result<()> {
+    let Some((state, triangle)) = fields.split_at_checked(d) else {
         return Ok(());
-    }
+    };
     print!(rt; " state")?;
-    print_values(rt, &fields[..d])?;
-    if whole {
-        print!(rt; " triangle")?;
-        print_values(rt, &fields[d..])?;
-    } else {
-        print!(rt; " variances")?;
-        print_variances(rt, &fields[d..])?;
+    print_values(rt, state)?;
+    match shown {
+        Shown::Triangle => {
+            print!(rt; " triangle")?;
+            print_values(rt, triangle)?;
+        }
+        Shown::Variances => {
+            print!(rt; " variances")?;
+            print_variances(rt, triangle)?;
+        }
     }
     println!(rt)
 }
 
-// The tracks of dimension d and f fields.
-fn print_tracks(
-    rt: &impl Print,
-    values: &[f64],
-    count: usize,
-    d: usize,
-    f: usize,
-    whole: bool,
-) -> io::Result<()> {
-    let mut from = 0;
-    for j in 0..count {
-        if values.len() - from < f {
-            return Ok(());
-        }
-        let to = from + f;
+// The tracks whose fields are the values, in their order.
+#[tactic(auto, unfolding(tracks::specs::Layout::fields))]
+fn print_list(rt: &impl Print, values: &[f64], size: ListSize, shown: Shown) -> io::Result<()>
+    requires { (0 < size.dimension) × (size.dimension ≤ 9) }
+{
+    println!(rt; "count {} dimension {}", size.count, size.dimension)?;
+    let tracks = values.chunks_exact(inside::fields(size.dimension));
+    for (j, fields) in tracks.take(size.count).enumerate() {
         print!(rt; "{j}")?;
-        print_track(rt, &values[from..to], d, whole)?;
-        from = to;
+        print_track(rt, fields, size.dimension, shown)?;
     }
     Ok(())
 }
 
-fn print_list(
-    rt: &impl Print,
-    values: &[f64],
-    count: usize,
-    d: usize,
-    whole: bool,
-) -> io::Result<()>
-    requires { d ≤ 9 }
-{
-    println!(rt; "count {count} dimension {d}")?;
-    print_tracks(rt, values, count, d, inside::fields(d), whole)
-}
-
-// A question that a reader puts, in words.
-fn print_question(rt: &impl Print, q: u8) -> io::Result<()> {
-    match q {
-        question::HEADER => print!(rt; "are there two bytes?"),
-        question::COUNT => print!(rt; "is the count at most 32?"),
-        question::DIMENSION => print!(rt; "is the dimension 1 to 9?"),
-        question::PRESENT => print!(rt; "is the map, or the next stored field, all there?"),
-        question::SPARE_BITS => print!(rt; "are the map's spare bits 0?"),
-        question::FINITE_FIELD => print!(rt; "is the field finite?"),
-        question::NONZERO_FIELD => print!(rt; "is a stored field not all zero bits?"),
-        question::NOTHING_AFTER => print!(rt; "does nothing follow the last track?"),
-        _ => print!(rt; "has each slice its length?"),
-    }
-}
-
-fn print_refusal(rt: &impl Print, q: u8) -> io::Result<()> {
-    print!(rt; "no {q}: ")?;
-    print_question(rt, q)?;
-    println!(rt)
-}
-
-fn show(rt: &impl Print, list: &[u8], whole: bool) -> io::Result<()> {
+#[tactic(auto, using(crate::proofs::Dimension::read_sized))]
+fn show(rt: &impl Print, list: &[u8], shown: Shown) -> io::Result<()> {
     let mut values = [0.0; VALUES];
-    let answer = read::read_list(list, &mut values);
-    match answer {
-        ReadList::Read { count, dimension } => print_list(rt, &values, count, dimension, whole),
-        ReadList::Refused(q) => print_refusal(rt, q),
+    match read::read_list(list, &mut values) {
+        Ok(size) => print_list(rt, &values, size, shown),
+        Err(question) => println!(rt; "no {}: {}", question.number(), InWords(question)),
     }
-}
-
-// Reads until the buffer is full, the reader ends or a read fails, and gives how many bytes were read.
-fn read_full<R: Read>(reader: &mut R, buffer: &mut [u8]) -> usize
-    ensures { (result ≤ length buffer.new) × (result ≡ length (take result buffer.new)) }
-{
-    let mut done = 0;
-    for _ in 0..buffer.len() {
-        let Ok(n) = reader.read(&mut buffer[done..]) else {
-            break;
-        };
-        if n == 0 {
-            break;
-        }
-        done += n;
-    }
-    done
-}
-
-// The list that begins with n bytes, once the rest is read after them. A list has at most 14,050 bytes, so what the buffer
-// does not hold of a longer file changes no answer.
-fn show_rest<F: Read>(
-    rt: &impl Print,
-    file: &mut F,
-    list: &mut [u8],
-    n: usize,
-    whole: bool,
-) -> io::Result<()> {
-    if list.len() < n {
-        return Ok(());
-    }
-    let more = read_full(file, &mut list[n..]);
-    show(rt, &list[..n + more], whole)
 }
 
 // The system's text of an error, without the number that std puts after it.
@@ -178,15 +103,19 @@ fn fail(rt: &(impl Eprint + AllocGlobal), path: &str, error: io::Error) -> io::R
     eprintln!(rt; "{path}: {words}")
 }
 
+// A list has at most 14,050 bytes, so what the buffer does not hold of a longer file changes no answer.
 fn show_open<F: Read>(
     rt: &(impl Print + Eprint + AllocGlobal),
     file: &mut F,
     path: &str,
-    whole: bool,
+    shown: Shown,
 ) -> io::Result<()> {
     let mut list = [0u8; 65536];
     match file.read(&mut list) {
-        Ok(n) => show_rest(rt, file, &mut list, n, whole),
+        Ok(n) => {
+            let more = reading::read_full(file, &mut list[n..]);
+            show(rt, &list[..n + more], shown)
+        }
         Err(error) => fail(rt, path, error),
     }
 }
@@ -194,16 +123,12 @@ fn show_open<F: Read>(
 fn show_file(
     rt: &(impl Files + Print + Eprint + AllocGlobal),
     path: &str,
-    whole: bool,
+    shown: Shown,
 ) -> io::Result<()> {
     match File::open(rt, path) {
-        Ok(mut file) => show_open(rt, &mut file, path, whole),
+        Ok(mut file) => show_open(rt, &mut file, path, shown),
         Err(error) => fail(rt, path, error),
     }
-}
-
-fn is_triangle(word: &str) -> bool {
-    word == "triangle"
 }
 
 fn fail_usage(rt: &impl Eprint) -> io::Result<()> {
@@ -221,14 +146,14 @@ fn main(rt: HostRuntime) -> io::Result<()> {
     if LONGEST_PATH < path.len() {
         return fail_usage(&rt);
     }
-    let Some(word) = args.next() else {
-        return show_file(&rt, &path, false);
+    let shown = match args.next() {
+        None => Shown::Variances,
+        Some(word) => {
+            if word.as_str() != "triangle" || args.next().is_some() {
+                return fail_usage(&rt);
+            }
+            Shown::Triangle
+        }
     };
-    if args.next().is_some() {
-        return fail_usage(&rt);
-    }
-    if !is_triangle(&word) {
-        return fail_usage(&rt);
-    }
-    show_file(&rt, &path, true)
+    show_file(&rt, &path, shown)
 }

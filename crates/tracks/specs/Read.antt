@@ -1,8 +1,10 @@
 -- Reading a list record of document 01: its questions in their order, and the tracks of a list that meets them all.
 use Rattle.std.specs.Prelude.{ℕ, zero, suc, ◌+◌, ◌*◌, Bool, true, false, not, List, [], ◌∷◌, ◌++◌, eqb, leb, length, get_or}
-use Rattle.kernel.specs.Answer.{Outcome, answered, ask, and_then, through}
+use Rattle.kernel.specs.Answer.{Outcome, ask, and_then, through}
 use Rattle.tracks.specs.Layout.{fields, map_bits, map_bytes, count_met, dimension_met, stands, finite_bits, spare}
 use Rattle.kernel.specs.Bytes.{word}
+use Rattle.std.specs.Prelude.{Ok}
+use Rattle.kernel.specs.declared.question.Question.TheVariants as question
 
 -- What stands at an offset, and the offset after it.
 pub record Item (A : Type 0) : Type 0 where
@@ -19,21 +21,21 @@ push xs x = record { value = xs.value ++ (x.value ∷ []); next = x.next }
 
 -- n items from an offset on, each where the one before it ends; item k is read by `read k`.
 unfoldable pub items : {A : Type 0} → (ℕ → ℕ → Outcome (Item A)) → ℕ → ℕ → Outcome (Item (List A))
-items read at zero = answered (record { value = []; next = at })
+items read at zero = Ok (record { value = []; next = at })
 items read at (suc n) = and_then (items read at n) (λ xs. through (push xs) (read n xs.next))
 
 -- A field whose bit stands, as its 64 bits: questions 12, 14 and 15.
 unfoldable pub stored : List ℕ → ℕ → Outcome (Item ℕ)
 stored l at =
-    ask 12 (leb (at + 8) (length l))
-    (ask 14 (finite_bits (word l at))
-    (ask 15 (not (eqb (word l at) 0))
-    (answered (record { value = word l at; next = at + 8 }))))
+    ask question.Present (leb (at + 8) (length l))
+    (ask question.FiniteField (finite_bits (word l at))
+    (ask question.NonzeroField (not (eqb (word l at) 0))
+    (Ok (record { value = word l at; next = at + 8 }))))
 
 -- A field where its bit stands, and +0.0 where it does not.
 abbrev pub stored_if : Bool → List ℕ → ℕ → Outcome (Item ℕ)
 stored_if true l at = stored l at
-stored_if false l at = answered (record { value = 0; next = at })
+stored_if false l at = Ok (record { value = 0; next = at })
 
 -- Field k of the track whose map starts at an offset.
 unfoldable pub field : List ℕ → ℕ → ℕ → ℕ → Outcome (Item ℕ)
@@ -55,8 +57,8 @@ after_map d at = at + map_bytes (map_bits d)
 unfoldable pub track : List ℕ → ℕ → ℕ → Outcome (Item Track)
 unfolding fields map_bits spare items field
 track l d at =
-    ask 12 (leb (after_map d at) (length l))
-    (ask 13 (spare l (map_bits d) at)
+    ask question.Present (leb (after_map d at) (length l))
+    (ask question.SpareBits (spare l (map_bits d) at)
     (through (item_of track_of) (items (field l at) (after_map d at) (fields d))))
 
 -- The first n tracks of dimension d. They start after the two bytes of count and dimension.
@@ -78,18 +80,18 @@ pub record TrackList : Type 0 where
 
 -- Question 16: nothing after the last track.
 abbrev pub nothing_after : List ℕ → Item (List Track) → Outcome TrackList
-nothing_after l ts = ask 16 (eqb ts.next (length l)) (answered (record { dimension = dimension l; tracks = ts.value }))
+nothing_after l ts = ask question.NothingAfter (eqb ts.next (length l)) (Ok (record { dimension = dimension l; tracks = ts.value }))
 
 -- What a list holds.
 unfoldable pub contents : List ℕ → Outcome TrackList
 unfolding tracks
 contents l =
-    ask 9 (leb 2 (length l))
-    (ask 10 (count_met (count l))
-    (ask 11 (dimension_met (dimension l))
+    ask question.Header (leb 2 (length l))
+    (ask question.Count (count_met (count l))
+    (ask question.Dimension (dimension_met (dimension l))
     (and_then (tracks l (dimension l) (count l)) (nothing_after l))))
 
 -- Reading a list into a slice of some length: question 2 is the last.
 unfoldable pub reading : List ℕ → ℕ → Outcome TrackList
 unfolding fields contents
-reading l room = and_then (contents l) (λ c. ask 2 (leb (length c.tracks * fields c.dimension) room) (answered c))
+reading l room = and_then (contents l) (λ c. ask question.Length (leb (length c.tracks * fields c.dimension) room) (Ok c))

@@ -1,11 +1,13 @@
 -- Writing a list record of document 01: the bytes of tracks.
 use Rattle.std.specs.Prelude.{ℕ, zero, suc, ◌+◌, ◌*◌, ◌^◌, Bool, true, not, ◌&&◌, cond, eqb, leb, length, get_or, take, drop}
 use mathlib.Core.List.{List, [], ◌∷◌, ◌++◌, flat_map}
-use Rattle.kernel.specs.Answer.{Outcome, answered, ask}
+use Rattle.kernel.specs.Answer.{Outcome, ask}
 use Rattle.kernel.specs.Lists.{tabulate}
 use Rattle.tracks.specs.Layout.{fields, map_bits, map_bytes, finite_bits, count_met, dimension_met}
 use Rattle.kernel.specs.Bytes.{bytes}
 use Rattle.tracks.specs.Read.{Track, TrackList, track_of}
+use Rattle.std.specs.Prelude.{Ok}
+use Rattle.kernel.specs.declared.question.Question.TheVariants as question
 
 -- Which fields are stored: all but +0.0, the one whose 64 bits are 0.
 abbrev pub nonzero : ℕ → Bool
@@ -66,9 +68,9 @@ track_list n d v = record { dimension = d; tracks = tracks_of n (fields d) v }
 unfoldable pub written : ℕ → ℕ → List ℕ → ℕ → Outcome (List ℕ)
 unfolding fields all_finite list_of tracks_of
 written n d v room =
-    ask 10 (count_met n)
-    (ask 11 (dimension_met d)
-    (ask 2 (eqb (length v) (n * fields d))
-    (ask 14 (all_finite v)
-    (ask 20 (leb (length (list_of (track_list n d v))) room)
-    (answered (list_of (track_list n d v)))))))
+    ask question.Count (count_met n)
+    (ask question.Dimension (dimension_met d)
+    (ask question.Length (eqb (length v) (n * fields d))
+    (ask question.FiniteField (all_finite v)
+    (ask question.ListBuffer (leb (length (list_of (track_list n d v))) room)
+    (Ok (list_of (track_list n d v)))))))

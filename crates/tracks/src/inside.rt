@@ -7,9 +7,10 @@ ghost use Rattle.tracks.specs.Private.{track_of_doubles, Writes};
 use crate::write::write_record;
 
 // How many fields a track of dimension d has.
+#[tactic(auto, using(crate::proofs::Numbers::Fields::most_fields, crate::proofs::Numbers::Fields::widest_fields), unfolding(crate::specs::Layout::fields))]
 pub fn fields(d: usize) -> usize
-    requires { d ≤ 9 }
-    ensures { (result ≡ fields d) × (result ≤ 54) }
+    requires { d ≤ 16 }
+    ensures { (result ≡ fields d) × (result ≤ 152) × (d ≤ 9 → result ≤ 54) }
 {
     d + d * (d + 1) / 2
 }

@@ -4,21 +4,15 @@ ghost use Rattle.tracks.specs.Layout.{map_bits, map_bytes, stands, finite_bits, 
 
 use crate::inside;
 use kernel::constants;
+use kernel::question::Question;
 
-// The bits of the map of a track of dimension d: one for each field.
-pub(crate) fn map_bits(d: usize) -> usize
-    requires { d ≤ 9 }
-    ensures { (result ≡ map_bits d) × (result ≤ 54) }
-{
-    inside::fields(d)
-}
-
-// The bytes of that map.
+// The bytes of the map of a track of dimension d, which has a bit for each field.
+#[tactic(auto, unfolding(crate::specs::Layout::map_bits))]
 pub(crate) fn map_bytes(d: usize) -> usize
     requires { d ≤ 9 }
     ensures { (result ≡ map_bytes (map_bits d)) × (result ≤ 7) }
 {
-    (map_bits(d) + 7) / 8
+    (inside::fields(d) + 7) / 8
 }
 
 // Question 10.
@@ -32,13 +26,11 @@ pub(crate) fn count_met(n: usize) -> bool
 pub(crate) fn dimension_met(d: usize) -> bool
     ensures { result ≡ dimension_met d }
 {
-    if d < 1 {
-        return false;
-    }
-    d <= 9
+    1 <= d && d <= 9
 }
 
 // Bit k of the map at an offset.
+#[tactic(auto, unfolding(crate::specs::Layout::stands))]
 pub(crate) fn stands(list: &[u8], map: usize, k: usize) -> bool
     requires { map + k / 8 < length list.now }
     ensures { result ≡ stands list.now map k }
@@ -54,10 +46,12 @@ pub(crate) fn finite(bits: u64) -> bool
 }
 
 // Question 13: whether the spare bits of the map at an offset are 0.
+#[tactic(auto, using(crate::proofs::Numbers::Bits::none_more, crate::proofs::Numbers::Bits::spare_never), unfolding(crate::specs::Layout::none, crate::specs::Layout::spare))]
 pub(crate) fn spare_clear(list: &[u8], bits: usize, map: usize) -> bool
     requires { (bits ≤ 64) × (map + map_bytes bits ≤ length list.now) }
     ensures { result ≡ spare list.now bits map }
 {
+    // A loop that leaves at the first bit that is set.
     for i in 0..(bits + 7) / 8 * 8 - bits {
         if stands(list, map, bits + i) {
             return false;

@@ -1,165 +1,142 @@
 // Reading a list. Every question is put before anything is written.
 ghost use Rattle.std.specs.Prelude.{◌≡◌, ◌+◌, ◌/◌, ◌<◌, ◌≤◌, [], ◌∷◌, length, take};
+ghost use Rattle.kernel.specs.Answer.{and_then};
 ghost use Rattle.kernel.specs.Lists.{over, tabulate};
 ghost use Rattle.tracks.specs.Read.{stored, field, items, track, tracks, contents, reading};
 ghost use Rattle.tracks.specs.Calls.{joined, read_answer, read_values, read_with_offsets};
 ghost use Rattle.tracks.specs.Record.{end_of};
-ghost use Rattle.tracks.specs.Private.{ends, continued, checked_end, Within, Puts, Offsets, TracksChecked, FieldsChecked, FieldPut, TrackPut, TracksPut};
+ghost use Rattle.tracks.specs.Private.{ends, Within, Puts, Offsets, TracksChecked, FieldsChecked, FieldPut, TrackPut, TracksPut};
 
 use crate::{inside, layout};
-use kernel::{bytes, question};
+use kernel::bytes;
+use kernel::question::Question;
 
-// Where an item of a list ends, or the number of the first question that it does not meet.
-#[derive(Clone, Copy)]
-pub(crate) enum Checked {
-    End(usize),
-    Refused(u8),
+// How many tracks a list has, and of which dimension.
+#[derive(Clone, Copy, Debug, PartialEq, Eq)]
+pub struct ListSize {
+    pub count: usize,
+    pub dimension: usize,
 }
 
-// The answer to a list that is read.
-#[derive(Clone, Copy)]
-pub enum ReadList {
-    Read { count: usize, dimension: usize },
-    Refused(u8),
-}
-
-// Questions 12, 14 and 15 for the field stored at an offset.
-fn check_stored(list: &[u8], at: usize) -> Checked
+// Where the field stored at an offset ends; questions 12, 14 and 15.
+#[tactic(auto, unfolding(crate::specs::Read::stored))]
+fn check_stored(list: &[u8], at: usize) -> Result<usize, Question>
     requires { at ≤ length list.now }
     ensures { result ≡ ends (stored list.now at) }
 {
     if list.len() - at < 8 {
-        return Checked::Refused(question::PRESENT);
+        return Err(Question::Present);
     }
     let bits = bytes::word(list, at);
     if !layout::finite(bits) {
-        return Checked::Refused(question::FINITE_FIELD);
+        return Err(Question::FiniteField);
     }
     if bits == 0 {
-        return Checked::Refused(question::NONZERO_FIELD);
+        return Err(Question::NonzeroField);
     }
-    Checked::End(at + 8)
+    Ok(at + 8)
 }
 
 // Where field k of the track whose map is at an offset ends.
-fn check_field(list: &[u8], map: usize, k: usize, at: usize) -> Checked
+#[tactic(auto, unfolding(crate::specs::Read::field))]
+fn check_field(list: &[u8], map: usize, k: usize, at: usize) -> Result<usize, Question>
     requires { (map + k / 8 < length list.now) × (at ≤ length list.now) }
     ensures { result ≡ ends (field list.now map k at) }
 {
     if layout::stands(list, map, k) {
         return check_stored(list, at);
     }
-    Checked::End(at)
+    Ok(at)
 }
 
-// The questions of the f fields, from a start on, of the track whose map is at an offset. It stops at the first that is
-// refused: with a loop that carries the refusal along, as that over tracks does, reading the largest list took 40 % longer.
-fn check_fields(list: &[u8], f: usize, map: usize, start: usize) -> Checked
+// Where the f fields, from a start on, of the track whose map is at an offset end. It stops at the first that is
+// refused: with a loop that carries the refusal along, as that over tracks does, reading the largest list took 40 %
+// longer.
+#[tactic(auto, using(crate::proofs::Reading::Items::ends_more, crate::proofs::Reading::Accepted::field_within), unfolding(crate::specs::Read::items))]
+fn check_fields(list: &[u8], f: usize, map: usize, start: usize) -> Result<usize, Question>
     requires { FieldsChecked list.now f map start }
     ensures { result ≡ ends (items (field list.now map) start f) }
 {
     let mut at = start;
+    // Each field goes after the one before, whose length the map tells.
     for k in 0..f {
-        let c = check_field(list, map, k, at);
-        match c {
-            Checked::End(next) => {
-                at = next;
-            }
-            Checked::Refused(q) => {
-                return Checked::Refused(q);
-            }
-        }
+        at = check_field(list, map, k, at)?;
     }
-    Checked::End(at)
+    Ok(at)
 }
 
-// The questions of the track of dimension d at an offset.
-pub(crate) fn check_track(list: &[u8], d: usize, at: usize) -> Checked
+// Where the track of dimension d at an offset ends.
+#[tactic(auto, using(crate::proofs::Reading::Items::ends_made), unfolding(crate::specs::Read::track, crate::specs::Layout::map_bits))]
+pub(crate) fn check_track(list: &[u8], d: usize, at: usize) -> Result<usize, Question>
     requires { (d ≤ 9) × (at ≤ length list.now) }
     ensures { result ≡ ends (track list.now d at) }
 {
-    let bits = layout::map_bits(d);
+    let f = inside::fields(d);
     let size = layout::map_bytes(d);
     if list.len() - at < size {
-        return Checked::Refused(question::PRESENT);
+        return Err(Question::Present);
     }
-    if !layout::spare_clear(list, bits, at) {
-        return Checked::Refused(question::SPARE_BITS);
+    if !layout::spare_clear(list, f, at) {
+        return Err(Question::SpareBits);
     }
-    check_fields(list, inside::fields(d), at, at + size)
+    check_fields(list, f, at, at + size)
 }
 
-// Where a track ends after the tracks before it, unless one of those is refused.
-pub(crate) fn next_track(list: &[u8], d: usize, c: Checked) -> Checked
-    requires { (d ≤ 9) × Within list.now c }
-    ensures { result ≡ continued c (λ at. ends (track list.now d at)) }
+// Where the track of dimension d ends that follows tracks which end as told, unless one of those is refused.
+fn next_track(list: &[u8], d: usize, end: Result<usize, Question>) -> Result<usize, Question>
+    requires { (d ≤ 9) × Within list.now end }
+    ensures { result ≡ and_then end (λ at. ends (track list.now d at)) }
 {
-    match c {
-        Checked::End(at) => check_track(list, d, at),
-        Checked::Refused(q) => Checked::Refused(q),
-    }
+    check_track(list, d, end?)
 }
 
-// Where items end; 0 where they are refused.
-fn end_of(c: Checked) -> usize
-    ensures { result ≡ checked_end c }
+// Where so many tracks end. Where each track starts is stored, and where the last one ends; 0 in place of what follows
+// a refusal. It carries a refusal along and does not stop, so that all of these places are written.
+fn check_tracks(list: &[u8], size: ListSize, offsets: &mut [usize]) -> Result<usize, Question>
+    requires { TracksChecked list.now size offsets.old }
+    ensures value { result ≡ ends (tracks list.now size.dimension size.count) }
+    ensures offsets_after { offsets.new ≡ over offsets.old 0 (tabulate (size.count + 1) (λ j. end_of (tracks list.now size.dimension j))) }
 {
-    match c {
-        Checked::End(at) => at,
-        Checked::Refused(_) => 0,
+    let mut end = Ok(2);
+    // Each track goes after the one before.
+    for j in 0..size.count {
+        offsets[j] = end.unwrap_or(0);
+        end = next_track(list, size.dimension, end);
     }
+    offsets[size.count] = end.unwrap_or(0);
+    end
 }
 
-// The questions of the first n tracks of dimension d. Where each track starts is stored, and where the last one ends.
-fn check_tracks(list: &[u8], d: usize, n: usize, offsets: &mut [usize]) -> Checked
-    requires { TracksChecked list.now d n offsets.old }
-    ensures value { result ≡ ends (tracks list.now d n) }
-    ensures offsets_after { offsets.new ≡ over offsets.old 0 (tabulate (n + 1) (λ j. end_of (tracks list.now d j))) }
-{
-    let mut c = Checked::End(2);
-    for j in 0..n {
-        offsets[j] = end_of(c);
-        c = next_track(list, d, c);
-    }
-    offsets[n] = end_of(c);
-    c
-}
-
-// The questions of a list, but for the room for its values, in one pass: where its tracks start and end is stored on the way.
-pub(crate) fn check_offsets(list: &[u8], offsets: &mut [usize]) -> ReadList
+// The questions of a list, but for the room for its values, in one pass: where its tracks start and end is stored on
+// the way.
+#[tactic(auto, using(crate::proofs::Reading::Accepted::question_laws))]
+pub(crate) fn check_offsets(list: &[u8], offsets: &mut [usize]) -> Result<ListSize, Question>
     requires { length offsets.old ≡ 33 }
     ensures value { result ≡ read_answer (contents list.now) }
     ensures offsets { Offsets list.now offsets.old offsets.new }
 {
     if list.len() < 2 {
-        return ReadList::Refused(question::HEADER);
+        return Err(Question::Header);
     }
-    let n = list[0] as usize;
-    let d = list[1] as usize;
-    if !layout::count_met(n) {
-        return ReadList::Refused(question::COUNT);
+    let size = ListSize {
+        count: list[0] as usize,
+        dimension: list[1] as usize,
+    };
+    if !layout::count_met(size.count) {
+        return Err(Question::Count);
     }
-    if !layout::dimension_met(d) {
-        return ReadList::Refused(question::DIMENSION);
+    if !layout::dimension_met(size.dimension) {
+        return Err(Question::Dimension);
     }
-    let c = check_tracks(list, d, n, offsets);
-    match c {
-        Checked::End(end) => {
-            if end == list.len() {
-                ReadList::Read {
-                    count: n,
-                    dimension: d,
-                }
-            } else {
-                ReadList::Refused(question::NOTHING_AFTER)
-            }
-        }
-        Checked::Refused(q) => ReadList::Refused(q),
+    let end = check_tracks(list, size, offsets)?;
+    if end != list.len() {
+        return Err(Question::NothingAfter);
     }
+    Ok(size)
 }
 
 // The questions of a list, but for the room for its values.
-pub(crate) fn check_list(list: &[u8]) -> ReadList
+pub(crate) fn check_list(list: &[u8]) -> Result<ListSize, Question>
     ensures { result ≡ read_answer (contents list.now) }
 {
     let mut offsets = [0; 33];
@@ -167,6 +144,7 @@ pub(crate) fn check_list(list: &[u8]) -> ReadList
 }
 
 // Stores field k of an accepted track at an index of the values, and gives the offset after the field.
+#[tactic(auto, using(crate::proofs::Reading::Accepted::field_laws))]
 fn put_field(list: &[u8], map: usize, k: usize, at: usize, values: &mut [f64], i: usize) -> usize
     requires { FieldPut list.now map k at values.old i }
     ensures { Puts (λ x. x ∷ []) (field list.now map k at) values.old i result values.new }
@@ -186,76 +164,66 @@ fn put_track(list: &[u8], d: usize, map: usize, values: &mut [f64], i: usize) ->
 {
     let f = inside::fields(d);
     let mut at = map + layout::map_bytes(d);
+    // Each field goes after the one before, whose length the map tells.
     for k in 0..f {
         at = put_field(list, map, k, at, values, i + k);
     }
     at
 }
 
-// Stores the fields of the first n tracks.
-fn put_tracks(list: &[u8], d: usize, n: usize, values: &mut [f64]) -> usize
-    requires { TracksPut list.now d n values.old }
-    ensures { Puts joined (tracks list.now d n) values.old 0 result values.new }
+// Stores the fields of so many tracks, and gives the offset after the last one.
+fn put_tracks(list: &[u8], size: ListSize, values: &mut [f64]) -> usize
+    requires { TracksPut list.now size values.old }
+    ensures { Puts joined (tracks list.now size.dimension size.count) values.old 0 result values.new }
 {
-    let f = inside::fields(d);
+    let f = inside::fields(size.dimension);
     let mut at = 2;
-    let mut i = 0;
-    for _ in 0..n {
-        at = put_track(list, d, at, values, i);
-        i += f;
+    // Each track goes after the one before.
+    for j in 0..size.count {
+        at = put_track(list, size.dimension, at, values, j * f);
     }
     at
 }
 
 // Reads a list: its tracks' fields go to the front of the values, in their order.
-pub fn read_list(list: &[u8], values: &mut [f64]) -> ReadList
+#[tactic(auto, using(crate::proofs::Reading::Known::read_laws))]
+pub fn read_list(list: &[u8], values: &mut [f64]) -> Result<ListSize, Question>
     ensures value { result ≡ read_answer (reading list.now (length values.old)) }
     ensures values_after { values.new ≡ read_values (reading list.now (length values.old)) values.old }
 {
-    let c = check_list(list);
-    match c {
-        ReadList::Read { count, dimension } => {
-            let f = inside::fields(dimension);
-            if values.len() < count * f {
-                return ReadList::Refused(question::LENGTH);
-            }
-            put_tracks(list, dimension, count, values);
-            ReadList::Read { count, dimension }
-        }
-        ReadList::Refused(q) => ReadList::Refused(q),
+    let size = check_list(list)?;
+    if values.len() < size.count * inside::fields(size.dimension) {
+        return Err(Question::Length);
     }
+    put_tracks(list, size, values);
+    Ok(size)
 }
 
 // Copies the first n offsets.
+#[tactic(auto, using(crate::proofs::Slices::Lists::front_copied))]
 pub(crate) fn copy_offsets(from: &[usize], n: usize, to: &mut [usize])
     requires { (n ≤ length from.now) × (n ≤ length to.old) }
     ensures { to.new ≡ over to.old 0 (take n from.now) }
 {
-    for j in 0..n {
-        to[j] = from[j];
-    }
+    to[..n].copy_from_slice(&from[..n]);
 }
 
-// Reads a list and says where its tracks stand: the fields go to the front of the values, and where each track starts to
-// the front of the offsets, with the end of the last one after them. The list is checked once.
-pub fn read_with_offsets(list: &[u8], values: &mut [f64], offsets: &mut [usize]) -> ReadList
+// Reads a list and says where its tracks stand: the fields go to the front of the values, and where each track starts
+// to the front of the offsets, with the end of the last one after them. The list is checked once.
+#[tactic(auto, using(crate::proofs::Reading::Offsets::placed_laws))]
+pub fn read_with_offsets(
+    list: &[u8],
+    values: &mut [f64],
+    offsets: &mut [usize],
+) -> Result<ListSize, Question>
     ensures { (result, (values.new, offsets.new)) ≡ read_with_offsets list.now values.old offsets.old }
 {
     let mut found = [0; 33];
-    let c = check_offsets(list, &mut found);
-    match c {
-        ReadList::Read { count, dimension } => {
-            let f = inside::fields(dimension);
-            if values.len() < count * f {
-                return ReadList::Refused(question::LENGTH);
-            }
-            if offsets.len() <= count {
-                return ReadList::Refused(question::LENGTH);
-            }
-            put_tracks(list, dimension, count, values);
-            copy_offsets(&found, count + 1, offsets);
-            ReadList::Read { count, dimension }
-        }
-        ReadList::Refused(q) => ReadList::Refused(q),
+    let size = check_offsets(list, &mut found)?;
+    if values.len() < size.count * inside::fields(size.dimension) || offsets.len() <= size.count {
+        return Err(Question::Length);
     }
+    put_tracks(list, size, values);
+    copy_offsets(&found, size.count + 1, offsets);
+    Ok(size)
 }

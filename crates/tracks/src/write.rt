@@ -1,5 +1,7 @@
 // Writing a list. Every question is put before anything is written.
 ghost use Rattle.std.specs.Prelude.{◌≡◌, ◌+◌, ◌*◌, ◌<◌, ◌≤◌, length, get_or};
+ghost use Rattle.std.specs.Float.{binary64};
+ghost use Rattle.std.specs.Float.Ieee.{to_bits};
 ghost use Rattle.kernel.specs.Bytes.{bytes};
 ghost use Rattle.kernel.specs.Lists.{over};
 ghost use Rattle.tracks.specs.Layout.{fields, map_bits, map_bytes};
@@ -8,21 +10,13 @@ ghost use Rattle.tracks.specs.Calls.{patterns, write_answer, write_bytes};
 ghost use Rattle.tracks.specs.Private.{track_of_doubles, Writes, TracksWritten};
 
 use crate::{inside, layout};
-use kernel::question;
-
-// The answer to a list that is written.
-#[derive(Clone, Copy)]
-pub enum WrittenList {
-    Length(usize),
-    Refused(u8),
-}
+use kernel::question::Question;
 
 // The 64 bits of a value. No NaN has bits of its own here; those of `to_bits` are not finite either.
-fn bits_at(v: &[f64], i: usize) -> u64
-    requires { i < length v.now }
-    ensures { result ≡ get_or (patterns v.now) i 0 }
+#[tactic(auto, using(crate::proofs::Numbers::Values::nan_bits, kernel::proofs::Doubles::Patterns::equals_itself))]
+fn bits_of(x: f64) -> u64
+    ensures { result ≡ to_bits binary64 x }
 {
-    let x = v[i];
     if x != x {
         return 0x7FF8_0000_0000_0000;
     }
@@ -30,35 +24,30 @@ fn bits_at(v: &[f64], i: usize) -> u64
 }
 
 // Question 14, of values.
+#[tactic(auto, using(crate::proofs::Numbers::Values::finite_told))]
 fn all_finite(v: &[f64]) -> bool
     ensures { result ≡ all_finite (patterns v.now) }
 {
-    for i in 0..v.len() {
-        if !layout::finite(bits_at(v, i)) {
-            return false;
-        }
-    }
-    true
+    v.iter().all(|x| layout::finite(bits_of(*x)))
 }
 
 // How many bytes a field takes.
+#[tactic(auto, using(crate::proofs::Records::Bytes::field_takes_none, crate::proofs::Records::Bytes::field_takes_eight))]
 fn field_length(x: u64) -> usize
     ensures { (result ≡ length (field_bytes x)) × (result ≤ 8) }
 {
-    if x == 0 {
-        return 0;
-    }
-    8
+    if x == 0 { 0 } else { 8 }
 }
 
 // How many bytes the stored fields of values take.
+#[tactic(auto, using(crate::proofs::Records::Bytes::stored_next, crate::proofs::Numbers::Values::all_patterns), unfolding(crate::specs::Write::stored_bytes))]
 fn stored_length(v: &[f64]) -> usize
     requires { length v.now ≤ 2048 }
     ensures { (result ≡ length (stored_bytes (patterns v.now))) × (result ≤ 8 * length v.now) }
 {
     let mut n = 0;
-    for i in 0..v.len() {
-        n += field_length(bits_at(v, i));
+    for x in v {
+        n += field_length(bits_of(*x));
     }
     n
 }
@@ -67,10 +56,7 @@ fn stored_length(v: &[f64]) -> usize
 fn is_stored(v: &[f64], k: usize) -> bool
     ensures { result ≡ nonzero (get_or (patterns v.now) k 0) }
 {
-    if k < v.len() {
-        return bits_at(v, k) != 0;
-    }
-    false
+    k < v.len() && bits_of(v[k]) != 0
 }
 
 // Byte b of a track's map.
@@ -80,6 +66,7 @@ fn map_byte(v: &[f64], b: usize) -> u8
 {
     let mut byte: usize = 0;
     let mut weight: usize = 1;
+    // A loop: a fold over the bits and their weights is no plainer.
     for i in 0..8 {
         if is_stored(v, 8 * b + i) {
             byte += weight;
@@ -95,6 +82,7 @@ fn write_map(v: &[f64], d: usize, out: &mut [u8], at: usize) -> usize
     ensures { Writes (map_of d (track_of_doubles v.now)) out.old at result out.new }
 {
     let n = layout::map_bytes(d);
+    // Written from an offset on.
     for b in 0..n {
         out[at + b] = map_byte(v, b);
     }
@@ -102,21 +90,16 @@ fn write_map(v: &[f64], d: usize, out: &mut [u8], at: usize) -> usize
 }
 
 // Writes 64 bits, low byte first.
+#[tactic(auto, using(crate::proofs::Slices::Lists::word_copied))]
 fn write_word(out: &mut [u8], at: usize, x: u64)
     requires { at + 8 ≤ length out.old }
     ensures { out.new ≡ over out.old at (bytes 8 x) }
 {
-    out[at] = (x % 256) as u8;
-    out[at + 1] = (x / 0x100 % 256) as u8;
-    out[at + 2] = (x / 0x1_0000 % 256) as u8;
-    out[at + 3] = (x / 0x100_0000 % 256) as u8;
-    out[at + 4] = (x / 0x1_0000_0000 % 256) as u8;
-    out[at + 5] = (x / 0x100_0000_0000 % 256) as u8;
-    out[at + 6] = (x / 0x1_0000_0000_0000 % 256) as u8;
-    out[at + 7] = (x / 0x100_0000_0000_0000 % 256) as u8;
+    out[at..at + 8].copy_from_slice(&x.to_le_bytes());
 }
 
 // Writes a field, unless it is +0.0.
+#[tactic(auto, using(crate::proofs::Records::Bytes::field_bytes_laws))]
 fn write_field(x: u64, out: &mut [u8], at: usize) -> usize
     requires { at + length (field_bytes x) ≤ length out.old }
     ensures { Writes (field_bytes x) out.old at result out.new }
@@ -134,13 +117,14 @@ fn write_fields(v: &[f64], out: &mut [u8], start: usize) -> usize
     ensures { Writes (stored_bytes (patterns v.now)) out.old start result out.new }
 {
     let mut at = start;
-    for k in 0..v.len() {
-        at = write_field(bits_at(v, k), out, at);
+    for x in v {
+        at = write_field(bits_of(*x), out, at);
     }
     at
 }
 
 // Writes the own bytes of a track of dimension d.
+#[tactic(auto, using(crate::proofs::Records::Bytes::record_length, crate::proofs::Records::Bytes::map_length, crate::proofs::Records::Bytes::record_over))]
 pub(crate) fn write_record(v: &[f64], d: usize, out: &mut [u8], at: usize) -> usize
     requires { (d ≤ 9) × (at + length (record_of d (track_of_doubles v.now)) ≤ length out.old) }
     ensures { Writes (record_of d (track_of_doubles v.now)) out.old at result out.new }
@@ -156,51 +140,47 @@ fn write_tracks(v: &[f64], d: usize, n: usize, out: &mut [u8]) -> usize
 {
     let f = inside::fields(d);
     let mut at = 2;
-    let mut i = 0;
-    for _ in 0..n {
-        let next = i + f;
-        at = write_record(&v[i..next], d, out, at);
-        i = next;
+    // Each record goes after the one before.
+    for j in 0..n {
+        let start = j * f;
+        at = write_record(&v[start..start + f], d, out, at);
     }
     at
 }
 
-// The questions of a list that is to be written into a buffer of some length.
-fn check_write(n: usize, d: usize, v: &[f64], room: usize) -> WrittenList
+// The length of a list that is to be written into a buffer of some length, and its questions.
+#[tactic(auto, using(crate::proofs::Records::Bytes::question_laws))]
+fn check_write(n: usize, d: usize, v: &[f64], room: usize) -> Result<usize, Question>
     ensures { result ≡ write_answer (written n d (patterns v.now) room) }
 {
     if !layout::count_met(n) {
-        return WrittenList::Refused(question::COUNT);
+        return Err(Question::Count);
     }
     if !layout::dimension_met(d) {
-        return WrittenList::Refused(question::DIMENSION);
+        return Err(Question::Dimension);
     }
     if v.len() != n * inside::fields(d) {
-        return WrittenList::Refused(question::LENGTH);
+        return Err(Question::Length);
     }
     if !all_finite(v) {
-        return WrittenList::Refused(question::FINITE_FIELD);
+        return Err(Question::FiniteField);
     }
     let length = 2 + n * layout::map_bytes(d) + stored_length(v);
     if room < length {
-        return WrittenList::Refused(question::LIST_BUFFER);
+        return Err(Question::ListBuffer);
     }
-    WrittenList::Length(length)
+    Ok(length)
 }
 
-// Writes the list of n tracks of dimension d whose fields are the values, in their order.
-pub fn write_list(n: usize, d: usize, values: &[f64], out: &mut [u8]) -> WrittenList
+// Writes the list of n tracks of dimension d whose fields are the values, in their order, and gives its length.
+#[tactic(auto, using(crate::proofs::Records::Bytes::list_laws))]
+pub fn write_list(n: usize, d: usize, values: &[f64], out: &mut [u8]) -> Result<usize, Question>
     ensures value { result ≡ write_answer (written n d (patterns values.now) (length out.old)) }
     ensures out_after { out.new ≡ write_bytes (written n d (patterns values.now) (length out.old)) out.old }
 {
-    let c = check_write(n, d, values, out.len());
-    match c {
-        WrittenList::Length(length) => {
-            out[0] = n as u8;
-            out[1] = d as u8;
-            write_tracks(values, d, n, out);
-            WrittenList::Length(length)
-        }
-        WrittenList::Refused(q) => WrittenList::Refused(q),
-    }
+    let length = check_write(n, d, values, out.len())?;
+    out[0] = n as u8;
+    out[1] = d as u8;
+    write_tracks(values, d, n, out);
+    Ok(length)
 }

@@ -6,8 +6,8 @@ use mathlib.Core.Bool.{Bool, true, false, cond, ◌&&◌, and_comm}
 use mathlib.Core.List.{List, [], ◌∷◌}
 use mathlib.Core.Path.{◌≡◌, refl, sym, ap, ◌∙◌}
 use lib.Ieee.{Float, lt}
-use lib.ListN.{length, set}
-use Rattle.kernel.specs.Answer.{answered, ask}
+use lib.ListN.{length}
+use Rattle.kernel.specs.Answer.{ask}
 use Rattle.kernel.specs.Constants.{nought, half, one, rel_tol, min_positive}
 use Rattle.kernel.specs.First.{first_below}
 use Rattle.kernel.specs.Lists.{tabulate}
@@ -19,6 +19,8 @@ use Rattle.eigen.specs.Private.{plane_state, plane_of, turned_plane, exchanged, 
 use Rattle.eigen.specs.Rotation.{State, state, negligible, rotation, turned, corner_entry, turned_entry, turned_vector, turned_by, rotated}
 use Rattle.eigen.specs.Eigen.{symmetrized_entry, begun, above_rows, tolerance, stops, swept_row, swept_rows, sweep, spot, inserted_at, order, arranged, pairs_of, swept, eigenpairs}
 use Rattle.eigen.proofs.Answered.{eigenpairs-final}
+use Rattle.std.specs.Prelude.{Ok}
+use Rattle.kernel.specs.declared.question.Question.TheVariants as question
 
 pub plane_begun : (w x y z : Float)
     → begun (w ∷ x ∷ y ∷ z ∷ []) 2 ≡ state (w ∷ mul half (add x y) ∷ mul half (add x y) ∷ z ∷ []) (one ∷ nought ∷ nought ∷ one ∷ [])
@@ -51,10 +53,10 @@ plane_rotated s =
 
 -- by which of the two is the greater
 in_order : (s : Plane) (b : Bool)
-    → ask 4 (finite s.app && finite s.aqq) (answered (arranged (s.app ∷ s.aqq ∷ []) (plane_state s).vectors 2 (inserted_at 1 (cond b 0 1) (0 ∷ []))))
+    → ask question.FiniteEigenvalues (finite s.app && finite s.aqq) (Ok (arranged (s.app ∷ s.aqq ∷ []) (plane_state s).vectors 2 (inserted_at 1 (cond b 0 1) (0 ∷ []))))
     ≡ plane_pairs (cond b (exchanged s) s)
 unfolding arranged inserted_at matrix tabulate plane_pairs
-in_order s true = ap (λ (t : Bool). ask 4 t (answered (shown_by (exchanged s)))) (and_comm (finite s.app) (finite s.aqq))
+in_order s true = ap (λ (t : Bool). ask question.FiniteEigenvalues t (Ok (shown_by (exchanged s)))) (and_comm (finite s.app) (finite s.aqq))
 in_order s false = refl
 
 pub plane_pairs_lem : (s : Plane) → pairs_of 2 (plane_state s) ≡ plane_pairs (descended s)
@@ -82,17 +84,3 @@ four-list (a ∷ b ∷ []) e = absurd (omega arith)
 four-list (a ∷ b ∷ c ∷ []) e = absurd (omega arith)
 four-list (a ∷ b ∷ c ∷ d ∷ []) e = refl
 four-list (a ∷ b ∷ c ∷ d ∷ f ∷ l) e = absurd (omega arith)
-
-pub two-stored : (l : List Float) (x y : Float) → length l ≡ 2 → set (set l 0 x) 1 y ≡ x ∷ y ∷ []
-two-stored [] x y e = absurd (omega arith)
-two-stored (a ∷ []) x y e = absurd (omega arith)
-two-stored (a ∷ b ∷ []) x y e = refl
-two-stored (a ∷ b ∷ c ∷ l) x y e = absurd (omega arith)
-
-pub four-stored : (l : List Float) (x y z w : Float) → length l ≡ 4 → set (set (set (set l 0 x) 1 y) 2 z) 3 w ≡ x ∷ y ∷ z ∷ w ∷ []
-four-stored [] x y z w e = absurd (omega arith)
-four-stored (a ∷ []) x y z w e = absurd (omega arith)
-four-stored (a ∷ b ∷ []) x y z w e = absurd (omega arith)
-four-stored (a ∷ b ∷ c ∷ []) x y z w e = absurd (omega arith)
-four-stored (a ∷ b ∷ c ∷ d ∷ []) x y z w e = refl
-four-stored (a ∷ b ∷ c ∷ d ∷ f ∷ l) x y z w e = absurd (omega arith)

@@ -10,13 +10,12 @@ use mathlib.Core.Path.{◌≡◌, refl, sym, ap, ◌∙◌}
 use borrow.Author.Tests.{eq-eqb, ne_eqb, lt-ltb, le-ltb}
 use lib.Ieee as Ieee
 use lib.Ieee.{Float, lt, of_bits}
-use Rattle.kernel.specs.Answer.{answered}
 use Rattle.kernel.specs.Constants.{nought, half, rel_tol, min_positive}
 use Rattle.kernel.specs.First.{first_below}
 use Rattle.kernel.specs.Lists.{tabulate}
 use Rattle.kernel.specs.Number.{add, mul, max, abs}
 use Rattle.dense.specs.Matrix.{sum_from, nth, at, matrix, unit_entry, identity, finite_entries}
-use Rattle.dense.proofs.Laws.{cell, nth-tabulate, at-matrix, matrix_ext, matrix-by-entries}
+use Rattle.dense.proofs.Laws.{cell, nth-tabulate, at-matrix, matrix_ext, matrix_by_entries}
 use Rattle.kernel.proofs.Lists.{length-tabulate, tabulate_ext}
 use Rattle.eigen.specs.Eigen.{symmetrized_entry, begun, above_rows, tolerance, stops, swept_row, swept_rows, after_sweeps, sweeps, swept}
 use Rattle.eigen.specs.Eigen.{index_at, spot, order, diagonal, arranged, pairs_of, eigenpairs}
@@ -25,6 +24,7 @@ use Rattle.eigen.proofs.Answered.{eigenpairs-final}
 use Rattle.eigen.proofs.Ordering.Sorting.{order-suc}
 use Rattle.eigen.specs.Private.{Below}
 use Rattle.eigen.specs.Rotation.{State, state, negligible, rotated}
+use Rattle.std.specs.Prelude.{Ok}
 
 -- ---- a test that never holds
 
@@ -79,7 +79,7 @@ nth-zeros : (n k : ℕ) → k < n * n → nth (zeros n) k ≡ nought
 nth-zeros n k h = ap (λ (l : List Float). nth l k) (sym flat) ∙ nth-tabulate (n * n) (λ x. nought) k h
   where
     flat : tabulate (n * n) (λ x. nought) ≡ zeros n
-    flat = matrix-by-entries n n (λ i j. nought) _ (length-tabulate (n * n) _) (λ i j p q. nth-tabulate (n * n) (λ x. nought) (i * n + j) (cell n n p q))
+    flat = matrix_by_entries n n (λ i j. nought) _ (length-tabulate (n * n) _) (λ i j p q. nth-tabulate (n * n) (λ x. nought) (i * n + j) (cell n n p q))
 
 zero-tolerance : (n : ℕ) → tolerance (zeros n) n ≡ nought
 unfolding tolerance
@@ -181,9 +181,9 @@ module _ (n : ℕ) where
       ∙ ap (λ (m : List Float). record { values = tabulate n (λ k. nought); vectors = m })
       (matrix_ext n n _ unit_entry (λ i k h b. ap (λ (j : ℕ). at (identity n) n i j) (ordered k b) ∙ at-matrix n n unit_entry i k h b))
 
-  zero-pairs : pairs_of n (state (zeros n) (identity n)) ≡ answered (record { values = tabulate n (λ k. nought); vectors = identity n })
+  zero-pairs : pairs_of n (state (zeros n) (identity n)) ≡ Ok (record { values = tabulate n (λ k. nought); vectors = identity n })
   unfolding pairs_of
-  zero-pairs = rw (finite_to n (omega arith)) (ap answered zero-arranged)
+  zero-pairs = rw (finite_to n (omega arith)) (ap Ok zero-arranged)
 
-  pub zero-eigenpairs : eigenpairs (zeros n) n ≡ answered (record { values = tabulate n (λ k. nought); vectors = identity n })
+  pub zero-eigenpairs : eigenpairs (zeros n) n ≡ Ok (record { values = tabulate n (λ k. nought); vectors = identity n })
   zero-eigenpairs = eigenpairs-final (zeros n) n ∙ ap (λ (s : State). pairs_of n (swept n (tolerance s.entries n) s)) (zero-begun n) ∙ ap (pairs_of n) (zero-swept n (identity n)) ∙ zero-pairs

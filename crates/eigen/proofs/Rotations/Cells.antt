@@ -11,7 +11,7 @@ use lib.Ieee.{Float, nan}
 use lib.ListN.{length, set, length-set}
 use lib.Seq.{get_or-set_same}
 use Rattle.dense.specs.Matrix.{at, matrix}
-use Rattle.dense.proofs.Laws.{cell, length-matrix, at-matrix, matrix-by-entries}
+use Rattle.dense.proofs.Laws.{cell, matrix_by_entries}
 use Rattle.dense.proofs.Matrices.{at_set_other}
 
 -- m is n by n, with the entries of f
@@ -26,10 +26,7 @@ pub cells_ext : {n : ℕ} {f g : ℕ → ℕ → Float} {m : List Float} → ((i
 cells_ext e c = record { size = c.size; entry = λ i j h k. c.entry i j h k ∙ e i j h k }
 
 pub cells_matrix : {n : ℕ} {f : ℕ → ℕ → Float} {m : List Float} → Cells n f m → m ≡ matrix n n f
-cells_matrix {n} {f} {m} c = matrix-by-entries n n f m c.size c.entry
-
-pub matrix_cells : (n : ℕ) (f : ℕ → ℕ → Float) → Cells n f (matrix n n f)
-matrix_cells n f = record { size = length-matrix n n f; entry = at-matrix n n f }
+cells_matrix {n} {f} {m} c = matrix_by_entries n n f m c.size c.entry
 
 -- the entries of f, but v at (a, b)
 abbrev pub put : (ℕ → ℕ → Float) → ℕ → ℕ → Float → ℕ → ℕ → Float

@@ -25,13 +25,10 @@ abbrev pub turned_to : Rotation → ℕ → ℕ → ℕ → List Float → ℕ �
 turned_to g n p q m j i k = cond (ltb k j) (row_entry g n p q m i k) (at m n i k)
 
 -- column j, as it is read, is still the old one
-pub turn-next : (g : Rotation) (n p q : ℕ) (m : List Float) (j i : ℕ) {l : List Float} → i < n → j < n → Cells n (turned_to g n p q m j) l → at l n i j ≡ at m n i j
-turn-next g n p q m j i h k c = c.entry i j h k ∙ rw (le-ltb j j (omega arith))
+pub turn_next : (g : Rotation) (n p q : ℕ) (m : List Float) (j i : ℕ) {l : List Float} → i < n → j < n → Cells n (turned_to g n p q m j) l → at l n i j ≡ at m n i j
+turn_next g n p q m j i h k c = c.entry i j h k ∙ rw (le-ltb j j (omega arith))
 
 module _ (g : Rotation) (n p q : ℕ) (m : List Float) (pq : p < q) (qn : q < n) where
-  pub turn-none : length m ≡ n * n → Cells n (turned_to g n p q m 0) m
-  turn-none e = cells_ext (λ i k h l. rw (le-ltb k 0 (omega arith))) (cells_own n m e)
-
   pub turn_more : (j : ℕ) {x y : Float} {l : List Float} → j < n → x ≡ at m n p j → y ≡ at m n q j → Cells n (turned_to g n p q m j) l
       → Cells n (turned_to g n p q m (j + 1)) (set (set l (p * n + j) (sub (mul g.cosine x) (mul g.sine y))) (q * n + j) (add (mul g.sine x) (mul g.cosine y)))
   unfolding turned
@@ -88,12 +85,9 @@ abbrev pub mirrored_to : ℕ → ℕ → List Float → ℕ → ℕ → ℕ → 
 mirrored_to n p m r i j = cond (ltb i r) (cond (eqb j p) (at m n p i) (at m n i j)) (at m n i j)
 
 module _ (n p : ℕ) (m : List Float) (pn : p < n) where
-  pub mirror-none : length m ≡ n * n → Cells n (mirrored_to n p m 0) m
-  mirror-none e = cells_ext (λ i j h l. rw (le-ltb i 0 (omega arith))) (cells_own n m e)
-
   -- row p, as it is read, is still the old one
-  pub mirror-next : (r : ℕ) {l : List Float} → r < n → Cells n (mirrored_to n p m r) l → at l n p r ≡ at m n p r
-  mirror-next r {l} h c = c.entry p r pn h ∙ go (ℕ_discrete r p)
+  pub mirror_next : (r : ℕ) {l : List Float} → r < n → Cells n (mirrored_to n p m r) l → at l n p r ≡ at m n p r
+  mirror_next r {l} h c = c.entry p r pn h ∙ go (ℕ_discrete r p)
     where
       go : Dec (r ≡ p) → mirrored_to n p m r p r ≡ at m n p r
       go (yes s) = rw (le-ltb p r (omega arith))

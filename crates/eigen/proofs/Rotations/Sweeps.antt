@@ -1,19 +1,17 @@
 -- Laws of the sums above the diagonal, of one pair, row or sweep more, and of the sweep at which the test stops. `row-symmetric` and `rows-symmetric`: the states of a
 -- matrix that is symmetric bit by bit are, so that the slices stay what a sweep asks for (`slices_rotated`, `slices_row`, `slices_swept`). `Sweeping` is what a loop
--- of sweeps holds: `first-sweep`, `next-sweep`, and `stops_now` and `stops_never` where it ends.
+-- of sweeps holds: `first_sweep`, `next_sweep`, and `stops_now` and `stops_never` where it ends.
 use Prim.Native.Nat.{ℕ, zero, suc, ◌+◌, ◌-◌, ◌<◌, ◌≤◌}
 use native.Mathlib.Omega.{arith}
 use native.Mathlib.Numerals.{add-one}
-use native.Mathlib.Nat.{le_antisymm}
-use mathlib.Core.Bool.{true, false}
+use mathlib.Core.Bool.{Bool, true, false}
 use mathlib.Core.List.{List}
 use mathlib.Core.Path.{◌≡◌, refl, sym, ap, ◌∙◌, subst}
-use lib.Ieee.{Float}
+use lib.Ieee.{Float, lt}
 use lib.ListN.{length}
-use Rattle.kernel.specs.Number.{add, mul}
+use Rattle.kernel.specs.Number.{mul}
 use Rattle.kernel.proofs.First.{Standing, stands-first, stands-next, stopped, unstopped}
 use Rattle.dense.specs.Matrix.{sum_from, at}
-use Rattle.dense.proofs.Laws.{sum_more}
 use Rattle.eigen.specs.Rotation.{State, rotated, Symmetric}
 use Rattle.eigen.specs.Private.{Slices, state_of}
 use Rattle.eigen.specs.Eigen.{above_rows, stops, swept_row, swept_rows, sweep, after_sweeps, sweeps, swept}
@@ -25,33 +23,15 @@ use Rattle.eigen.proofs.Rotations.ByRows.{rotated-symmetric}
 abbrev pub square : List Float → ℕ → ℕ → ℕ → Float
 square m n i j = mul (at m n i j) (at m n i j)
 
-pub above-none : (x : Float) (m : List Float) (n i : ℕ) → x ≡ sum_from x (i + 1 - suc i) (λ d. square m n i (suc i + d))
-unfolding sum_from
-above-none x m n i = ap (λ (k : ℕ). sum_from x k (λ d. square m n i (suc i + d))) (let e : 0 ≡ i + 1 - suc i = omega arith in e)
-
-pub above_end : (x : Float) (m : List Float) (n i : ℕ) {j : ℕ} {s : Float} → j ≤ n → n ≤ j → s ≡ sum_from x (j - suc i) (λ d. square m n i (suc i + d))
-    → s ≡ sum_from x (n - suc i) (λ d. square m n i (suc i + d))
-above_end x m n i h k p = p ∙ ap (λ (l : ℕ). sum_from x (l - suc i) (λ d. square m n i (suc i + d))) (le_antisymm h k)
-
-pub above_term : (x : Float) (m : List Float) (n i j : ℕ) {s y : Float} → i < j → s ≡ sum_from x (j - suc i) (λ d. square m n i (suc i + d)) → y ≡ at m n i j
-    → add s (mul y y) ≡ sum_from x (j + 1 - suc i) (λ d. square m n i (suc i + d))
-above_term x m n i j {s} {y} h p e = sum_more x (λ d. square m n i (suc i + d)) (j - suc i) p (rw e (ap (square m n i) column)) ∙ ap (λ (k : ℕ). sum_from x k (λ d. square m n i (suc i + d))) count
-  where
-    column : j ≡ suc i + (j - suc i)
-    column = omega arith
-
-    count : j - suc i + 1 ≡ j + 1 - suc i
-    count = omega arith
-
 pub above_more : (m : List Float) (n i : ℕ) {s r : Float} → s ≡ above_rows m n i → r ≡ sum_from s (n - suc i) (λ d. square m n i (suc i + d)) → r ≡ above_rows m n (i + 1)
 unfolding above_rows
 above_more m n i p e = e ∙ rw (add-one, p)
 
 -- ---- pairs
 
-pub row-none : (n p : ℕ) (s : State) → s ≡ swept_row n p s (p + 1 - suc p)
+pub row_none : (n p : ℕ) (s : State) → s ≡ swept_row n p s (p + 1 - suc p)
 unfolding swept_row
-row-none n p s = ap (swept_row n p s) (let e : 0 ≡ p + 1 - suc p = omega arith in e)
+row_none n p s = ap (swept_row n p s) (let e : 0 ≡ p + 1 - suc p = omega arith in e)
 
 pub row_more : (n p q : ℕ) (s : State) {t u : State} → p < q → t ≡ swept_row n p s (q - suc p) → u ≡ rotated n p q t → u ≡ swept_row n p s (q + 1 - suc p)
 unfolding swept_row
@@ -115,19 +95,24 @@ pub record RowsSwept (n : ℕ) (s : State) (p : ℕ) (m v : List Float) : Type 0
 
 -- ---- sweeps until the test stops them
 
+-- what the code's test says of the state that m and v hold
+pub stops_by : (n : ℕ) (tol : Float) (m v : List Float) {x : Float} {b : Bool} → x ≡ above_rows m n n → lt x tol ≡ b → stops n tol (state_of n m v) ≡ b
+unfolding stops
+stops_by n tol m v e t = sym (ap (λ (y : Float). lt y tol) e) ∙ t
+
 -- before sweep k from s no state has met the test, and t is the state
 pub record Sweeping (n : ℕ) (tol : Float) (s : State) (k : ℕ) (t : State) : Type 0 where
   pub at : Standing (after_sweeps n s) (stops n tol) 64 k t
 
 module _ {n : ℕ} {tol : Float} {s : State} where
-  pub first-sweep : Sweeping n tol s 0 s
+  pub first_sweep : Sweeping n tol s 0 s
   unfolding after_sweeps
-  first-sweep = record { at = stands-first refl }
+  first_sweep = record { at = stands-first refl }
 
   module _ {k : ℕ} {t : State} (b : Sweeping n tol s k t) where
-    pub next-sweep : {u : State} → k < 64 → stops n tol t ≡ false → u ≡ sweep n t → Sweeping n tol s (k + 1) u
+    pub next_sweep : {u : State} → k < 64 → stops n tol t ≡ false → u ≡ sweep n t → Sweeping n tol s (k + 1) u
     unfolding after_sweeps
-    next-sweep h e f = record { at = stands-next b.at h e (f ∙ rw (add-one, b.at.reached)) }
+    next_sweep h e f = record { at = stands-next b.at h e (f ∙ rw (add-one, b.at.reached)) }
 
     pub stops_now : k < 64 → stops n tol t ≡ true → t ≡ swept n tol s
     unfolding swept sweeps

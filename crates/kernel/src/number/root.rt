@@ -52,8 +52,8 @@ fn by_digits(w: u64) -> u64
     let mut root = 0;
     let mut rest = w;
     let mut t = LEAD;
-    let mut k: u64 = 52;
-    while 0 < k {
+    // Steps: a digit a turn.
+    for turn in 0..52u64 {
         let step = 2 * root + t;
         if step <= rest {
             rest = 2 * (rest - step);
@@ -62,7 +62,6 @@ fn by_digits(w: u64) -> u64
             rest = 2 * rest;
         }
         t = t / 2;
-        k = k - 1;
     }
     if rest <= root {
         return root;
@@ -89,6 +88,7 @@ fn subnormal_pattern(b: u64) -> u64
 {
     let mut m = b;
     let mut shift = 0u64;
+    // Doublings are counted here, and no index.
     while m < LEAD {
         m = 2 * m;
         shift = shift + 1;

@@ -1,5 +1,5 @@
 -- Rows that are written one after the other: `appended_more` joins two runs of rows, `appended_length` says that the buffer keeps its length. `Growing` is what a loop that writes them
--- has done before turn k: `no_turn` begins it, `tabulated_turn` and `selected-turn` are its turns, `every_turn` ends it. `verdict-put`: a verdict beside its row's indices.
+-- has done before turn k: `no_turn` begins it, `tabulated_turn` and `selected_turn` are its turns, `every_turn` ends it. `verdict_put`: a verdict beside its row's indices.
 -- `verdict_there`: a verdict looks only at records that are there.
 use Prim.Native.Nat.{ℕ, suc, ◌+◌, ◌*◌, ◌<◌, ◌≤◌}
 use native.Mathlib.Nat.{add-zero, le_antisymm}
@@ -60,10 +60,10 @@ appended_if a b w {at} {r} {old} {new} e p = subst (λ (x : Bool). Appended (onl
 next_element : (l : List ℕ) (a b : ℕ) → b ≡ suc a → a < length l → drop a l ≡ get_or l a 0 ∷ drop b l
 next_element l a b e h = drop-cons l a 0 h ∙ ap (λ (n : ℕ). get_or l a 0 ∷ drop n l) (sym e)
 
-pub verdict-put : (l : List ℕ) (a : ℕ) {i j k u v : ℕ} → get_or l a 0 ≡ i → get_or l (a + 1) 0 ≡ j → get_or l (a + 2) 0 ≡ k → u ≡ v → a + 4 ≤ length l
+pub verdict_put : (l : List ℕ) (a : ℕ) {i j k u v : ℕ} → get_or l a 0 ≡ i → get_or l (a + 1) 0 ≡ j → get_or l (a + 2) 0 ≡ k → u ≡ v → a + 4 ≤ length l
     → set l (a + 3) u ≡ over l a (i ∷ j ∷ k ∷ v ∷ [])
 unfolding over
-verdict-put l a {u = u} p q r e h =
+verdict_put l a {u = u} p q r e h =
     let x = next_element l a (a + 1) (omega arith) (omega arith) in
     let y = next_element l (a + 1) (a + 2) (omega arith) (omega arith) in
     let z = next_element l (a + 2) (a + 3) (omega arith) (omega arith) in
@@ -115,12 +115,12 @@ module _ (test : ℕ → Bool) (f : ℕ → Row) where
   selected-length n a h = appended_length a (omega (arith, selected-few n test f))
 
   -- there is room for one more
-  pub selected-room : {n at k r : ℕ} {old new : List ℕ} → Growing (λ i. selected i test f) n at old k r new → k < n → RowsRoom n at old → (r ≤ 96) × (4 * r + 4 ≤ length new)
-  selected-room {k = k} w h room = let few = selected-few k test f in (omega (arith, w.rows.next), omega (arith, w.rows.next))
+  pub selected_room : {n at k r : ℕ} {old new : List ℕ} → Growing (λ i. selected i test f) n at old k r new → k < n → RowsRoom n at old → (r ≤ 96) × (4 * r + 4 ≤ length new)
+  selected_room {k = k} w h room = let few = selected-few k test f in (omega (arith, w.rows.next), omega (arith, w.rows.next))
 
-  pub selected-turn : {n at k r x : ℕ} {old new newer : List ℕ} → Growing (λ i. selected i test f) n at old k r new → k < n → RowsRoom n at old → Appended (only_if (test k) (f k)) r new x newer
+  pub selected_turn : {n at k r x : ℕ} {old new newer : List ℕ} → Growing (λ i. selected i test f) n at old k r new → k < n → RowsRoom n at old → Appended (only_if (test k) (f k)) r new x newer
       → Growing (λ i. selected i test f) n at old (k + 1) x newer
-  selected-turn {k = k} w h room b =
+  selected_turn {k = k} w h room b =
       let next = appended_same (selected_more k) (appended_more (selected k test f) (only_if (test k) (f k)) w.rows (omega (arith, selected-few k test f)) b) in
       record { turns = omega arith; long = selected-length (k + 1) next (omega arith); rows = next }
 

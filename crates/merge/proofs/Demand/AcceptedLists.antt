@@ -9,7 +9,6 @@ use lib.Dec.{T, eqb}
 use lib.Ieee.{Float}
 use lib.ListN.{length}
 use borrow.Author.Tests.{leb-true}
-use Rattle.kernel.specs.Answer.{answered}
 use Rattle.kernel.specs.Lists.{over}
 use Rattle.kernel.proofs.Lists.{length_over}
 use Rattle.tracks.specs.Read.{TrackList, contents, count}
@@ -35,6 +34,7 @@ use Rattle.merge.proofs.Demand.Order.{in_order}
 use Rattle.merge.proofs.Demand.Shown.{shows-base_ours, shows-base_theirs, shows-ours_theirs}
 use Rattle.merge.proofs.Buffers.Totals.{rows_with_lem, counted, all_rows, all_tracks, rows_few}
 use Rattle.merge.proofs.Matching.Meaning.{near_pairs, nearest-first, equal-fields, only-unblocked}
+use Rattle.std.specs.Prelude.{Ok}
 
 module _ (lists : ThreeLists) (floor gate : Float) where
   abbrev b : TrackList
@@ -196,7 +196,7 @@ module _ (lists : ThreeLists) (floor gate : Float) where
         kept : length new ≡ length old
         kept = length_over old 0 (flat_map row_bytes rows) (omega (arith, written, fits))
 
-    pub demand : (base ours theirs : List ℕ) → contents base ≡ answered b → contents ours ≡ answered o → contents theirs ≡ answered t → room_for lists (length old) ≡ true
+    pub demand : (base ours theirs : List ℕ) → contents base ≡ Ok b → contents ours ≡ Ok o → contents theirs ≡ Ok t → room_for lists (length old) ≡ true
         → Demand3 base ours theirs floor gate old new (counts_of rows)
     demand base ours theirs read-b read-o read-t room = record {
       lists = lists;

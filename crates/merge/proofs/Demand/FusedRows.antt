@@ -5,7 +5,6 @@ use mathlib.Core.Path.{◌≡◌, sym, ap, subst, ◌∙◌}
 use mathlib.Core.List.{List}
 use lib.Ieee.{Float}
 use lib.ListN.{length}
-use Rattle.kernel.specs.Answer.{answered}
 use Rattle.tracks.specs.Read.{TrackList, contents}
 use Rattle.merge.specs.Tracks.{ThreeLists, track_count}
 use Rattle.merge.specs.Rows.{Row}
@@ -17,8 +16,9 @@ use Rattle.merge.specs.Private.{held_in, held, held_three}
 use Rattle.merge.specs.declared.Counts.{Counts}
 use Rattle.merge.proofs.FusedVerdicts.{fused-verdict}
 use Rattle.merge.proofs.Demand.AcceptedLists.{rows_are, counts_all}
+use Rattle.std.specs.Prelude.{Ok}
 
-held_is : (l : List ℕ) {c : TrackList} → contents l ≡ answered c → c ≡ held l
+held_is : (l : List ℕ) {c : TrackList} → contents l ≡ Ok c → c ≡ held l
 held_is l e = sym (ap held_in e)
 
 module _ (base ours theirs : List ℕ) {floor gate : Float} {old new : List ℕ} {counts : Counts} (d : Demand3 base ours theirs floor gate old new counts) where

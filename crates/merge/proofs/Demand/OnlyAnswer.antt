@@ -20,13 +20,13 @@ use Rattle.merge.specs.Merge.{merging, after_merge}
 use Rattle.merge.specs.Buffer.{verdict_in, tracks_in, how_many, base_with_ours, base_with_theirs, ours_with_theirs}
 use Rattle.merge.specs.Demand3.{OnlyUnblocked, MergeRows, Demand3}
 use Rattle.merge.specs.declared.Counts.{Counts}
-use Rattle.merge.specs.declared.Merged.{Merged}
-use Rattle.merge.specs.declared.Merged.TheVariants as merged
+use Rattle.kernel.specs.Answer.{Outcome}
 use Rattle.merge.proofs.Readings.Tracks.{few-tracks}
 use Rattle.merge.proofs.Matching.Candidates.{candidates-ordered, among-ordered}
 use Rattle.merge.proofs.Demand.Sequences.{StandsIn, same_place, no_longer}
 use Rattle.merge.proofs.Demand.Listings.{Listing, SameRow, matched}
 use Rattle.merge.proofs.Demand.Listed.{code, same_code, FewTracks, listing, codes_rise}
+use Rattle.std.specs.Prelude.{Ok}
 use Rattle.merge.proofs.Demand.EveryAnswer.{demand_3}
 
 -- there is one such set of pairs
@@ -175,11 +175,11 @@ module _ {base ours theirs : List ℕ} {floor gate : Float} {old new new' : List
       let single = c.single-rows ∙ same_number 1 ∙ sym c'.single-rows in
       λ x. record { full = full x; half = half x; single = single x }
 
-  pub only-answer : ◌≡◌ {A = Merged × List ℕ} (merged.Counts counts, new) (merged.Counts counts', new')
-  only-answer = λ x. (merged.Counts (same_counts x), same_bytes x)
+  pub only-answer : ◌≡◌ {A = Outcome Counts × List ℕ} (Ok counts, new) (Ok counts', new')
+  only-answer = λ x. (Ok (same_counts x), same_bytes x)
 
 -- What meets demand 3 is what an answered merge answers.
 pub demand_3_decides : (base ours theirs : List ℕ) (floor gate : Float) (old : List ℕ) {new new' : List ℕ} {counts counts' : Counts}
-    → after_merge (merging base ours theirs floor gate (length old)) old ≡ (merged.Counts counts, new) → Demand3 base ours theirs floor gate old new' counts'
-    → (merged.Counts counts', new') ≡ after_merge (merging base ours theirs floor gate (length old)) old
+    → after_merge (merging base ours theirs floor gate (length old)) old ≡ (Ok counts, new) → Demand3 base ours theirs floor gate old new' counts'
+    → (Ok counts', new') ≡ after_merge (merging base ours theirs floor gate (length old)) old
 demand_3_decides base ours theirs floor gate old a e = only-answer e (demand_3 base ours theirs floor gate old a) ∙ sym a

@@ -7,7 +7,7 @@ use mathlib.Core.List.{List}
 use lib.Dec.{T, ltb, ltb→lt}
 use lib.Ieee.{Float, nan, inf, fin, is_nan, lt, le}
 use borrow.Author.Tests.{ltb-true}
-use Rattle.kernel.specs.Answer.{Outcome, refused, answered}
+use Rattle.kernel.specs.Answer.{Outcome}
 use Rattle.kernel.specs.Constants.{nought}
 use Rattle.dense.specs.Matrix.{matrix}
 use Rattle.dense.proofs.Laws.{at-matrix}
@@ -23,6 +23,7 @@ use Rattle.merge.specs.Tracks.{track_count}
 use Rattle.merge.specs.Candidates.{comparison, Candidacy, candidacy_of, candidacy, is_candidate, rank, by_rank, candidates_of, among}
 use Rattle.merge.specs.Rows.{Partners}
 use Rattle.merge.specs.Merge.{partners_in}
+use Rattle.std.specs.Prelude.{Ok, Err}
 
 -- no track is left out
 abbrev everyone : ℕ → Bool
@@ -43,10 +44,10 @@ by_keys a b floor gate first second =
 
 gated_number : (o : Outcome Float) (gate : Float) → is_nan (rank (candidacy_of (comparison_of o gate))) ≡ not (is_candidate (candidacy_of (comparison_of o gate)))
 unfolding is_nan by_gate
-gated_number (refused q) gate = refl
-gated_number (answered nan) gate = refl
-gated_number (answered (inf s)) gate = refl
-gated_number (answered (fin s m e)) gate = go (not (lt (fin s m e) nought)) (le (fin s m e) gate)
+gated_number (Err q) gate = refl
+gated_number (Ok nan) gate = refl
+gated_number (Ok (inf s)) gate = refl
+gated_number (Ok (fin s m e)) gate = go (not (lt (fin s m e) nought)) (le (fin s m e) gate)
   where
     gated : Bool → Bool → Candidacy
     gated b c = candidacy_of (cond b (cond c (Near (fin s m e)) (Far (fin s m e))) NoDistance)

@@ -31,10 +31,10 @@ side_met {t} h = rw (le-leb 1 t.d h.some, le-leb t.d 16 (omega (arith, h.few)))
 
 module _ (t : Terms) (h : Compares t) where
   -- the state of a track lies among its fields
-  pub length-state : (v : List Float) → length v ≡ t.f → length (track_state t.d v) ≡ t.d
+  pub length-state : (v : List Float) → length v ≡ fields t.d → length (track_state t.d v) ≡ t.d
   unfolding fields
-  length-state v e = length-take-le t.d v (omega (arith, h.number))
+  length-state v e = length-take-le t.d v (omega arith)
 
   -- there is room for the covariance of a track
-  pub covariance-room : (v out : List Float) → length v ≡ t.f → length out ≡ t.d * t.d → CovarianceRoom t.d v out
-  covariance-room v out e f = record { track = record { few = omega (arith, h.few); enough = omega (arith, h.number) }; room = f }
+  pub covariance-room : (v out : List Float) → length v ≡ fields t.d → length out ≡ t.d * t.d → CovarianceRoom t.d v out
+  covariance-room v out e f = record { track = record { few = omega (arith, h.few); enough = omega arith }; room = f }

@@ -1,5 +1,5 @@
 -- The pairings by values: `all_paired` puts them together from three pairings of two lists each, and `paired_values_lem` says that they are those of the lists, where the values hold
--- the fields of the lists' tracks (`Holds`). `tables-front`: partners that stand in front of two tables.
+-- the fields of the lists' tracks (`Holds`). `tables_front`: partners that stand in front of two tables.
 use Prim.Native.Nat.{ℕ, ◌<◌, ◌≤◌}
 use native.Mathlib.Omega.{arith}
 use mathlib.Core.Path.{◌≡◌, refl, sym, ap, ◌∙◌}
@@ -13,16 +13,16 @@ use lib.Seq.{length-take-le, get_or-take, take_at}
 use Rattle.kernel.proofs.Lists.{length-tabulate, get_d_tabulate}
 use Rattle.dense.specs.Matrix.{row_of}
 use Rattle.dense.proofs.Laws.{matrix_ext}
+use Rattle.tracks.specs.Layout.{fields}
 use Rattle.tracks.specs.Read.{TrackList}
 use Rattle.tracks.specs.Calls.{doubles}
 use Rattle.pairing.specs.Pairing.{Candidates}
 use Rattle.pairing.specs.Keys.{nobody, from_keys, first_partners, second_partners, is_free}
-use Rattle.pairing.specs.Private.{nobodies}
 use Rattle.merge.specs.Tracks.{ThreeLists, track_count, track_at}
 use Rattle.merge.specs.Candidates.{comparison, candidacy, candidates_of, among}
 use Rattle.merge.specs.Rows.{Partners}
 use Rattle.merge.specs.Merge.{partners_in, pairings_of}
-use Rattle.merge.specs.Private.{SizesOf, keys_between, partners_of, partners_between, pairings_in, paired_values}
+use Rattle.merge.specs.Private.{SizesOf, nobodies, keys_between, partners_of, partners_between, pairings_in, paired_values}
 use Rattle.merge.specs.declared.keys.Terms.{Terms}
 use Rattle.merge.specs.declared.questions.Sizes.{Sizes}
 use Rattle.merge.specs.declared.pairings.Partners as TableOf
@@ -36,7 +36,7 @@ nobody_free : (n i : ℕ) → i < n → is_free (nobodies n) i ≡ true
 unfolding nobodies
 nobody_free n i h = eq-eqb _ nobody (get_d_tabulate n (λ k. nobody) 0 i h)
 
-module _ (a b : TrackList) (terms : Terms) (us vs : List Float) (e : terms.d ≡ a.dimension) (hu : Holds a us terms.f) (hv : Holds b vs terms.f) where
+module _ (a b : TrackList) (terms : Terms) (us vs : List Float) (e : terms.d ≡ a.dimension) (hu : Holds a us (fields terms.d)) (hv : Holds b vs (fields terms.d)) where
   -- the keys by values are those of the lists
   keys_between_lem : (p q : List ℕ) (first second : ℕ → Bool) → ((i : ℕ) → i < track_count a → is_free p i ≡ first i) → ((j : ℕ) → j < track_count b → is_free q j ≡ second j)
       → keys_between terms us p (track_count a) vs q (track_count b) ≡ keys_among a b terms.floor terms.gate first second
@@ -58,7 +58,7 @@ module _ (a b : TrackList) (terms : Terms) (us vs : List Float) (e : terms.d ≡
       ∙ sym (all_keyed_partners a b terms.floor terms.gate)
 
 module _ (lists : ThreeLists) (terms : Terms) (us vs ws : List Float) (e : terms.d ≡ lists.base.dimension) (g : terms.d ≡ lists.ours.dimension)
-    (hu : Holds lists.base us terms.f) (hv : Holds lists.ours vs terms.f) (hw : Holds lists.theirs ws terms.f) where
+    (hu : Holds lists.base us (fields terms.d)) (hv : Holds lists.ours vs (fields terms.d)) (hw : Holds lists.theirs ws (fields terms.d)) where
   abbrev sizes_with : ℕ → ℕ → ℕ → Sizes
   sizes_with m n l = record { base = m; ours = n; theirs = l; dimension = terms.d }
 
@@ -92,10 +92,10 @@ unfolding second_partners
 seconds-long g = length-tabulate g.seconds _
 
 -- partners in front of two tables
-pub tables-front : (g : Candidates) {a b : List ℕ} (x y : List ℕ) → a ≡ first_partners g → b ≡ second_partners g
+pub tables_front : (g : Candidates) {a b : List ℕ} (x y : List ℕ) → a ≡ first_partners g → b ≡ second_partners g
     → record { firsts = take g.firsts (a ++ x); seconds = take g.seconds (b ++ y) } ≡ partners_in g
 unfolding partners_in
-tables-front g x y e f =
+tables_front g x y e f =
     let p = ap (λ (l : List ℕ). take g.firsts (l ++ x)) e ∙ take_at (first_partners g) x g.firsts (firsts-long g) in
     let q = ap (λ (l : List ℕ). take g.seconds (l ++ y)) f ∙ take_at (second_partners g) y g.seconds (seconds-long g) in
     λ z. record { firsts = p z; seconds = q z }

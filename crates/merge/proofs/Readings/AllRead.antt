@@ -14,14 +14,14 @@ use Rattle.tracks.proofs.Reading.Accepted.{contents_met, dimension-small}
 use Rattle.merge.specs.Tracks.{ThreeLists, track_count}
 use Rattle.merge.specs.Rows.{rows_of}
 use Rattle.merge.specs.Merge.{pairings_of}
-use Rattle.merge.specs.Private.{held, held_three, AllLocated, SizesOf, terms_of, Values, ThreeValues, paired_values, Paired, rows_by}
+use Rattle.merge.specs.Private.{held, held_three, AllLocated, Read, AllRead, SizesOf, terms_of, Values, ThreeValues, paired_values, Paired, rows_by}
 use Rattle.merge.specs.declared.questions.Sizes.{Sizes}
 use Rattle.merge.specs.declared.verdict.Offsets.{Offsets}
 use Rattle.merge.specs.declared.pairings.Pairings as TablesOf
 use Rattle.merge.proofs.Buffers.LateVerdicts.{rows-front}
 use Rattle.merge.proofs.Readings.Located.{few-located}
 use Rattle.merge.proofs.Matching.Tables.{Holds, paired_values_lem}
-use Rattle.merge.proofs.Readings.ThreeAnswers.{values-few, Read, AllRead}
+use Rattle.merge.proofs.Readings.ThreeAnswers.{values-few}
 
 -- ---- one list
 
@@ -75,7 +75,7 @@ module _ {base ours theirs : List ℕ} {offsets : Offsets} {base-values ours-val
   module _ (floor gate : Float) where
     pub comparable : ThreeValues base-values ours-values theirs-values sizes floor gate
     comparable = record {
-      compares = record { some = dimension-some sizes.dimension dimension_of; few = dimension-small sizes.dimension dimension_of; number = refl };
+      compares = record { some = dimension-some sizes.dimension dimension_of; few = dimension-small sizes.dimension dimension_of };
       of_base = values_of a.of_base a.base-dimension refl;
       of_ours = values_of a.of_ours a.ours-dimension refl;
       of_theirs = values_of a.of_theirs a.theirs-dimension refl;

@@ -9,7 +9,6 @@ use lib.Dec.{eqb}
 use lib.Ieee.{Float}
 use lib.ListN.{length}
 use borrow.Author.Tests.{le-leb, lt-leb}
-use Rattle.kernel.specs.Answer.{refused, answered}
 use Rattle.compare.specs.Distance.{floor_and_gate}
 use Rattle.merge.specs.Tracks.{ThreeLists, track_count}
 use Rattle.merge.specs.Rows.{Row, rows_with, Pairings, rows_of}
@@ -17,11 +16,14 @@ use Rattle.merge.specs.Merge.{accepted_lists, merging, merged_rows, merged_lists
 use Rattle.merge.specs.Buffer.{tracks_in, how_many}
 use Rattle.merge.specs.Private.{Appended, counts_in}
 use Rattle.merge.specs.declared.Counts.{Counts}
-use Rattle.merge.specs.declared.Merged.{Merged}
+use Rattle.kernel.specs.Answer.{Outcome}
+use Rattle.kernel.specs.declared.question.Question.{Question}
 use Rattle.merge.proofs.Buffers.Bytes.{rows-length}
 use Rattle.merge.proofs.Buffers.Appending.{appended_length}
 use Rattle.merge.proofs.Buffers.Totals.{rows_with_lem}
 use Rattle.merge.proofs.Buffers.RowNumbers.{rows-room}
+use Rattle.std.specs.Prelude.{Ok, Err}
+use Rattle.kernel.specs.declared.question.Question.TheVariants as question
 
 -- ---- the answers
 
@@ -29,34 +31,34 @@ module _ (lists : ThreeLists) (floor gate : Float) (old : List ℕ) where
   abbrev all : ℕ
   all = track_count lists.base + track_count lists.ours + track_count lists.theirs
 
-  abbrev pub after : Merged × List ℕ
+  abbrev pub after : Outcome Counts × List ℕ
   after = after_merge (merged_lists floor gate (length old) lists) old
 
-  pub asked_18 : floor_and_gate floor gate ≡ false → ◌≡◌ {A = Merged × List ℕ} (Merged.Refused 18, old) after
+  pub asked_18 : floor_and_gate floor gate ≡ false → ◌≡◌ {A = Outcome Counts × List ℕ} (Err question.FloorAndGate, old) after
   unfolding merged_lists
   asked_18 e = rw e refl
 
   module _ (met_18 : floor_and_gate floor gate ≡ true) where
-    pub asked_19 : length old < 4 * all → ◌≡◌ {A = Merged × List ℕ} (Merged.Refused 19, old) after
+    pub asked_19 : length old < 4 * all → ◌≡◌ {A = Outcome Counts × List ℕ} (Err question.RowBuffer, old) after
     unfolding merged_lists
     asked_19 h = rw (met_18, lt-leb (4 * all) (length old) h) refl
 
     pub asked_rows : {counts : Counts} {new : List ℕ} → 4 * all ≤ length old → counts ≡ counts_of (merged_rows lists floor gate) → new ≡ rows_left (merged_rows lists floor gate) old
-        → ◌≡◌ {A = Merged × List ℕ} (Merged.Counts counts, new) after
+        → ◌≡◌ {A = Outcome Counts × List ℕ} (Ok counts, new) after
     unfolding merged_lists
-    asked_rows h e f = rw (met_18, le-leb (4 * all) (length old) h) (λ x. (Merged.Counts (e x), f x))
+    asked_rows h e f = rw (met_18, le-leb (4 * all) (length old) h) (λ x. (Ok (e x), f x))
 
 -- ---- after the lists
 
 module _ (base ours theirs : List ℕ) (floor gate : Float) (old : List ℕ) where
-  abbrev merged : Merged × List ℕ
+  abbrev merged : Outcome Counts × List ℕ
   merged = after_merge (merging base ours theirs floor gate (length old)) old
 
-  pub lists-refused : {q : ℕ} → accepted_lists base ours theirs ≡ refused q → ◌≡◌ {A = Merged × List ℕ} (Merged.Refused q, old) merged
+  pub lists-refused : {q : Question} → accepted_lists base ours theirs ≡ Err q → ◌≡◌ {A = Outcome Counts × List ℕ} (Err q, old) merged
   unfolding merging
   lists-refused e = rw e refl
 
-  pub lists-merged : {lists : ThreeLists} {x : Merged × List ℕ} → accepted_lists base ours theirs ≡ answered lists → x ≡ after lists floor gate old → x ≡ merged
+  pub lists-merged : {lists : ThreeLists} {x : Outcome Counts × List ℕ} → accepted_lists base ours theirs ≡ Ok lists → x ≡ after lists floor gate old → x ≡ merged
   unfolding merging
   lists-merged e h = rw e h
 

@@ -27,13 +27,12 @@ use Rattle.merge.specs.Buffer.{TrackOrNone, base_in, ours_in, theirs_in, verdict
 use Rattle.merge.specs.Merge.{pairings_of, rows_left}
 use Rattle.merge.specs.declared.questions.Sizes.{Sizes}
 use Rattle.merge.specs.declared.verdict.Offsets.{Offsets}
-use Rattle.merge.specs.Private.{held_three, RowsToFuse, Appended, rows_bytes, by_fusion, after_fusion, fusion_of, pass_at, passed_row, passed_rows, passed_values}
+use Rattle.merge.specs.Private.{held_three, AllRead, RowsToFuse, Appended, rows_bytes, by_fusion, after_fusion, fusion_of, pass_at, passed_row, passed_rows, passed_values}
 use Rattle.merge.proofs.FusedVerdicts.{no_base, passed_verdict, passed_track}
 use Rattle.merge.proofs.Matching.Tables.{Holds}
 use Rattle.merge.proofs.Matching.Covariances.{side_met}
 use Rattle.merge.proofs.Buffers.Places.{Shows, rows-count, Place, of_base, of_ours, of_theirs, laid}
 use Rattle.merge.proofs.Readings.Located.{few-located}
-use Rattle.merge.proofs.Readings.ThreeAnswers.{AllRead}
 use Rattle.merge.proofs.Readings.AllRead.{few_read, holds, located_of, sizes_of, comparable}
 use Rattle.merge.proofs.Demand.AcceptedLists.{indices_in_lem}
 use Rattle.merge.proofs.Buffers.LateVerdicts.{base_decided}

@@ -8,7 +8,6 @@ use lib.Ieee.{Float, binary64, of_bits}
 use lib.ListN.{length, get_or, take, drop, length-map, length-drop}
 use lib.Seq.{take-append-le, drop-append-le}
 use borrow.Author.Tests.{leb-true}
-use Rattle.kernel.specs.Answer.{answered}
 use Rattle.kernel.specs.Bytes.{Bytes, same_bytes}
 use Rattle.kernel.specs.Lists.{over}
 use Rattle.kernel.proofs.Lists.{get_d_tabulate, row_within}
@@ -25,11 +24,12 @@ use Rattle.tracks.proofs.Records.Parts.{equal_records}
 use Rattle.pairing.proofs.Tests.{alike, is_true}
 use Rattle.merge.specs.Tracks.{track_count, track_at, equal_tracks}
 use Rattle.merge.proofs.Matching.Meaning.{equal-fields}
+use Rattle.std.specs.Prelude.{Ok}
 
-pub few-tracks : (l : List ℕ) (c : TrackList) → contents l ≡ answered c → track_count c ≤ 32
+pub few-tracks : (l : List ℕ) (c : TrackList) → contents l ≡ Ok c → track_count c ≤ 32
 few-tracks l c e = leb-true (track_count c) 32 (contents_met l e).few
 
-module _ (l : List ℕ) (h : Bytes l) (c : TrackList) (ok : contents l ≡ answered c) where
+module _ (l : List ℕ) (h : Bytes l) (c : TrackList) (ok : contents l ≡ Ok c) where
   abbrev f : ℕ
   f = fields c.dimension
 
@@ -53,7 +53,7 @@ module _ (l : List ℕ) (h : Bytes l) (c : TrackList) (ok : contents l ≡ answe
       ∙ ap doubles (cut i lt)
 
 -- the bytes of two tracks are the same exactly if the tracks are equal
-pub records_compared : (l m : List ℕ) → Bytes l → Bytes m → (c d : TrackList) → contents l ≡ answered c → contents m ≡ answered d → c.dimension ≡ d.dimension
+pub records_compared : (l m : List ℕ) → Bytes l → Bytes m → (c d : TrackList) → contents l ≡ Ok c → contents m ≡ Ok d → c.dimension ≡ d.dimension
     → (j k : ℕ) → j < track_count c → k < track_count d → same_bytes (record_at l (offset l j)) (record_at m (offset m k)) ≡ equal_tracks c j d k
 records_compared l m hl hm c d p q same j k lj lk =
     let w = equal_records l m hl hm c d p q same j k lj lk in

@@ -12,17 +12,17 @@ use lib.ListN.{length, get_or, set, length-set}
 use lib.Seq.{get_or-set_same, get_or-set_other}
 use borrow.Author.Tests.{eq-eqb, ne_eqb}
 use Rattle.kernel.specs.Lists.{tabulate}
-use Rattle.kernel.proofs.Lists.{length-tabulate, get_d_tabulate, by_elements}
+use Rattle.kernel.proofs.Lists.{by_elements}
 use Rattle.pairing.specs.Pairing.{Pairs}
 use Rattle.pairing.specs.Keys.{nobody, partner}
 use Rattle.pairing.proofs.Partners.Filling.{Entered, count_free}
-use Rattle.pairing.specs.Private.{nobodies}
+use Rattle.std.proofs.lemmas.List.{get_or-replicate, length-replicate}
+use Rattle.std.specs.Prelude.{replicate}
 
 -- ---- one table and the other
 
-pub entered-none : (s : Pairs) (n : ℕ) (other : List ℕ) → Entered s (nobodies n) other
-unfolding nobodies
-entered-none s n other x l = inl (get_d_tabulate n (λ i. nobody) 0 x (omega (arith, length-tabulate n (λ i. nobody))))
+pub entered-none : (s : Pairs) (n : ℕ) (other : List ℕ) → Entered s (replicate n nobody) other
+entered-none s n other x l = inl (get_or-replicate n x nobody 0 (omega (arith, length-replicate n nobody)))
 
 module _ (s : Pairs) (table other : List ℕ) where
   pub entered_more : (i j : ℕ) → ((x y : ℕ) → T (s x y) → x < nobody) → i < length table → j < length other → T (s i j) → get_or other j 0 ≡ nobody

@@ -8,10 +8,10 @@ use mathlib.Core.List.{List}
 use lib.Dec.{T}
 use lib.ListN.{length, get_or, set, length-set}
 use lib.Ieee.{Float}
-use Rattle.kernel.proofs.Lists.{length-tabulate}
 use Rattle.pairing.specs.Pairing.{Pair, pair, has, In, Candidates, ShareTrack, paired}
 use Rattle.pairing.specs.Keys.{from_keys, nobody, first_partners, second_partners}
-use Rattle.pairing.specs.Private.{nobodies}
+use Rattle.std.specs.Prelude.{replicate}
+use Rattle.std.proofs.lemmas.List.{length-replicate}
 use Rattle.pairing.proofs.Tests.{either}
 use Rattle.pairing.proofs.Stability.Settled.{Preceded, Settled, settled}
 use Rattle.pairing.proofs.Stability.Stable.{asymmetric}
@@ -37,13 +37,12 @@ module _ (keys : List Float) (m n : ℕ) (hm : m ≤ 32) (hn : n ≤ 32) where
   same_first : (i k j : ℕ) → T (paired g i j) → T (paired g k j) → i ≡ k
   same_first i k j t u = ap (λ (p : Pair). p.first) (fact.pairing.apart (pair i j) (pair k j) t u (inr refl))
 
-  pub tables_start : Underway g (nobodies m) (nobodies n)
-  unfolding nobodies
+  pub tables_start : Underway g (replicate m nobody) (replicate n nobody)
   tables_start = record {
-    all_firsts = length-tabulate m (λ i. nobody);
-    all_seconds = length-tabulate n (λ i. nobody);
-    of_firsts = entered-none (paired g) m (nobodies n);
-    of_seconds = entered-none (λ j i. paired g i j) n (nobodies m);
+    all_firsts = length-replicate m nobody;
+    all_seconds = length-replicate n nobody;
+    of_firsts = entered-none (paired g) m (replicate n nobody);
+    of_seconds = entered-none (λ j i. paired g i j) n (replicate m nobody);
   }
 
   module _ (firsts seconds : List ℕ) (u : Underway g firsts seconds) where

@@ -42,8 +42,8 @@ on_right false e = refl
 module _ (y : Float) (no : (x : List Float) → is_refused (solved (y ∷ []) x 1 1) ≡ true) where
   refused-rounds : (sigma : Float) (x : List Float) → length x ≡ 1 → iterated_ratio (y ∷ []) 1 sigma (iterate x nought) ≡ infinity
   refused-rounds sigma x w =
-      let start : inverse.Before (y ∷ []) 1 (iterate x nought) 0 x nought x = inverse.begun w w in
-      sym (inverse.ends_failed start sigma (omega arith) (inverse.fails-refused start (ap not (no x))) refl)
+      let start : inverse.Before (y ∷ []) 1 (iterate x nought) 0 x nought = inverse.begun w in
+      sym (inverse.ends_failed start sigma (omega arith) (inverse.fails_refused start (no x)) refl)
 
   refused-from : (sigma : Float) (v : List Float) → ratio_from (y ∷ []) 1 sigma v ≡ infinity
   unfolding ratio_from
@@ -82,7 +82,7 @@ parallel_ratio g lambda = on_left (le lambda nought) (parallel_from g (sqrt lamb
 -- the eigenvalue is 0.0
 pub zero-ratio : (g v : List Float) → ratio_of g 1 (eigenpair v nought) ≡ infinity
 unfolding Ieee.le of_bits
-zero-ratio g v = sym (inverse.ratio-low g 1 nought v refl refl)
+zero-ratio g v = sym (inverse.ratio_low g 1 nought v refl refl)
 
 pub even_one : even_vector 1 ≡ one ∷ []
 unfolding even_vector of_bits Ieee.div
@@ -92,7 +92,7 @@ even_one = refl
 pub vanished_ratio : (g : List Float) → vanishes g 1 (one ∷ []) ≡ true → ratio_of g 1 (dominant g 1 max_rounds rel_tol) ≡ infinity
 unfolding dominant
 vanished_ratio g h =
-    let start : power.Before g 1 max_rounds rel_tol (one ∷ []) 0 (one ∷ []) (times g (one ∷ []) 1 1) = power.begun refl refl in
+    let start : power.Before g 1 max_rounds rel_tol (one ∷ []) 0 (one ∷ []) (times g (one ∷ []) 1 1) = power.begun refl refl refl in
     ap (λ (v : List Float). ratio_of g 1 (iterated g 1 max_rounds rel_tol v)) even_one
     ∙ ap (ratio_of g 1) (sym (power.ends_vanished start (omega arith) h))
     ∙ zero-ratio g (one ∷ [])

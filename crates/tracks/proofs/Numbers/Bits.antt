@@ -11,7 +11,8 @@ use mathlib.Core.Path.{◌≡◌, refl, sym, ap, ◌∙◌}
 use mathlib.Core.Bool.{Bool, true, false, not, ◌&&◌, cond}
 use borrow.Author.Tests.{eqb-true, eqb-false, eq-eqb}
 use lib.Dec.{eqb}
-use Rattle.tracks.specs.Layout.{none}
+use mathlib.Core.List.{List}
+use Rattle.tracks.specs.Layout.{map_bytes, stands, none, spare}
 use Rattle.tracks.specs.Write.{packed}
 
 -- ---- bits that are packed one by one
@@ -113,18 +114,23 @@ unfolding none
 none_more test n p q = rw (add-one, p, q) refl
 
 -- a test that holds
-pub none-not : (test : ℕ → Bool) (k n : ℕ) → k < n → test k ≡ true → none test n ≡ false
+pub none_not : (test : ℕ → Bool) (k n : ℕ) → k < n → test k ≡ true → none test n ≡ false
 unfolding none
-none-not test k zero h e = absurd (omega arith)
-none-not test k (suc n) h e =
+none_not test k zero h e = absurd (omega arith)
+none_not test k (suc n) h e =
     ⊎_elim
     (λ (q : k ≡ n). no_right (none test n) (ap (λ (i : ℕ). not (test i)) (sym q) ∙ ap not e))
-    (λ (l : k < n). rw (none-not test k n l e) refl)
+    (λ (l : k < n). rw (none_not test k n l e) refl)
     (eq-or-lt_of_le (le_of_suc-le-suc h))
   where
     no_right : (a : Bool) {b : Bool} → b ≡ false → a && b ≡ false
     no_right true q = q
     no_right false q = refl
+
+-- a spare bit that stands
+pub spare_never : (l : List ℕ) (bits map i : ℕ) → i < 8 * map_bytes bits - bits → stands l map (bits + i) ≡ true → spare l bits map ≡ false
+unfolding spare
+spare_never l bits map i h e = none_not (λ j. stands l map (bits + j)) i (8 * map_bytes bits - bits) h e
 
 -- each test fails
 pub none_each : (test : ℕ → Bool) (n : ℕ) → none test n ≡ true → (i : ℕ) → i < n → test i ≡ false
@@ -132,7 +138,7 @@ none_each test n e i h = split (test i) refl
   where
     split : (b : Bool) → test i ≡ b → test i ≡ false
     split false p = p
-    split true p = let z : true ≡ false = sym e ∙ none-not test i n h p in let y : ◌≡◌ {A = ℕ} 0 1 = cc in absurd (omega arith)
+    split true p = let z : true ≡ false = sym e ∙ none_not test i n h p in let y : ◌≡◌ {A = ℕ} 0 1 = cc in absurd (omega arith)
 
 pub none_all : (test : ℕ → Bool) (n : ℕ) → ((i : ℕ) → i < n → test i ≡ false) → none test n ≡ true
 unfolding none

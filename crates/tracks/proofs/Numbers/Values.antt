@@ -1,6 +1,7 @@
 -- Laws of values and their bits, and of tracks and their values one after another. `patterns-doubles` and `doubles-patterns` lead from bits to values and
--- back, `joined-tracks` and `tracks-joined` from tracks to their values and back. `all_more`, `all_not`, `all_at` and `finite_all`: when all values are finite.
-use Prim.Native.Nat.{ℕ, zero, suc, ◌+◌, ◌*◌, ◌/◌, ◌%◌, ◌^◌, ◌<◌}
+-- back, `joined-tracks` and `tracks-joined` from tracks to their values and back. `all_more`, `all_not`, `all_at` and `finite_all`: when all values are finite;
+-- `finite_told`: what a test of each value tells.
+use Prim.Native.Nat.{ℕ, zero, suc, ◌+◌, ◌*◌, ◌/◌, ◌%◌, ◌^◌, ◌<◌, ◌≤◌}
 use native.Mathlib.Omega.{arith}
 use native.Mathlib.Nat.{zero-mul, suc-mul, le_of_suc-le-suc, add_comm}
 use mathlib.Core.Path.{◌≡◌, refl, sym, ap, ◌∙◌, subst}
@@ -14,6 +15,8 @@ use lib.Ieee.{Float, nan, inf, binary64, fits, ne, is_nan, of_fields, of_bits, t
 use lib.Ieee.Compare.{differs_from_itself}
 use lib.Ieee.Bits.{of_bits-to_bits, of_bits-fits, to_bits-of_bits, to_bits-lt, nan_bits_is}
 use lib.Ieee.Fits.{nan-fits}
+use Rattle.std.specs.Prelude.{MatchBool}
+use Rattle.std.specs.List.{AllWithin, HoldsAt}
 use Rattle.kernel.specs.Number.{finite}
 use Rattle.tracks.specs.Layout.{finite_bits}
 use Rattle.tracks.specs.Read.{Track, track_of}
@@ -98,6 +101,27 @@ all_not (y ∷ v) (suc i) h e = later (finite_bits y) (all_not v i (le_of_suc-le
     later : (b : Bool) {d : Bool} → d ≡ false → b && d ≡ false
     later true p = p
     later false p = refl
+
+-- a value that is not finite answers for all
+pub finite_never : (v : List Float) (i : ℕ) → i < length v → finite_bits (to_bits binary64 (get_or v i nan)) ≡ false → all_finite (patterns v) ≡ false
+finite_never v i h e = all_not (patterns v) i (rw length-patterns h) (ap finite_bits (pattern-at v i h) ∙ e)
+
+-- each value is finite
+finite_each : (v : List Float) → ((k : ℕ) → k < length v → finite_bits (to_bits binary64 (get_or v k nan)) ≡ true) → all_finite (patterns v) ≡ true
+unfolding all_finite
+finite_each [] h = refl
+finite_each (x ∷ v) h = rw (h 0 (omega arith), finite_each v (λ k lt. h (suc k) (omega arith))) refl
+
+-- a test of the values, one after the other
+pub finite_told : (b : Bool) (v : List Float)
+    → MatchBool b (AllWithin (λ x. finite_bits (to_bits binary64 x) ≡ true) v 0 (length v)) ((k : ℕ) × (k < length v) × HoldsAt (λ x. finite_bits (to_bits binary64 x) ≡ false) v k)
+    → b ≡ all_finite (patterns v)
+finite_told true v h = sym (finite_each v (λ k lt. h k nan (omega arith) lt))
+finite_told false v h = sym (finite_never v h.0 h.1 (h.2 nan))
+
+-- so many values are all
+pub all_patterns : (v : List Float) (i : ℕ) → length v ≤ i → take i (patterns v) ≡ patterns v
+all_patterns v i h = take_all i (patterns v) (rw length-patterns h)
 
 pub all_at : (v : List ℕ) (i : ℕ) → all_finite v ≡ true → i < length v → finite_bits (get_or v i 0) ≡ true
 all_at v i e h = split (finite_bits (get_or v i 0)) refl

@@ -8,11 +8,12 @@ use mathlib.Core.Path.{◌≡◌, refl, sym, ap, ◌∙◌, subst}
 use mathlib.Core.List.{List, [], ◌∷◌, ◌++◌, flat_map, append_assoc}
 use lib.ListN.{length, get_or, take, drop, length-append, take-append-drop}
 use lib.Seq.{take-add, drop-drop, drop_at, drop-cons, take-suc, take-length}
-use Rattle.kernel.specs.Answer.{Outcome, answered}
+use Rattle.kernel.specs.Answer.{Outcome}
 use Rattle.tracks.specs.Layout.{part}
 use Rattle.tracks.specs.Read.{Item, items}
 use Rattle.tracks.proofs.Reading.Items.{items_more, items_ind}
 use Rattle.tracks.proofs.Slices.Lists.{flat_map_append, flat_map_more}
+use Rattle.std.specs.Prelude.{Ok}
 
 -- two parts, one where the other ends
 pub part_join : (l : List ℕ) (a b c : ℕ) → a ≤ b → b ≤ c → part l a b ++ part l b c ≡ part l a c
@@ -41,8 +42,8 @@ parts_join l {a} {b} {c} {s} {t} p q =
 
 module _ {A : Type 0} (enc : A → List ℕ) (l : List ℕ) (read : ℕ → ℕ → Outcome (Item A)) (start : ℕ) where
   -- accepted items are the bytes that they are read from
-  pub read_bytes : ((k at : ℕ) (x : Item A) → at ≤ length l → read k at ≡ answered x → Part l at x.next (enc x.value)) → start ≤ length l
-      → (n : ℕ) (ys : Item (List A)) → items read start n ≡ answered ys → Part l start ys.next (flat_map enc ys.value)
+  pub read_bytes : ((k at : ℕ) (x : Item A) → at ≤ length l → read k at ≡ Ok x → Part l at x.next (enc x.value)) → start ≤ length l
+      → (n : ℕ) (ys : Item (List A)) → items read start n ≡ Ok ys → Part l start ys.next (flat_map enc ys.value)
   unfolding flat_map
   read_bytes each h =
       items_ind read start (λ n ys. Part l start ys.next (flat_map enc ys.value)) (record { from = omega arith; within = h; bytes = part_none l start })
@@ -50,7 +51,7 @@ module _ {A : Type 0} (enc : A → List ℕ) (l : List ℕ) (read : ℕ → ℕ 
 
   -- the bytes of items are read as those items
   module _ (d : A) (vs : List A)
-      (each : (k at : ℕ) (rest : List ℕ) → k < length vs → drop at l ≡ enc (get_or vs k d) ++ rest → read k at ≡ answered (record { value = get_or vs k d; next = at + length (enc (get_or vs k d)) }))
+      (each : (k at : ℕ) (rest : List ℕ) → k < length vs → drop at l ≡ enc (get_or vs k d) ++ rest → read k at ≡ Ok (record { value = get_or vs k d; next = at + length (enc (get_or vs k d)) }))
       (rest : List ℕ) (here : drop start l ≡ flat_map enc vs ++ rest) where
     abbrev place : ℕ → ℕ
     place k = start + length (flat_map enc (take k vs))
@@ -67,9 +68,9 @@ module _ {A : Type 0} (enc : A → List ℕ) (l : List ℕ) (read : ℕ → ℕ 
         ∙ append_assoc u (flat_map enc (drop k vs)) rest in
         sym (drop-drop (length u) start l) ∙ ap (drop (length u)) (here ∙ e) ∙ drop_at u w (length u) refl
 
-    prefix : (k : ℕ) → k ≤ length vs → items read start k ≡ answered (record { value = take k vs; next = place k })
+    prefix : (k : ℕ) → k ≤ length vs → items read start k ≡ Ok (record { value = take k vs; next = place k })
     unfolding items flat_map
-    prefix zero h = ap (λ (n : ℕ). answered (record { value = []; next = n })) (sym (add-zero start))
+    prefix zero h = ap (λ (n : ℕ). Ok (record { value = []; next = n })) (sym (add-zero start))
     prefix (suc k) h =
         let g = get_or vs k d in
         let w = flat_map enc (drop (suc k) vs) ++ rest in
@@ -79,8 +80,8 @@ module _ {A : Type 0} (enc : A → List ℕ) (l : List ℕ) (read : ℕ → ℕ 
         omega (arith, ap (λ (v : List A). length (flat_map enc v)) t, ap length (flat_map_more enc (take k vs) g), length-append (flat_map enc (take k vs)) (enc g)) in
         ap (items read start) (sym (add-one k))
         ∙ items_more read start k _ _ (prefix k (omega arith)) (each k (place k) w h at-k)
-        ∙ ap (λ (v : List A). answered (record { value = v; next = place k + length (enc g) })) (sym t)
-        ∙ ap (λ (m : ℕ). answered (record { value = take (suc k) vs; next = m })) n
+        ∙ ap (λ (v : List A). Ok (record { value = v; next = place k + length (enc g) })) (sym t)
+        ∙ ap (λ (m : ℕ). Ok (record { value = take (suc k) vs; next = m })) n
 
-    pub bytes_read : items read start (length vs) ≡ answered (record { value = vs; next = start + length (flat_map enc vs) })
-    bytes_read = prefix (length vs) (omega arith) ∙ ap (λ (v : List A). answered (record { value = v; next = start + length (flat_map enc v) })) (take-length vs)
+    pub bytes_read : items read start (length vs) ≡ Ok (record { value = vs; next = start + length (flat_map enc vs) })
+    bytes_read = prefix (length vs) (omega arith) ∙ ap (λ (v : List A). Ok (record { value = v; next = start + length (flat_map enc v) })) (take-length vs)

@@ -1,44 +1,76 @@
 -- Laws of the bytes of fields, maps and records, as a loop writes them. `stored_more` and `records_more` are the steps of the loops,
--- `list_length` is the length of a whole list, `written_met` gives each question of a list that is written.
+-- `list_length` is the length of a whole list, `written_met` gives each question of a list that is written. `written_many` and its neighbours say which question is not met,
+-- `listed_few` and its neighbours what a list is whose length is answered.
 use Prim.Native.Nat.{ℕ, zero, suc, ◌+◌, ◌*◌, ◌<◌, ◌≤◌}
 use native.Mathlib.Omega.{arith}
 use native.Mathlib.Nat.{zero-mul, suc-mul}
 use native.Mathlib.Numerals.{add-one}
 use mathlib.Core.Path.{◌≡◌, refl, sym, ap, ◌∙◌}
 use mathlib.Core.Bool.{Bool, true, false}
-use mathlib.Core.List.{List, [], ◌∷◌, ◌++◌, flat_map, append_assoc}
-use borrow.Author.Tests.{eq-eqb, ne_eqb, eqb-true, eqb-false, leb-true}
+use mathlib.Core.List.{List, [], ◌∷◌, ◌++◌, flat_map}
+use borrow.Author.Tests.{eq-eqb, ne_eqb, eqb-true, eqb-false, leb-true, le-leb, lt-leb}
 use lib.Dec.{eqb, leb}
-use lib.ListN.{length, get_or, take, drop, set, length-append, take-append-drop}
-use lib.Seq.{sets-eq, take-add, take_all}
+use lib.Ieee.{Float, nan, binary64, to_bits}
+use lib.Pointwise.{pointwise}
+use lib.ListN.{length, get_or, take, drop, set, length-set, length-append, take-append-drop}
+use lib.Seq.{take-add, take_all}
 use Rattle.tracks.specs.Layout.{fields, map_bits, map_bytes, count_met, dimension_met}
-use Rattle.kernel.specs.Bytes.{bytes}
+use Rattle.kernel.specs.Bytes.{bytes, same_bytes}
 use Rattle.tracks.specs.Read.{Track, track_of}
 use Rattle.tracks.specs.Write.{map_byte, map_of, field_bytes, stored_bytes, record_of, records_of, list_of, tracks_of, track_list, all_finite, written}
 use Rattle.kernel.specs.Lists.{tabulate, over}
-use Rattle.kernel.specs.Answer.{Outcome, refused, answered}
-use Rattle.tracks.specs.Calls.{write_answer}
-use Rattle.tracks.specs.declared.write.WrittenList.TheVariants as WrittenList
-use Rattle.kernel.proofs.Answers.{answered_inj, ask_met}
+use Rattle.kernel.specs.Answer.{Outcome}
+use Rattle.tracks.specs.Calls.{patterns, write_answer, write_bytes}
+use Rattle.tracks.specs.Private.{TracksWritten}
+use Rattle.tracks.proofs.Reading.Accepted.{dimension-small, few_tracks}
+use Rattle.tracks.proofs.Numbers.Fields.{few_values}
+use Rattle.tracks.proofs.Numbers.Values.{length-patterns, pattern-at}
+use Rattle.kernel.proofs.Answers.{answered_inj, ask_met, never_both}
 use Rattle.kernel.proofs.Words.{length-bytes}
-use Rattle.tracks.proofs.Slices.Lists.{flat_map_append, flat_map_more, flat_map-part, take_more}
-use Rattle.kernel.proofs.Lists.{length-tabulate, tabulate_more}
+use Rattle.tracks.proofs.Slices.Lists.{flat_map_append, flat_map_more, flat_map-part, take_more, over-two}
+use Rattle.kernel.proofs.Lists.{length-tabulate, tabulate_more, over-over, over_none}
+use Rattle.std.specs.Prelude.{Ok, Err}
+use Rattle.kernel.specs.declared.question.Question.TheVariants as question
 
 -- ---- a field's bytes
 
-pub field-none : (x : ℕ) → x ≡ 0 → field_bytes x ≡ []
+pub field_none : (x : ℕ) → x ≡ 0 → field_bytes x ≡ []
 unfolding field_bytes
-field-none x e = rw (eq-eqb x 0 e) refl
+field_none x e = rw (eq-eqb x 0 e) refl
 
-pub field-some : (x : ℕ) → (x ≡ 0 → ⊥) → field_bytes x ≡ bytes 8 x
+pub field_some : (x : ℕ) → (x ≡ 0 → ⊥) → field_bytes x ≡ bytes 8 x
 unfolding field_bytes
-field-some x e = rw (ne_eqb x 0 e) refl
+field_some x e = rw (ne_eqb x 0 e) refl
+
+pub field_takes_none : (x : ℕ) → x ≡ 0 → length (field_bytes x) ≡ 0
+field_takes_none x e = ap length (field_none x e)
+
+pub field_takes_eight : (x : ℕ) → (x ≡ 0 → ⊥) → length (field_bytes x) ≡ 8
+field_takes_eight x e = ap length (field_some x e) ∙ length-bytes 8 x
+
+-- ---- bytes that are compared
+
+pub pointwise_same : (a b : List ℕ) → pointwise eqb a b ≡ same_bytes a b
+unfolding same_bytes
+pointwise_same [] [] = refl
+pointwise_same [] (y ∷ b) = refl
+pointwise_same (x ∷ a) [] = refl
+pointwise_same (x ∷ a) (y ∷ b) = rw (pointwise_same a b) refl
 
 -- ---- the stored fields
 
 pub stored_more : (v : List ℕ) (k : ℕ) → k < length v → stored_bytes (take (k + 1) v) ≡ stored_bytes (take k v) ++ field_bytes (get_or v k 0)
 unfolding stored_bytes
 stored_more v k h = ap stored_bytes (take_more v k h) ∙ flat_map_more field_bytes (take k v) (get_or v k 0)
+
+-- the stored fields of the values so far, and one more
+pub stored_next : (v : List Float) (k : ℕ) → k < length v
+    → length (stored_bytes (take (k + 1) (patterns v))) ≡ length (stored_bytes (take k (patterns v))) + length (field_bytes (to_bits binary64 (get_or v k nan)))
+stored_next v k h =
+    let p = patterns v in
+    ap length (stored_more p k (rw length-patterns h))
+    ∙ length-append (stored_bytes (take k p)) (field_bytes (get_or p k 0))
+    ∙ ap (λ (b : ℕ). length (stored_bytes (take k p)) + length (field_bytes b)) (pattern-at v k h)
 
 pub stored-part : (v : List ℕ) (k : ℕ) → length (stored_bytes (take k v)) ≤ length (stored_bytes v)
 unfolding stored_bytes
@@ -57,32 +89,29 @@ stored-size [] = omega arith
 stored-size (x ∷ v) = omega (arith, length-append (field_bytes x) (stored_bytes v), stored-size v, one (eqb x 0) refl)
   where
     one : (b : Bool) → eqb x 0 ≡ b → length (field_bytes x) ≤ 8
-    one true e = omega (arith, ap length (field-none x (eqb-true x 0 e)))
-    one false e = omega (arith, ap length (field-some x (eqb-false x 0 e)), length-bytes 8 x)
-
--- ---- a word's eight stores
-
-pub stores : (l : List ℕ) (at a b c d e f g h : ℕ) → at + 8 ≤ length l
-    → set (set (set (set (set (set (set (set l at a) (at + 1) b) (at + 2) c) (at + 3) d) (at + 4) e) (at + 5) f) (at + 6) g) (at + 7) h
-    ≡ over l at (a ∷ b ∷ c ∷ d ∷ e ∷ f ∷ g ∷ h ∷ [])
-unfolding over
-stores l at a b c d e f g h le =
-    let n1 : at + 1 ≡ suc at = omega arith in
-    let n2 : at + 2 ≡ suc (suc at) = omega arith in
-    let n3 : at + 3 ≡ suc (suc (suc at)) = omega arith in
-    let n4 : at + 4 ≡ suc (suc (suc (suc at))) = omega arith in
-    let n5 : at + 5 ≡ suc (suc (suc (suc (suc at)))) = omega arith in
-    let n6 : at + 6 ≡ suc (suc (suc (suc (suc (suc at))))) = omega arith in
-    let n7 : at + 7 ≡ suc (suc (suc (suc (suc (suc (suc at)))))) = omega arith in
-    rw (n1, n2, n3, n4, n5, n6, n7) (sets-eq (a ∷ b ∷ c ∷ d ∷ e ∷ f ∷ g ∷ h ∷ []) l at le ∙ append_assoc (take at l) (a ∷ b ∷ c ∷ d ∷ e ∷ f ∷ g ∷ h ∷ []) (drop (at + 8) l))
+    one true e = omega (arith, ap length (field_none x (eqb-true x 0 e)))
+    one false e = omega (arith, ap length (field_some x (eqb-false x 0 e)), length-bytes 8 x)
 
 -- ---- the records of tracks
 
-pub record-length : (d : ℕ) (t : Track) → length (record_of d t) ≡ map_bytes (map_bits d) + length (stored_bytes t.values)
+pub record_length : (d : ℕ) (t : Track) → length (record_of d t) ≡ map_bytes (map_bits d) + length (stored_bytes t.values)
 unfolding record_of map_of
-record-length d t =
+record_length d t =
     let m = map_bytes (map_bits d) in
     length-append (tabulate m (map_byte t)) (stored_bytes t.values) ∙ ap (λ (k : ℕ). k + length (stored_bytes t.values)) (length-tabulate m (map_byte t))
+
+pub map_length : (d : ℕ) (t : Track) → length (map_of d t) ≡ map_bytes (map_bits d)
+unfolding map_of
+map_length d t = length-tabulate (map_bytes (map_bits d)) (map_byte t)
+
+-- a map and the stored fields, one after the other
+pub record_over : (out : List ℕ) (at d : ℕ) (v : List Float) (next : ℕ) → next ≡ at + length (map_of d (track_of (patterns v)))
+    → at + length (record_of d (track_of (patterns v))) ≤ length out
+    → over (over out at (map_of d (track_of (patterns v)))) next (stored_bytes (patterns v)) ≡ over out at (record_of d (track_of (patterns v)))
+unfolding record_of
+record_over out at d v next e h =
+    let t = track_of (patterns v) in
+    over-over out at next (map_of d t) (stored_bytes (patterns v)) e (omega (arith, record_length d t, map_length d t))
 
 module _ (d : ℕ) where
   -- the records of the first j tracks of f fields each, among values
@@ -110,7 +139,7 @@ module _ (d : ℕ) where
         ap (λ (k : ℕ). length (among k f v)) (add-one n),
         ap length (records_more n f v),
         length-append (among n f v) (record_of d (track_of u)),
-        record-length d (track_of u),
+        record_length d (track_of u),
         suc-mul n (map_bytes (map_bits d)),
         ap (λ (k : ℕ). length (stored_bytes (take k v))) r,
         ap (λ (w : List ℕ). length (stored_bytes w)) (take-add (n * f) f v),
@@ -134,21 +163,95 @@ pub record Listed (n d : ℕ) (v : List ℕ) (room : ℕ) (l : List ℕ) : Type 
   pub fits : length l ≤ room
   pub same : l ≡ list_of (track_list n d v)
 
-pub written_met : (n d : ℕ) (v : List ℕ) (room : ℕ) {l : List ℕ} → written n d v room ≡ answered l → Listed n d v room l
+pub written_met : (n d : ℕ) (v : List ℕ) (room : ℕ) {l : List ℕ} → written n d v room ≡ Ok l → Listed n d v room l
 unfolding written
 written_met n d v room e =
-    let a = ask_met 10 (count_met n) _ e in
-    let b = ask_met 11 (dimension_met d) _ a.1 in
-    let g = ask_met 2 (eqb (length v) (n * fields d)) _ b.1 in
-    let h = ask_met 14 (all_finite v) _ g.1 in
-    let k = ask_met 20 (leb (length (list_of (track_list n d v))) room) _ h.1 in
+    let a = ask_met question.Count (count_met n) _ e in
+    let b = ask_met question.Dimension (dimension_met d) _ a.1 in
+    let g = ask_met question.Length (eqb (length v) (n * fields d)) _ b.1 in
+    let h = ask_met question.FiniteField (all_finite v) _ g.1 in
+    let k = ask_met question.ListBuffer (leb (length (list_of (track_list n d v))) room) _ h.1 in
     let s = sym (answered_inj k.1) in
     record { few = a.0; sized = b.0; long = eqb-true _ _ g.0; finite = h.0; fits = rw s (leb-true _ _ k.0); same = s }
 
-pub write_accepted : {n : ℕ} (o : Outcome (List ℕ)) → write_answer o ≡ WrittenList.Length n → (l : List ℕ) × (o ≡ answered l) × (n ≡ length l)
-write_accepted (refused q) e = let z : ◌≡◌ {A = ℕ} 0 1 = cc in absurd (omega arith)
-write_accepted (answered l) e = (l, refl, cc)
+pub write_accepted : {n : ℕ} (o : Outcome (List ℕ)) → write_answer o ≡ Ok n → (l : List ℕ) × (o ≡ Ok l) × (n ≡ length l)
+write_accepted (Err q) e = never_both (sym e)
+write_accepted (Ok l) e = (l, refl, cc)
 
-pub write_refused : {q : ℕ} (o : Outcome (List ℕ)) → write_answer o ≡ WrittenList.Refused q → o ≡ refused q
-write_refused (refused q) e = cc
-write_refused (answered l) e = let z : ◌≡◌ {A = ℕ} 0 1 = cc in absurd (omega arith)
+-- ---- the answer to a list that is to be written, question by question
+
+module _ (v : List Float) (n d room : ℕ) where
+  pub written_many : count_met n ≡ false → written n d (patterns v) room ≡ Err question.Count
+  unfolding written
+  written_many p = simp p
+
+  module _ (few : count_met n ≡ true) where
+    pub written_sized : dimension_met d ≡ false → written n d (patterns v) room ≡ Err question.Dimension
+    unfolding written
+    written_sized p = simp (few, p)
+
+    module _ (sized : dimension_met d ≡ true) (f : ℕ) (e : f ≡ fields d) where
+      pub written_other : (length v ≡ n * f → ⊥) → written n d (patterns v) room ≡ Err question.Length
+      unfolding written
+      written_other h =
+          let other : length (patterns v) ≡ n * fields d → ⊥ = λ s. h (sym (length-patterns v) ∙ s ∙ sym (ap (λ (k : ℕ). n * k) e)) in
+          simp (few, sized, ne_eqb (length (patterns v)) (n * fields d) other)
+
+      module _ (h : length v ≡ n * f) where
+        many : length (patterns v) ≡ n * fields d
+        many = length-patterns v ∙ h ∙ ap (λ (k : ℕ). n * k) e
+
+        pub written_infinite : all_finite (patterns v) ≡ false → written n d (patterns v) room ≡ Err question.FiniteField
+        unfolding written
+        written_infinite p = simp (few, sized, eq-eqb _ _ many, p)
+
+        module _ (finite : all_finite (patterns v) ≡ true) (m s : ℕ) (maps : m ≡ map_bytes (map_bits d)) (stored : s ≡ length (stored_bytes (patterns v))) where
+          whole : length (list_of (track_list n d (patterns v))) ≡ 2 + n * m + s
+          whole = omega (arith, list_length n d (patterns v) many, ap (λ (k : ℕ). n * k) maps, stored)
+
+          pub written_over : room < 2 + n * m + s → written n d (patterns v) room ≡ Err question.ListBuffer
+          unfolding written
+          written_over k = simp (few, sized, eq-eqb _ _ many, finite, lt-leb (length (list_of (track_list n d (patterns v)))) room (omega (arith, whole)))
+
+          pub written_length : 2 + n * m + s ≤ room → write_answer (written n d (patterns v) room) ≡ Ok (2 + n * m + s)
+          unfolding written
+          written_length k = simp (few, sized, eq-eqb _ _ many, finite, le-leb (length (list_of (track_list n d (patterns v)))) room (omega (arith, whole))) (ap Ok whole)
+
+-- ---- a list whose length is answered: its two first bytes and its records, and what they leave
+
+module _ (v : List Float) (n d room k : ℕ) (told : Ok k ≡ write_answer (written n d (patterns v) room)) where
+  answered : (l : List ℕ) × (written n d (patterns v) room ≡ Ok l) × Listed n d (patterns v) room l
+  answered = let a = write_accepted (written n d (patterns v) room) (sym told) in (a.0, a.1, written_met n d (patterns v) room a.1)
+
+  pub listed_few : n ≤ 32
+  listed_few = leb-true n 32 answered.2.few
+
+  pub listed_small : d ≤ 9
+  listed_small = dimension-small d answered.2.sized
+
+  shape : answered.0 ≡ n ∷ d ∷ records_of d (tracks_of n (fields d) (patterns v))
+  unfolding list_of tracks_of
+  shape = answered.2.same ∙ ap (λ (j : ℕ). j ∷ d ∷ records_of d (tracks_of n (fields d) (patterns v))) (length-tabulate n _)
+
+  pub listed_room : 2 + length (records_of d (tracks_of n (fields d) (patterns v))) ≤ room
+  listed_room = omega (arith, answered.2.fits, ap length shape)
+
+  module _ (out : List ℕ) (size : length out ≡ room) where
+    pub listed_tracks : TracksWritten v d n (set (set out 0 n) 1 d)
+    listed_tracks = record { small = listed_small; few = listed_few; long = sym (length-patterns v) ∙ answered.2.long; room = simp length-set (omega (arith, listed_room, size)) }
+
+    pub listed_left : (new : List ℕ) → new ≡ over (set (set out 0 n) 1 d) 2 (records_of d (tracks_of n (fields d) (patterns v))) → new ≡ write_bytes (written n d (patterns v) room) out
+    listed_left new e =
+        e ∙ over-two out n d (records_of d (tracks_of n (fields d) (patterns v))) (omega (arith, listed_room, size)) ∙ ap (over out 0) (sym shape)
+        ∙ sym (ap (λ (o : Outcome (List ℕ)). write_bytes o out) answered.1)
+
+-- ---- for the search
+
+-- of `write_field`
+pub ruleset field_bytes_laws = (field_none, field_some, field_takes_none, field_takes_eight, over_none)
+
+-- of `check_write`
+pub ruleset question_laws = (few_tracks, dimension-small, few_values, written_many, written_sized, written_other, written_infinite, written_over, written_length)
+
+-- of `write_list`
+pub ruleset list_laws = (listed_few, listed_small, listed_room, listed_tracks, listed_left)

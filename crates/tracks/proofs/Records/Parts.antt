@@ -8,7 +8,6 @@ use mathlib.Core.List.{List, [], ◌++◌, flat_map, append-nil}
 use lib.ListN.{length, get_or, take, drop}
 use lib.Dec.{eqb}
 use lib.Seq.{take-suc, take-length}
-use Rattle.kernel.specs.Answer.{answered}
 use Rattle.tracks.specs.Layout.{part, fields}
 use Rattle.kernel.specs.Bytes.{Bytes, same_bytes}
 use Rattle.tracks.specs.Read.{Item, Track, TrackList, track_of, track, tracks, contents}
@@ -26,6 +25,7 @@ use Rattle.tracks.proofs.RoundTrip.TracksRead.{track_read}
 use Rattle.tracks.proofs.RoundTrip.RecordsRead.{Fit, track_of_lem}
 use Rattle.tracks.proofs.RoundTrip.BothWays.{accepted_fit, accepted_records}
 use Rattle.tracks.proofs.Numbers.Fields.{some-fields}
+use Rattle.std.specs.Prelude.{Ok}
 
 -- ---- records and fields
 
@@ -38,7 +38,7 @@ record-equal d s t some p q e =
 
 -- ---- the records of an accepted list
 
-module _ (l : List ℕ) (h : Bytes l) (c : TrackList) (ok : contents l ≡ answered c) where
+module _ (l : List ℕ) (h : Bytes l) (c : TrackList) (ok : contents l ≡ Ok c) where
   abbrev d : ℕ
   d = c.dimension
 
@@ -94,7 +94,7 @@ module _ (l : List ℕ) (h : Bytes l) (c : TrackList) (ok : contents l ≡ answe
       omega (arith, e, r, ap (offset l) m)))
 
 -- Two tracks of accepted lists of one dimension have equal record bytes exactly if their fields have equal bits.
-pub equal_records : (l m : List ℕ) → Bytes l → Bytes m → (c d : TrackList) → contents l ≡ answered c → contents m ≡ answered d → c.dimension ≡ d.dimension
+pub equal_records : (l m : List ℕ) → Bytes l → Bytes m → (c d : TrackList) → contents l ≡ Ok c → contents m ≡ Ok d → c.dimension ≡ d.dimension
     → (j k : ℕ) → j < length c.tracks → k < length d.tracks
     → (same_bytes (record_at l (offset l j)) (record_at m (offset m k)) ≡ true → get_or c.tracks j (track_of []) ≡ get_or d.tracks k (track_of []))
     × (get_or c.tracks j (track_of []) ≡ get_or d.tracks k (track_of []) → same_bytes (record_at l (offset l j)) (record_at m (offset m k)) ≡ true)

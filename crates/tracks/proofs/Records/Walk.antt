@@ -12,7 +12,7 @@ use mathlib.Core.List.{List, []}
 use lib.ListN.{length, get_or, drop, length-drop, get_or-append}
 use borrow.Author.Tests.{ne_eqb, le-leb}
 use lib.Seq.{length-take-le}
-use Rattle.kernel.specs.Answer.{Outcome, answered}
+use Rattle.kernel.specs.Answer.{Outcome}
 use Rattle.kernel.specs.Lists.{tabulate, over}
 use Rattle.kernel.proofs.Lists.{length-tabulate, get_d_tabulate}
 use Rattle.tracks.specs.Layout.{part}
@@ -20,14 +20,14 @@ use Rattle.tracks.specs.Read.{Item, Track, TrackList, items, track, tracks, cont
 use Rattle.tracks.specs.Calls.{offsets_left, track_offsets}
 use Rattle.tracks.specs.Private.{ends}
 use Rattle.tracks.specs.Record.{offset, record_end, record_in, record_at, track_record, next_offset, at_end}
-use Rattle.tracks.specs.declared.read.Checked.TheVariants.{End}
 use Rattle.tracks.proofs.Reading.Items.{items_back, items_more}
 use Rattle.tracks.proofs.Reading.Accepted.{Whole, contents_met, track_met}
 use Rattle.tracks.proofs.Reading.Offsets.{placing-fits}
 use Rattle.tracks.proofs.Records.Ends.{end_here, end_later}
 use Rattle.tracks.proofs.Numbers.Fields.{one_bit_each, some-fields}
+use Rattle.std.specs.Prelude.{Ok}
 
-module _ (l : List ℕ) (c : TrackList) (ok : contents l ≡ answered c) where
+module _ (l : List ℕ) (c : TrackList) (ok : contents l ≡ Ok c) where
   abbrev pub d : ℕ
   d = c.dimension
 
@@ -38,7 +38,7 @@ module _ (l : List ℕ) (c : TrackList) (ok : contents l ≡ answered c) where
   pub whole : Whole l c
   whole = contents_met l ok
 
-  pub offset_is : (j : ℕ) (xs : Item (List Track)) → tracks l d j ≡ answered xs → offset l j ≡ xs.next
+  pub offset_is : (j : ℕ) (xs : Item (List Track)) → tracks l d j ≡ Ok xs → offset l j ≡ xs.next
   unfolding offset
   offset_is j xs e = rw (sym whole.dimension, e) refl
 
@@ -46,16 +46,16 @@ module _ (l : List ℕ) (c : TrackList) (ok : contents l ≡ answered c) where
   pub record Step (j : ℕ) : Type 0 where
     pub before : Item (List Track)
     pub here : Item Track
-    pub so_far : tracks l d j ≡ answered before
-    pub read : track l d (offset l j) ≡ answered here
+    pub so_far : tracks l d j ≡ Ok before
+    pub read : track l d (offset l j) ≡ Ok here
     pub next : here.next ≡ offset l (suc j)
-    pub more : tracks l d (suc j) ≡ answered (push before here)
+    pub more : tracks l d (suc j) ≡ Ok (push before here)
 
   pub step : (j : ℕ) → j < n → Step j
   unfolding tracks
   step j lt =
       let b = items_back (λ _. track l d) 2 j n _ lt whole.read in
-      let m : tracks l d (suc j) ≡ answered (push b.0 b.1) = ap (tracks l d) (sym (add-one j)) ∙ items_more (λ _. track l d) 2 j b.0 b.1 b.2 b.3 in
+      let m : tracks l d (suc j) ≡ Ok (push b.0 b.1) = ap (tracks l d) (sym (add-one j)) ∙ items_more (λ _. track l d) 2 j b.0 b.1 b.2 b.3 in
       record { before = b.0; here = b.1; so_far = b.2; read = ap (track l d) (offset_is j b.0 b.2) ∙ b.3; next = sym (offset_is (suc j) (push b.0 b.1) m); more = m }
 
   -- each starts after the one before
@@ -68,8 +68,8 @@ module _ (l : List ℕ) (c : TrackList) (ok : contents l ≡ answered c) where
   later i zero lt = rw add-zero (offset_rises i (omega arith))
   later i (suc m) lt = let e : i + suc m ≡ suc (i + m) = omega arith in omega (arith, later i m (omega arith), offset_rises (suc (i + m)) (omega arith), ap (λ (k : ℕ). offset l (suc k)) e)
 
-  pub ends_at : (j : ℕ) → j < n → ends (track l d (offset l j)) ≡ End (offset l (suc j))
-  ends_at j lt = let s = step j lt in ap ends s.read ∙ ap End s.next
+  pub ends_at : (j : ℕ) → j < n → ends (track l d (offset l j)) ≡ Ok (offset l (suc j))
+  ends_at j lt = let s = step j lt in ap ends s.read ∙ ap Ok s.next
 
   -- the walk from record i to record i + m
   walk : (m i r : ℕ) → i + m < n → record_end l d (offset l (i + m)) (offset l i) (suc (m + r)) ≡ offset l (suc (i + m))

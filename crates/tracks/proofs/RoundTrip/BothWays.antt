@@ -11,7 +11,7 @@ use borrow.Author.Tests.{le-leb, eq-eqb}
 use lib.ListN.{length, get_or, take, drop, length-append, length-drop, get_or-append}
 use lib.Seq.{take_all, get_or_at, length-take-le}
 use lib.Ieee.{Float}
-use Rattle.kernel.specs.Answer.{Outcome, answered, and_then}
+use Rattle.kernel.specs.Answer.{Outcome, and_then}
 use Rattle.tracks.specs.Layout.{fields, count_met, dimension_met}
 use Rattle.kernel.specs.Bytes.{Bytes}
 use Rattle.tracks.specs.Read.{Item, Track, TrackList, track_of, track, tracks, count, dimension, nothing_after, contents}
@@ -28,6 +28,7 @@ use Rattle.tracks.proofs.RoundTrip.RecordsRead.{Fit, track_of_lem}
 use Rattle.tracks.proofs.Records.Bytes.{written_met}
 use Rattle.tracks.proofs.Numbers.Values.{Doubles, Words, patterns-doubles, doubles-patterns, patterns_words, joined-tracks, tracks-joined}
 use Rattle.tracks.proofs.Numbers.Values.{all_append, all_take, all_drop, words_append, words_take, words_drop}
+use Rattle.std.specs.Prelude.{Ok}
 
 -- ---- tracks that a list can hold
 
@@ -36,7 +37,7 @@ abbrev pub Fits : ℕ → List Track → Type 0
 Fits f ts = (k : ℕ) → k < length ts → Fit f (get_or ts k (track_of [])).values
 
 -- the tracks of an accepted list are such
-pub tracks_fit : (l : List ℕ) → Bytes l → (d n : ℕ) (ys : Item (List Track)) → tracks l d n ≡ answered ys → Fits (fields d) ys.value
+pub tracks_fit : (l : List ℕ) → Bytes l → (d n : ℕ) (ys : Item (List Track)) → tracks l d n ≡ Ok ys → Fits (fields d) ys.value
 unfolding tracks
 tracks_fit l h d =
     let fit : Track → Type 0 = λ t. Fit (fields d) t.values in
@@ -48,7 +49,7 @@ tracks_fit l h d =
     (eq-or-lt_of_le (omega (arith, length-append xs.value (x.value ∷ [])))))
 
 -- and the bytes after the first two are their records
-pub tracks-bytes : (l : List ℕ) → Bytes l → 2 ≤ length l → (d n : ℕ) (ys : Item (List Track)) → tracks l d n ≡ answered ys → Part l 2 ys.next (records_of d ys.value)
+pub tracks-bytes : (l : List ℕ) → Bytes l → 2 ≤ length l → (d n : ℕ) (ys : Item (List Track)) → tracks l d n ≡ Ok ys → Part l 2 ys.next (records_of d ys.value)
 unfolding tracks records_of
 tracks-bytes l h le d n ys e = read_bytes (record_of d) l (λ _. track l d) 2 (λ k at x s p. (track_read l d at h x p).bytes) le n ys e
 
@@ -59,7 +60,7 @@ two-first [] h = absurd (omega arith)
 two-first (x ∷ []) h = absurd (omega arith)
 two-first (x ∷ y ∷ l) h = refl
 
-module _ (l : List ℕ) (h : Bytes l) (c : TrackList) (e : contents l ≡ answered c) where
+module _ (l : List ℕ) (h : Bytes l) (c : TrackList) (e : contents l ≡ Ok c) where
   -- The tracks of an accepted list fit its dimension.
   pub accepted_fit : Fits (fields c.dimension) c.tracks
   accepted_fit = tracks_fit l h c.dimension (length c.tracks) _ (contents_met l e).read
@@ -80,13 +81,13 @@ module _ (l : List ℕ) (h : Bytes l) (c : TrackList) (e : contents l ≡ answer
 
 -- ---- the list of tracks is accepted, with those tracks
 
-pub list-accepted : (c : TrackList) → count_met (length c.tracks) ≡ true → dimension_met c.dimension ≡ true → Fits (fields c.dimension) c.tracks → contents (list_of c) ≡ answered c
+pub list-accepted : (c : TrackList) → count_met (length c.tracks) ≡ true → dimension_met c.dimension ≡ true → Fits (fields c.dimension) c.tracks → contents (list_of c) ≡ Ok c
 unfolding list_of records_of tracks
 list-accepted c few sized fit =
     let l = list_of c in
     let d = c.dimension in
     let ts = c.tracks in
-    let run : tracks l d (length ts) ≡ answered (record { value = ts; next = 2 + length (records_of d ts) }) =
+    let run : tracks l d (length ts) ≡ Ok (record { value = ts; next = 2 + length (records_of d ts) }) =
     bytes_read (record_of d) l (λ _. track l d) 2 (track_of []) ts
     (λ k at rest lt e. track_of_lem l d at (get_or ts k (track_of [])) rest (some-fields d sized) (fit k lt) e)
     [] (sym (append-nil (records_of d ts))) in
@@ -122,8 +123,8 @@ cut_fit n f v long fin w k lt =
 -- ---- the return trip
 
 -- What is read is written as the same bytes: the values of an accepted list, written with its count and dimension into any buffer that is long enough, give the list.
-pub read_then_written : (l : List ℕ) → Bytes l → (c : TrackList) → contents l ≡ answered c → (room : ℕ) → length l ≤ room
-    → written (length c.tracks) c.dimension (patterns (doubles (joined c.tracks))) room ≡ answered l
+pub read_then_written : (l : List ℕ) → Bytes l → (c : TrackList) → contents l ≡ Ok c → (room : ℕ) → length l ≤ room
+    → written (length c.tracks) c.dimension (patterns (doubles (joined c.tracks))) room ≡ Ok l
 unfolding written
 read_then_written l h c e room le =
     let w = contents_met l e in
@@ -138,8 +139,8 @@ read_then_written l h c e room le =
     ∙ simp (w.few, w.sized, eq-eqb (length v) (n * fields d) j.0, j.1, le-leb (length (list_of (track_list n d v))) room (omega (arith, ap length same)), same)
 
 -- What is written is read as the same values, signs of zero included, with the same count and dimension.
-pub written_then_read : (n d : ℕ) (values : List Float) → Doubles values → (room : ℕ) (l : List ℕ) → written n d (patterns values) room ≡ answered l
-    → (c : TrackList) × (contents l ≡ answered c) × (doubles (joined c.tracks) ≡ values) × (length c.tracks ≡ n) × (c.dimension ≡ d)
+pub written_then_read : (n d : ℕ) (values : List Float) → Doubles values → (room : ℕ) (l : List ℕ) → written n d (patterns values) room ≡ Ok l
+    → (c : TrackList) × (contents l ≡ Ok c) × (doubles (joined c.tracks) ≡ values) × (length c.tracks ≡ n) × (c.dimension ≡ d)
 unfolding tracks_of
 written_then_read n d values h room l e =
     let v = patterns values in

@@ -7,19 +7,18 @@ use mathlib.Core.List.{List, ◌++◌}
 use lib.Ieee.{Float, binary64, of_bits}
 use lib.ListN.{length, take, drop, length-map}
 use lib.Seq.{take_at}
-use Rattle.kernel.specs.Answer.{Outcome, answered}
+use Rattle.kernel.specs.Answer.{Outcome}
 use Rattle.kernel.specs.Bytes.{Bytes}
 use Rattle.kernel.specs.Lists.{over}
 use Rattle.tracks.specs.Layout.{fields}
 use Rattle.tracks.specs.Read.{TrackList, reading}
 use Rattle.tracks.specs.Write.{written}
 use Rattle.tracks.specs.Calls.{doubles, patterns, joined, read_answer, read_values, write_answer, write_bytes}
-use Rattle.tracks.specs.declared.read.ReadList.TheVariants as ReadList
-use Rattle.tracks.specs.declared.write.WrittenList.TheVariants as WrittenList
 use Rattle.tracks.proofs.Numbers.Values.{Doubles}
 use Rattle.tracks.proofs.Reading.Known.{read_accepted, reading-fits, reading_met}
 use Rattle.tracks.proofs.Records.Bytes.{write_accepted}
 use Rattle.tracks.proofs.RoundTrip.BothWays.{accepted_fit, joined_fit, read_then_written, written_then_read}
+use Rattle.std.specs.Prelude.{Ok}
 
 -- ---- what stands in front of lent memory
 
@@ -34,15 +33,15 @@ front old new n e = ap (take n) (over-front old new) ∙ take_at new (drop (leng
 
 -- What `read_list` leaves in any slice that is long enough, the first count * fields values of it, given to `write_list` with the answered count and
 -- dimension and any buffer that is long enough, gives the list's bytes in front of what the buffer held.
-pub read_write_calls : (l : List ℕ) → Bytes l → (old : List Float) (n d : ℕ) → read_answer (reading l (length old)) ≡ ReadList.Read n d
+pub read_write_calls : (l : List ℕ) → Bytes l → (old : List Float) (n d : ℕ) → read_answer (reading l (length old)) ≡ Ok (record { count = n; dimension = d })
     → (out : List ℕ) → length l ≤ length out
     → let values = take (n * fields d) (read_values (reading l (length old)) old) in
-    (write_answer (written n d (patterns values) (length out)) ≡ WrittenList.Length (length l)) × (write_bytes (written n d (patterns values) (length out)) out ≡ l ++ drop (length l) out)
+    (write_answer (written n d (patterns values) (length out)) ≡ Ok (length l)) × (write_bytes (written n d (patterns values) (length out)) out ≡ l ++ drop (length l) out)
 read_write_calls l h old n d e out room = let a = read_accepted (reading l (length old)) e in by a.0 a.1 a.2 a.3
   where
-    by : (c : TrackList) → reading l (length old) ≡ answered c → n ≡ length c.tracks → d ≡ c.dimension
+    by : (c : TrackList) → reading l (length old) ≡ Ok c → n ≡ length c.tracks → d ≡ c.dimension
         → let values = take (n * fields d) (read_values (reading l (length old)) old) in
-        (write_answer (written n d (patterns values) (length out)) ≡ WrittenList.Length (length l)) × (write_bytes (written n d (patterns values) (length out)) out ≡ l ++ drop (length l) out)
+        (write_answer (written n d (patterns values) (length out)) ≡ Ok (length l)) × (write_bytes (written n d (patterns values) (length out)) out ≡ l ++ drop (length l) out)
     by c ok p q =
         let accepted = reading_met l (length old) ok in
         let v = joined c.tracks in
@@ -54,10 +53,10 @@ read_write_calls l h old n d e out room = let a = read_accepted (reading l (leng
 
 -- For every accepted set of values: what `write_list` leaves in any buffer that is long enough, the first bytes of it up to the answered length, read
 -- into any slice that is long enough, gives the count, the dimension and the values, in front of what the slice held.
-pub write_read_calls : (n d : ℕ) (values : List Float) → Doubles values → (out : List ℕ) (k : ℕ) → write_answer (written n d (patterns values) (length out)) ≡ WrittenList.Length k
+pub write_read_calls : (n d : ℕ) (values : List Float) → Doubles values → (out : List ℕ) (k : ℕ) → write_answer (written n d (patterns values) (length out)) ≡ Ok k
     → (old : List Float) → n * fields d ≤ length old
     → let l = take k (write_bytes (written n d (patterns values) (length out)) out) in
-    (read_answer (reading l (length old)) ≡ ReadList.Read n d) × (read_values (reading l (length old)) old ≡ values ++ drop (length values) old)
+    (read_answer (reading l (length old)) ≡ Ok (record { count = n; dimension = d })) × (read_values (reading l (length old)) old ≡ values ++ drop (length values) old)
 write_read_calls n d values h out k e old room =
     let a = write_accepted (written n d (patterns values) (length out)) e in
     let l = a.0 in

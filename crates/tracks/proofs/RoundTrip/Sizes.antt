@@ -7,7 +7,6 @@ use mathlib.Core.Bool.{Bool, true, false, cond}
 use mathlib.Core.List.{List, [], ◌∷◌, ◌++◌, flat_map}
 use borrow.Author.Tests.{leb-true}
 use lib.ListN.{length, get_or, take, drop, length-append, length-drop}
-use Rattle.kernel.specs.Answer.{answered}
 use Rattle.kernel.specs.Bytes.{Bytes, bytes}
 use Rattle.kernel.specs.Lists.{tabulate}
 use Rattle.kernel.proofs.Lists.{length-tabulate}
@@ -19,9 +18,10 @@ use Rattle.tracks.proofs.Numbers.Bits.{packed_lt}
 use Rattle.tracks.proofs.Numbers.Fields.{one_bit_each, most_fields}
 use Rattle.tracks.proofs.Reading.Accepted.{contents_met, dimension-small}
 use Rattle.tracks.proofs.Slices.Lists.{get_d_more, flat_map_more}
-use Rattle.tracks.proofs.Records.Bytes.{field-some, record-length, stored-size, list_length}
+use Rattle.tracks.proofs.Records.Bytes.{field_some, record_length, stored-size, list_length}
 use Rattle.tracks.proofs.Numbers.Values.{Words, all_more}
 use Rattle.tracks.proofs.RoundTrip.BothWays.{Fits, accepted_fit, accepted_records, list-accepted, cut_fit}
+use Rattle.std.specs.Prelude.{Ok}
 
 -- a record of at most 54 fields has at most 7 + 8 * 54 bytes
 records_size : (d : ℕ) (ts : List Track) → fields d ≤ 54 → Fits (fields d) ts → length (records_of d ts) ≤ 439 * length ts
@@ -30,10 +30,10 @@ records_size d [] le h = omega arith
 records_size d (t ∷ ts) le h =
     let p = (h 0 (omega arith)).long in
     let rest = records_size d ts le (λ k lt. h (suc k) (omega arith)) in
-    omega (arith, length-append (record_of d t) (records_of d ts), record-length d t, stored-size t.values, p, one_bit_each d, rest)
+    omega (arith, length-append (record_of d t) (records_of d ts), record_length d t, stored-size t.values, p, one_bit_each d, rest)
 
 -- An accepted list has at most 14,050 bytes.
-pub accepted-size : (l : List ℕ) → Bytes l → (c : TrackList) → contents l ≡ answered c → length l ≤ 14050
+pub accepted-size : (l : List ℕ) → Bytes l → (c : TrackList) → contents l ≡ Ok c → length l ≤ 14050
 accepted-size l h c e =
     let w = contents_met l e in
     let most = most_fields c.dimension (dimension-small c.dimension w.sized) in
@@ -108,7 +108,7 @@ ones_stored : (n : ℕ) → length (stored_bytes (ones n)) ≡ 8 * n
 unfolding stored_bytes flat_map tabulate
 ones_stored zero = refl
 ones_stored (suc n) =
-    let eight : length (field_bytes one_bits) ≡ 8 = ap length (field-some one_bits (λ e. omega arith)) ∙ length-bytes 8 one_bits in
+    let eight : length (field_bytes one_bits) ≡ 8 = ap length (field_some one_bits (λ e. omega arith)) ∙ length-bytes 8 one_bits in
     omega (arith, ones_stored n, ap length (flat_map_more field_bytes (ones n) one_bits), length-append (stored_bytes (ones n)) (field_bytes one_bits), eight)
 
 nine : fields 9 ≡ 54
@@ -116,7 +116,7 @@ unfolding fields
 nine = refl
 
 -- A list of 14,050 bytes is accepted.
-pub largest-list : (l : List ℕ) × (c : TrackList) × Bytes l × (contents l ≡ answered c) × (length l ≡ 14050)
+pub largest-list : (l : List ℕ) × (c : TrackList) × Bytes l × (contents l ≡ Ok c) × (length l ≡ 14050)
 unfolding tracks_of
 largest-list =
     let c = track_list 32 9 (ones 1728) in

@@ -12,7 +12,6 @@ use borrow.Author.Tests.{eqb-false}
 use lib.Dec.{eqb}
 use lib.ListN.{length, get_or, take, drop, length-append, length-drop, get_or-append, get_or-eq_default}
 use lib.Seq.{get_or-take, get_or-drop, get_or_at, length-take-le, ext_get_or}
-use Rattle.kernel.specs.Answer.{answered}
 use Rattle.tracks.specs.Layout.{part, fields, map_bits, map_bytes, stands, spare, finite_bits}
 use Rattle.kernel.specs.Bytes.{Bytes, bytes, word}
 use Rattle.tracks.specs.Read.{Item, Track, item_of, after_map, field, items, track, push}
@@ -24,13 +23,14 @@ use Rattle.tracks.proofs.Numbers.Bits.{byte-packed, packed-same, none_each}
 use Rattle.kernel.proofs.Words.{word_lt, word_bytes}
 use Rattle.tracks.proofs.Slices.Lists.{get_d_more}
 use Rattle.kernel.proofs.Lists.{length-tabulate, get_d_tabulate}
-use Rattle.tracks.proofs.Records.Bytes.{field-none, field-some}
+use Rattle.tracks.proofs.Records.Bytes.{field_none, field_some}
 use Rattle.tracks.proofs.Numbers.Values.{Words, all_more}
 use Rattle.tracks.proofs.Reading.Stream.{Part, parts_join, read_bytes}
+use Rattle.std.specs.Prelude.{Ok}
 
 -- ---- its fields
 
-field-part : (l : List ℕ) (map : ℕ) → Bytes l → (k at : ℕ) (x : Item ℕ) → at ≤ length l → field l map k at ≡ answered x → Part l at x.next (field_bytes x.value)
+field-part : (l : List ℕ) (map : ℕ) → Bytes l → (k at : ℕ) (x : Item ℕ) → at ≤ length l → field l map k at ≡ Ok x → Part l at x.next (field_bytes x.value)
 field-part l map h k at x le e =
     ⊎_elim
     (λ (s : (stands l map k ≡ true) × Stored l at x).
@@ -42,14 +42,14 @@ field-part l map h k at x le e =
       bytes = ap (part l at) n ∙ ap (λ (k : ℕ). take k (drop at l)) (add-sub_cancel_left at 8)
           ∙ word_bytes l at h s.1.there
           ∙ ap (bytes 8) (sym v)
-          ∙ sym (field-some x.value (λ z. eqb-false (word l at) 0 s.1.nonzero (sym v ∙ z)));
+          ∙ sym (field_some x.value (λ z. eqb-false (word l at) 0 s.1.nonzero (sym v ∙ z)));
     })
     (λ (s : (stands l map k ≡ false) × (x ≡ record { value = 0; next = at })).
     let n : x.next ≡ at = ap (λ (y : Item ℕ). y.next) s.1 in
     record {
       from = omega (arith, n);
       within = omega (arith, n);
-      bytes = (let z : x.next - at ≡ 0 = omega (arith, n) in ap (λ (i : ℕ). take i (drop at l)) z) ∙ sym (field-none x.value (ap (λ (y : Item ℕ). y.value) s.1));
+      bytes = (let z : x.next - at ≡ 0 = omega (arith, n) in ap (λ (i : ℕ). take i (drop at l)) z) ∙ sym (field_none x.value (ap (λ (y : Item ℕ). y.value) s.1));
     })
     (field_met l map k at e)
 
@@ -61,7 +61,7 @@ pub record Fields (l : List ℕ) (map k : ℕ) (v : List ℕ) : Type 0 where
   pub bits : (i : ℕ) → i < k → stands l map i ≡ nonzero (get_or v i 0)
 
 -- one field more
-field_more : (l : List ℕ) (map : ℕ) → Bytes l → (k : ℕ) (xs : Item (List ℕ)) (x : Item ℕ) → Fields l map k xs.value → field l map k xs.next ≡ answered x → Fields l map (k + 1) (push xs x).value
+field_more : (l : List ℕ) (map : ℕ) → Bytes l → (k : ℕ) (xs : Item (List ℕ)) (x : Item ℕ) → Fields l map k xs.value → field l map k xs.next ≡ Ok x → Fields l map (k + 1) (push xs x).value
 field_more l map h k xs x p e =
     let one : (finite_bits x.value ≡ true) × (x.value < 2 ^ 64) × (stands l map k ≡ nonzero x.value) = ⊎_elim
     (λ (s : (stands l map k ≡ true) × Stored l xs.next x).
@@ -81,7 +81,7 @@ field_more l map h k xs x p e =
           (eq-or-lt_of_le (omega arith));
     }
 
-fields_read : (l : List ℕ) (map base : ℕ) → Bytes l → (k : ℕ) (ys : Item (List ℕ)) → items (field l map) base k ≡ answered ys → Fields l map k ys.value
+fields_read : (l : List ℕ) (map base : ℕ) → Bytes l → (k : ℕ) (ys : Item (List ℕ)) → items (field l map) base k ≡ Ok ys → Fields l map k ys.value
 unfolding all_finite
 fields_read l map base h =
     items_ind (field l map) base (λ k ys. Fields l map k ys.value) (record { long = refl; finite = refl; words = λ i. omega arith; bits = λ i le. absurd (omega arith) }) (field_more l map h)
@@ -129,7 +129,7 @@ pub record Read (l : List ℕ) (d at : ℕ) (t : Item Track) : Type 0 where
   pub fields : Fields l at (fields d) t.value.values
   pub bytes : Part l at t.next (record_of d t.value)
 
-pub track_read : (l : List ℕ) (d at : ℕ) → Bytes l → (t : Item Track) → track l d at ≡ answered t → Read l d at t
+pub track_read : (l : List ℕ) (d at : ℕ) → Bytes l → (t : Item Track) → track l d at ≡ Ok t → Read l d at t
 unfolding record_of stored_bytes
 track_read l d at h t e =
     let m = track_met l d at t e in

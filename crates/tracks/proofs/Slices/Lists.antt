@@ -1,5 +1,5 @@
 -- Laws of lists one after another and of their places: `flat_map_more` and `joined_more` for one list more, `row_next` for its place, `over-two`
--- for two elements in front.
+-- for two elements in front, `put_mid_over` for a part that is written, `front_copied` and `word_copied` for what is copied.
 use Prim.Native.Nat.{ℕ, zero, suc, ◌+◌, ◌-◌, ◌*◌, ◌<◌, ◌≤◌}
 use native.Mathlib.Omega.{arith}
 use native.Mathlib.Nat.{suc-mul, le_of_suc-le-suc, add-zero, le_refl}
@@ -7,7 +7,12 @@ use native.Mathlib.Numerals.{add-one}
 use mathlib.Core.Path.{◌≡◌, refl, sym, ap, ◌∙◌, subst}
 use mathlib.Core.List.{List, [], ◌∷◌, ◌++◌, map, flat_map, append_assoc, append-nil}
 use lib.ListN.{length, get_or, take, drop, set, length-append}
-use lib.Seq.{take-suc}
+use lib.Seq.{take-suc, drop-drop, length-take-le}
+use Rattle.std.specs.Int.{to_le_bytes}
+use Rattle.kernel.specs.Bytes.{bytes}
+use Rattle.kernel.proofs.Words.{bytes_8, length-bytes}
+use Rattle.std.proofs.Common.{w64}
+use borrow.Rule.Slice.PartMut.{put_mid}
 use Rattle.kernel.specs.Lists.{tabulate, over}
 use Rattle.kernel.proofs.Lists.{tabulate_more, over-set, over_more, over-over}
 use Rattle.tracks.specs.Read.{Track}
@@ -74,6 +79,23 @@ get_d_more P d [] x n h p zero = p
 get_d_more P d [] x n h p (suc i) = n
 get_d_more P d (y ∷ l) x n h p zero = h 0
 get_d_more P d (y ∷ l) x n h p (suc i) = get_d_more P d l x n (λ j. h (suc j)) p i
+
+-- a part that is written
+pub over_front : {A : Type 0} (l y : List A) (n : ℕ) → n ≡ length y → y ++ drop n l ≡ over l 0 y
+unfolding over
+over_front l y n e = let z : n ≡ 0 + length y = omega (arith, e) in ap (λ (i : ℕ). y ++ drop i l) z
+
+pub put_mid_over : {A : Type 0} (l y : List A) (at n : ℕ) → n ≡ length y → put_mid at n l y ≡ over l at y
+unfolding over
+put_mid_over {A = A} l y at n e = ap (λ (u : List A). take at l ++ (y ++ u)) (drop-drop n at l ∙ ap (λ (k : ℕ). drop (at + k) l) e)
+
+-- the first elements of another list, copied to the front
+pub front_copied : {A : Type 0} (from to y : List A) (n : ℕ) → n ≤ length from → y ≡ take n from → y ++ drop n to ≡ over to 0 (take n from)
+front_copied from to y n h e = rw e (over_front to (take n from) n (sym (length-take-le n from h)))
+
+-- the eight bytes of a number, copied to a place
+pub word_copied : (l y : List ℕ) (at n x : ℕ) → y ≡ to_le_bytes w64 x → n ≡ 8 → put_mid at n l y ≡ over l at (bytes 8 x)
+word_copied l y at n x e s = ap (put_mid at n l) (e ∙ sym (bytes_8 x)) ∙ put_mid_over l (bytes 8 x) at n (s ∙ sym (length-bytes 8 x))
 
 -- two elements in front, and a part after them
 pub over-two : {A : Type 0} (old : List A) (a b : A) (new : List A) → 2 ≤ length old → over (set (set old 0 a) 1 b) 2 new ≡ over old 0 (a ∷ b ∷ new)

@@ -7,31 +7,32 @@ use mathlib.Core.Path.{◌≡◌, sym, ap, ◌∙◌}
 use mathlib.Core.List.{List, [], ◌∷◌, ◌++◌, map-append}
 use lib.ListN.{length, length-append, length-map}
 use lib.Ieee.{Float, binary64, of_bits}
-use Rattle.kernel.specs.Answer.{Outcome, answered}
+use Rattle.kernel.specs.Answer.{Outcome}
 use Rattle.kernel.proofs.Answers.{answered_inj}
 use Rattle.tracks.specs.Read.{Item, items, push}
 use Rattle.tracks.specs.Calls.{doubles}
 use Rattle.tracks.specs.Private.{Puts}
 use Rattle.tracks.proofs.Reading.Items.{items_at, items_more}
 use Rattle.tracks.proofs.Slices.Laid.{Laid, laid_more, laid_all}
+use Rattle.std.specs.Prelude.{Ok}
 
 -- the first k of n items are read, and end at an offset; their fields stand in the slice from i on, and end at `to`
 pub record Putting {A : Type 0} (read : ℕ → ℕ → Outcome (Item A)) (start : ℕ) (fields_of : List A → List ℕ) (old : List Float) (i n k at to : ℕ) (new : List Float) : Type 0 where
   pub turns : k ≤ n
   pub taken : Item (List A)
-  pub accepted : items read start k ≡ answered taken
+  pub accepted : items read start k ≡ Ok taken
   pub end : at ≡ taken.next
   pub laid : Laid old i (doubles (fields_of taken.value)) to new
 
 -- item k, after those before it and at the offset where a loop reads it
 pub record Coming {A : Type 0} (read : ℕ → ℕ → Outcome (Item A)) (k end at : ℕ) : Type 0 where
   pub item : Item A
-  pub after : read k end ≡ answered item
-  pub here : read k at ≡ answered item
+  pub after : read k end ≡ Ok item
+  pub here : read k at ≡ Ok item
 
 module _ {A : Type 0} {read : ℕ → ℕ → Outcome (Item A)} {start : ℕ} {fields_of : List A → List ℕ} {old : List Float} {i n k at to : ℕ} {new : List Float}
     (w : Putting read start fields_of old i n k at to new) where
-  pub put_next : {ys : Item (List A)} → items read start n ≡ answered ys → k < n → Coming read k w.taken.next at
+  pub put_next : {ys : Item (List A)} → items read start n ≡ Ok ys → k < n → Coming read k w.taken.next at
   put_next {ys} e h =
       let x = items_at read start k n w.taken ys h e w.accepted in
       record { item = x.0; after = x.1; here = ap (read k) w.end ∙ x.1 }

@@ -19,7 +19,7 @@ use Rattle.tracks.specs.Layout.{fields}
 use Rattle.merge.specs.Rows.{Row, is_track}
 use Rattle.merge.specs.Buffer.{TrackOrNone}
 use Rattle.merge.specs.Private.{Values, fusion_of, after_fusion, pass_at, passed_row}
-use Rattle.merge.proofs.Buffers.Appending.{Growing, no_turn, appended_one, tabulated_turn, tabulated_rest, every_turn, verdict-put}
+use Rattle.merge.proofs.Buffers.Appending.{Growing, no_turn, appended_one, tabulated_turn, tabulated_rest, every_turn, verdict_put}
 use Rattle.merge.proofs.fusing.fuse_rows.Statement.{statement}
 use Rattle.merge.proofs.fusing.fuse_rows.Tie as tie
 
@@ -116,7 +116,7 @@ loop-i-preserved c =
     let first = still t (4 * i.i) (omega arith) in
     let second = still t (4 * i.i + 1) (omega arith) in
     let third = still t (4 * i.i + 2) (omega arith) in
-    let put = verdict-put i.rows (4 * i.i) first second third (ap (λ (z : ℕ × List Float). z.0) p) (omega (arith, i.invariant.0.long, room)) in
+    let put = verdict_put i.rows (4 * i.i) first second third (ap (λ (z : ℕ × List Float). z.0) p) (omega (arith, i.invariant.0.long, room)) in
     let slot = ap (λ (z : ℕ × List Float). z.1) p in
     let long = sym (ap length slot) ∙ c.verdict_after-v.auto.base ∙ row-lent i.invariant.1 h in
     (tabulated_turn (at_row s) i.invariant.0 h room (appended_one true (at_row s i.i) refl refl put), row_written i.invariant.1 h (slot ∙ own_entries _ (passing c.before.before.before.before).1 long))
@@ -137,7 +137,7 @@ in-turn c = c.before.before.before.before.before.before.before
 pub fuse_rows_spec : {M : Type 1} → statement M
 fuse_rows_spec =
     tie.close
-    (tie.spec invariant-loop-i decreases-loop-i (λ c κs. c.requires.few) loop-i-init (λ c. omega (arith, fits c))
+    (tie.spec invariant-loop-i decreases-loop-i (λ c κs. omega (arith, c.requires.few)) loop-i-init (λ c. omega (arith, fits c))
     (λ c. omega (arith, in_rows c)) (λ c. omega (arith, in_rows c)) (λ c. (in_rows c.before).0)
     (λ c. omega (arith, in_rows c.before)) (λ c. omega (arith, in_rows c.before)) (λ c. omega (arith, in_rows c.before.before))
     (λ c. omega (arith, in_rows c.before.before)) (λ c. omega (arith, in_rows c.before.before)) (λ c. omega (arith, in_rows c.before.before.before))

@@ -10,6 +10,7 @@ use lib.ListN.{length, take}
 use lib.Seq.{length-take-le, length_front}
 use Rattle.dense.proofs.Laws.{front}
 use Rattle.compare.specs.Fields.{track_state, track_covariance}
+use Rattle.tracks.specs.Layout.{fields}
 use Rattle.pairing.specs.Keys.{nobody}
 use Rattle.merge.specs.Private.{keys_from}
 use Rattle.merge.proofs.Matching.Covariances.{covariance-entries, length-covariance, length-state, covariance-room}
@@ -68,7 +69,7 @@ put_keys-requires c κs =
     let h = start.requires in
     record {
       track = record { compares = h.compares; state = state start; covariance = length_in_front w _; room = length-take-le _ _ (size start) };
-      others = record { few = omega (arith, h.others.few, h.room); long = omega (arith, h.others.long, ap (λ (n : ℕ). n * start.args.terms.f) h.room) };
+      others = record { few = omega (arith, h.others.few, h.room); long = omega (arith, h.others.long, ap (λ (n : ℕ). n * fields start.args.terms.d) h.room) };
     }
 
 returns : tie.Need-returns

@@ -7,7 +7,7 @@ use lib.ListN.{get_or}
 use Rattle.pairing.specs.Keys.{nobody, is_free}
 use Rattle.merge.specs.Rows.{Row, selected}
 use Rattle.merge.specs.Private.{undecided_row, ours_group}
-use Rattle.merge.proofs.Buffers.Appending.{Growing, no_turn, selected-room, selected-turn, every_turn}
+use Rattle.merge.proofs.Buffers.Appending.{Growing, no_turn, selected_room, selected_turn, every_turn}
 use Rattle.merge.proofs.rows.ours_rows.Statement.{statement}
 use Rattle.merge.proofs.rows.ours_rows.Tie as tie
 
@@ -36,13 +36,13 @@ unfolding selected
 loop-j-init c = no_turn refl
 
 put_row-r-requires : tie.Need-put_row-r-requires invariant-loop-j decreases-loop-j
-put_row-r-requires c κs = let s = begun (turn c) in selected-room (wanted s) (at_row s) (turn c).loop-j.invariant (omega arith) s.requires
+put_row-r-requires c κs = let s = begun (turn c) in selected_room (wanted s) (at_row s) (turn c).loop-j.invariant (omega arith) s.requires
 
 -- the turn's row is one more, or none is
 loop-j-preserved : tie.Need-loop-j-preserved invariant-loop-j decreases-loop-j
 loop-j-preserved c =
     let s = begun (turn c.before.before.before) in
-    selected-turn (wanted s) (at_row s) (turn c.before.before.before).loop-j.invariant (omega arith) s.requires c.put_row-r.ensures
+    selected_turn (wanted s) (at_row s) (turn c.before.before.before).loop-j.invariant (omega arith) s.requires c.put_row-r.ensures
 
 returns : tie.Need-returns invariant-loop-j decreases-loop-j
 returns c = every_turn c.loop-j.invariant c.loop-j-test.false

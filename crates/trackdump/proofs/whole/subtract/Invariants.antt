@@ -1,6 +1,0 @@
--- The borrow is at most 1.
-use Rattle.std.proofs.Common.{◌≤◌}
-use Rattle.trackdump.proofs.whole.subtract.Given as goal
-
-abbrev pub invariant-loop-i : goal.invariant-loop-i
-invariant-loop-i l = l.borrow ≤ 1

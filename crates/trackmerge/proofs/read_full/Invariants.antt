@@ -1,6 +1,0 @@
--- What was read lies within the buffer.
-use Rattle.std.proofs.Common.{◌≤◌, length}
-use Rattle.trackmerge.proofs.read_full.Given as goal
-
-abbrev pub invariant-loop : goal.invariant-loop
-invariant-loop g l = l.done ≤ length l.buffer

@@ -1,0 +1,14 @@
+-- The tracks so far are checked, and where they start is stored.
+use Rattle.std.proofs.Common.{◌≡◌}
+use Rattle.kernel.specs.Lists.{tabulate}
+use Rattle.tracks.specs.Read.{tracks}
+use Rattle.tracks.specs.Record.{end_of}
+use Rattle.tracks.specs.Private.{ends}
+use Rattle.tracks.proofs.Slices.Laid.{Laid}
+use Rattle.tracks.proofs.read.check_tracks.Given as goal
+
+abbrev pub invariant-loop-j : goal.invariant-loop-j
+invariant-loop-j l = record {
+  told : l.end ≡ ends (tracks l.list l.size.dimension l.j);
+  laid : Laid l.fn.offsets 0 (tabulate l.j (λ j. end_of (tracks l.list l.size.dimension j))) l.j l.offsets;
+}
