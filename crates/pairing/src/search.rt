@@ -10,16 +10,18 @@ use crate::{Foremost, NOBODY};
 fn look_at(best: Option<Foremost>, key: f64, i: usize, j: usize) -> Option<Foremost>
     ensures { result ≡ look_at best key i j }
 {
-    let looked_at = Some(Foremost {
-        key,
-        first: i,
-        second: j,
-    });
-    match best {
-        Some(best) if key < best.key => looked_at,
-        None if key == key => looked_at,
-        _ => best,
+    let sooner = match best {
+        Some(best) => key < best.key,
+        None => key == key,
+    };
+    if sooner {
+        return Some(Foremost {
+            key,
+            first: i,
+            second: j,
+        });
     }
+    best
 }
 
 // The best so far, and then the pairs of first track i with the free second tracks.
