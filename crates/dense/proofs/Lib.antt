@@ -1,5 +1,6 @@
 pub mod Tests
 pub mod Answers
+pub mod Asked
 pub mod Filled
 pub mod Laws
 pub mod Signs

@@ -3,7 +3,7 @@
 use Prim.Native.Nat.{ℕ, zero, suc}
 use mathlib.Core.Bool.{Bool, true, false, cond}
 use mathlib.Core.List.{List}
-use mathlib.Core.Path.{◌≡◌, refl}
+use mathlib.Core.Path.{◌≡◌, refl, sym}
 use lib.Ieee.{Float, nan, inf, fin, lt, neg, of_bits}
 use Rattle.kernel.specs.Number.{abs}
 use Rattle.dense.specs.Matrix.{nth, max_abs}
@@ -42,6 +42,10 @@ second f z x y e p q = rw (p, q) at (tested_abs f z x y e)
 
 pub third : {A : Type 0} (f : Float → A) (z : A) (x y : Float) → abs x ≡ x → lt x y ≡ false → lt x (neg y) ≡ false → z ≡ cond (lt x (abs y)) (f (abs y)) z
 third f z x y e p q = rw (p, q) at (tested_abs f z x y e)
+
+-- a test of y and one of -y make x, which has no sign, at least |y|
+pub raised_either : (x y : Float) → abs x ≡ x → cond (lt x (abs y)) (abs y) x ≡ cond (lt x y) y (cond (lt x (neg y)) (neg y) x)
+raised_either x y e = sym (tested_abs (λ (z : Float). z) x x y e)
 
 -- ---- the greatest |entry|
 

@@ -3,6 +3,7 @@
 #![tactic(auto)]
 
 pub mod fill;
+pub mod questions;
 pub mod shape;
 pub mod sum;
 pub mod unit;

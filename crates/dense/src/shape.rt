@@ -89,7 +89,7 @@ pub fn entry(a: &[f64], n: usize, i: usize, j: usize) -> f64
     a[i * n + j]
 }
 
-// The n entries of a from start on.
+// The n entries of a from start on; n is no length that is known, it chooses the part.
 pub fn part(a: &[f64], start: usize, n: usize) -> &[f64]
     requires { start + n ≤ length a.now }
     ensures { (length result.now ≡ n) × (result.now ≡ take n (drop start a.now)) }
@@ -97,7 +97,7 @@ pub fn part(a: &[f64], start: usize, n: usize) -> &[f64]
     &a[start..start + n]
 }
 
-// Row i of a, a matrix of n columns.
+// Row i of a, a matrix of n columns, which choose the part.
 #[tactic(auto, unfolding(crate::specs::Matrix::row_of))]
 pub fn row(a: &[f64], n: usize, i: usize) -> &[f64]
     requires { i * n + n ≤ length a.now }

@@ -9,7 +9,7 @@ pub fn sum_from<F: Fn(usize) -> f64>(start: f64, n: usize, f: F) -> f64
     ensures { (g : ℕ → Float) → ((j : ℕ) (x : _) → j < n → F.post f j x → x ≡ g j) → result ≡ sum_from start n g }
 {
     let mut s = start;
-    // The loop that other crates call by a closure: a fold over the range is no plainer.
+    // A loop: of a fold over 0..n the check proves neither that f may be called at each turn, nor what the sum is.
     for j in 0..n {
         s = s + f(j);
     }
@@ -23,7 +23,7 @@ pub fn sum_rows_from<F: Fn(usize, usize) -> f64>(start: f64, m: usize, n: usize,
     ensures { (g : ℕ → ℕ → Float) → ((i j : ℕ) (x : _) → i < m → j < n → F.post f i j x → x ≡ g i j) → result ≡ sum_rows_from start m n g }
 {
     let mut s = start;
-    // The same through the rows.
+    // Likewise; by `sum_from` for each row it is not proved that its closure may call f, without clauses of its own.
     for i in 0..m {
         for j in 0..n {
             s = s + f(i, j);

@@ -41,6 +41,7 @@ pub fn norm(x: &[f64]) -> f64
 }
 
 // x, which has no sign, or |y| where that is greater: both tests seldom hold, where the sign of y is any.
+#[tactic(auto, using(crate::proofs::Signs::raised_either))]
 fn raised(x: f64, y: f64) -> f64
     requires { abs x ≡ x }
     ensures { result ≡ cond (lt x (abs y)) (abs y) x }

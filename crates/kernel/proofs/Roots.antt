@@ -4,3 +4,4 @@ pub mod NearestWhole
 pub mod RootPatterns
 pub mod SquareRoot
 pub mod Existence
+pub mod Tested

@@ -25,6 +25,7 @@ pub fn abs(x: f64) -> f64
 }
 
 // The greater of a and b; the other where one is a NaN, and a where they are equal.
+#[tactic(auto, using(crate::proofs::Doubles::Patterns::against_itself), unfolding(crate::specs::Number::max))]
 pub fn max(a: f64, b: f64) -> f64
     ensures { result ≡ max a b }
 {
@@ -54,6 +55,7 @@ pub fn constant(c: f64) -> f64
 // An estimate of one over the root of x, to some 25 binary digits where x is a normal number above 0: a guess at a root starts
 // from it, and no result depends on it. Half of a number's bit pattern, taken from a constant, is within 4 % of it; the polynomial
 // is near to t ^ (-1/2) for t from 0.93 to 1.07.
+#[tactic(auto, using(crate::proofs::Doubles::Patterns::against_itself, std::proofs::lemmas::Float::not_nan_f64_bits), unfolding(crate::specs::Estimate::reciprocal_root))]
 pub fn reciprocal_root(x: f64) -> f64
     ensures { result ≡ reciprocal_root x }
 {
@@ -72,6 +74,7 @@ pub fn reciprocal_root(x: f64) -> f64
 }
 
 // The first 26 binary digits of x, a number above 0.
+#[tactic(auto, using(crate::proofs::Doubles::Patterns::equal_number, std::proofs::lemmas::Float::not_nan_f64_bits))]
 fn head(x: f64) -> f64 {
     if x != x {
         return x;
@@ -94,6 +97,7 @@ fn guess(x: f64, root: f64, reciprocal: f64) -> f64 {
 
 // The square root of IEEE 754, rounded to the nearest double, where estimates of it and of one over it are at hand: any two
 // numbers do, and near ones make it quick.
+#[tactic(auto, using(crate::proofs::Doubles::Patterns::equal_number, std::proofs::lemmas::Float::not_nan_f64_bits, crate::proofs::Roots::Tested::tested))]
 pub fn sqrt_near(x: f64, root: f64, reciprocal: f64) -> f64
     ensures { result ≡ sqrt x }
 {

@@ -1,5 +1,5 @@
--- Laws of doubles and their bit patterns. What is no NaN: what equals itself (`equals_itself`), what is above 0 (`positive_no_nan`), what has, below the sign, a pattern
--- up to that of +infinity (`no_nan-pattern`). `pattern-value`: a pattern below those of the infinities has the sign and the size of its fields; `positive-pattern`: the pattern of a
+-- Laws of doubles and their bit patterns. What is no NaN: what equals itself (`equals_itself`, `equal_number`; `unequal_nan`: what does not, is one), and what is above 0
+-- (`positive_no_nan`). `pattern-value`: a pattern below those of the infinities has the sign and the size of its fields; `positive-pattern`: the pattern of a
 -- finite double above 0 lies between 0 and infinity's, and shows its size. `pattern-size` and `pattern-positive`: the same from the pattern to the double.
 use Prim.Native.Nat.{ℕ, zero, suc, ◌+◌, ◌*◌, ◌/◌, ◌%◌, ◌^◌, ◌≤◌, ◌<◌}
 use native.Mathlib.Nat.{pos_of_ne-zero, mod-eq_of_lt, mod-lt, mul-div_cancel, mul-one, zero-add, eq-or-lt_of_le}
@@ -9,9 +9,10 @@ use mathlib.Core.Path.{◌≡◌, refl, sym, ap, ◌∙◌, subst, subst⁻¹}
 use mathlib.Core.Logic.{⊎_elim}
 use mathlib.Core.Bool.{Bool, true, false, not, cond}
 use lib.Dec.{T, leb, eqb}
-use borrow.Author.Tests.{le-ltb, lt-leb, leb-false, ne_eqb}
-use lib.Ieee.{Float, nan, inf, fin, binary64, is_nan, nan_bits, ne, fits, of_bits, to_bits, of_fields, odd, down}
-use lib.Ieee.Bits.{nan_bits_above, of_bits-to_bits}
+use borrow.Author.Tests.{lt-leb, leb-false, ne_eqb}
+use lib.Ieee.{Float, nan, inf, fin, binary64, is_nan, ne, fits, of_bits, to_bits, of_fields, odd, down}
+use lib.Ieee.Bits.{of_bits-to_bits, is_false}
+use lib.Ieee.Compare.{differs_from_itself}
 use lib.Ieee.Exact.{HasValue, odd_sign}
 use lib.Ieee.Fits.{down_pos}
 use lib.Ieee.Scale.{finite}
@@ -26,16 +27,22 @@ equals_itself nan p = absurd (subst T p tt)
 equals_itself (inf s) p = tt
 equals_itself (fin s m e) p = tt
 
+-- the test of x against itself says whether x is a NaN
+pub equal_number : (x : Float) → ne x x ≡ false → is_nan x ≡ false
+equal_number x p = is_false (is_nan x) (equals_itself x p)
+
+pub unequal_nan : (x : Float) → ne x x ≡ true → is_nan x ≡ true
+unfolding is_nan
+unequal_nan x p = ap is_nan (differs_from_itself x (subst T (sym p) tt))
+
+-- what the test of a value against itself says
+pub ruleset against_itself = (equal_number, unequal_nan)
+
 pub positive_no_nan : (x : Float) → T (positive x) → T (not (is_nan x))
 unfolding is_nan
 positive_no_nan nan h = h
 positive_no_nan (inf s) h = tt
 positive_no_nan (fin s m e) h = tt
-
--- a pattern that is, below the sign, up to that of +infinity is no NaN's
-pub no_nan-pattern : (p : ℕ) → p % 0x8000_0000_0000_0000 ≤ 0x7FF0_0000_0000_0000 → T (not (nan_bits binary64 p))
-no_nan-pattern p h =
-    subst⁻¹ (λ (b : Bool). T (not b)) (nan_bits_above binary64 p ∙ le-ltb 0x7FF0_0000_0000_0000 (p % 0x8000_0000_0000_0000) h) tt
 
 -- ---- the size of the double with a pattern
 

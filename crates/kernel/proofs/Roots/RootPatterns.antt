@@ -8,6 +8,7 @@ use mathlib.Core.Path.{◌≡◌, refl, sym, ap, ◌∙◌, subst}
 use mathlib.Core.Logic.{⊎_elim}
 use mathlib.Core.Bool.{Bool, true, false, cond}
 use lib.Pow.{pow_pos, pow_mono, pow-add}
+use lib.Count.{count_leading_zeros, leading_top}
 use borrow.Author.Tests.{lt-ltb, le-ltb, ltb-true, ltb-false}
 use Rattle.kernel.specs.Sqrt.{square, scaled_bits, greatest, not_above, root_pattern}
 use Rattle.kernel.specs.Private.{Nearest, RootOf}
@@ -150,13 +151,33 @@ root_of digits e r h k n =
 pub moved_up : (b m s k n : ℕ) → m ≡ b * 2 ^ s → s + k ≡ n → b * 2 ^ n ≡ m * 2 ^ k
 moved_up b m s k n e f = ap (λ (x : ℕ). b * 2 ^ x) (sym f) ∙ ap (λ (x : ℕ). b * x) (pow-add 2 s k) ∙ sym (mul_assoc b (2 ^ s) (2 ^ k)) ∙ ap (λ (x : ℕ). x * 2 ^ k) (sym e)
 
--- with 53 digits it has moved by at most 52 places
-pub places : (b s : ℕ) → 0 < b → b * 2 ^ s < 2 ^ 53 → s ≤ 52
-places b s h l = go (dec_lt s 53)
+-- a number whose highest digit stands at place j has it at place 52 once it is moved up by the places between
+lifted : (b j s : ℕ) → s + j ≡ 52 → 2 ^ j ≤ b → b < 2 ^ suc j → (2 ^ 52 ≤ b * 2 ^ s) × (b * 2 ^ s < 2 ^ 53)
+lifted b j s e low high =
+    let here : 2 ^ (s + j) ≡ 2 ^ s * 2 ^ j = pow-add 2 s j in
+    let next : 2 ^ (s + suc j) ≡ 2 ^ s * 2 ^ suc j = pow-add 2 s (suc j) in
+    let full : s + suc j ≡ 53 = omega arith in
+    (omega (arith, rw e at here, mul-le-mul_right (2 ^ s) low), omega (arith, rw full at next, mul-lt-mul_of_pos_right high (pow_pos s)))
+
+-- a number without a leading digit has one once it is moved up by its leading zeros, but for the 11 before that digit's place
+pub record Moves (b z : ℕ) : Type 0 where
+  pub before : 11 ≤ z
+  pub places : z - 11 ≤ 52
+  pub least : 2 ^ 52 ≤ b * 2 ^ (z - 11)
+  pub most : b * 2 ^ (z - 11) < 2 ^ 53
+
+pub moves : (b : ℕ) → 0 < b → b < 2 ^ 52 → Moves b (count_leading_zeros 64 b)
+moves b h l = go (leading_top 64 b h (omega arith))
   where
-    go : Dec (s < 53) → s ≤ 52
-    go (yes k) = omega arith
-    go (no k) = let m : 2 ^ 53 ≤ 2 ^ s = pow_mono {i = 53} {j = s} (omega arith) in absurd (omega (arith, mul-le-mul h m))
+    below : (j : ℕ) → 2 ^ j ≤ b → Dec (j < 52) → j < 52
+    below j low (yes k) = k
+    below j low (no k) = let m : 2 ^ 52 ≤ 2 ^ j = pow_mono {i = 52} {j = j} (omega arith) in absurd (omega arith)
+
+    go : (j : ℕ) × (count_leading_zeros 64 b + suc j ≡ 64) × (2 ^ j ≤ b) × (b < 2 ^ suc j) → Moves b (count_leading_zeros 64 b)
+    go (j, e, low, high) =
+        let k = below j low (dec_lt j 52) in
+        let up = lifted b j (count_leading_zeros 64 b - 11) (omega arith) low high in
+        record { before = omega arith; places = omega arith; least = up.0; most = up.1 }
 
 -- a double without a leading digit, moved up by s places until it has one
 pub subnormal_argument : (b m s : ℕ) → b < 2 ^ 52 → s ≤ 52 → m ≡ b * 2 ^ s → 2 ^ 52 ≤ m → scaled_bits b * 2 ^ 1074 ≡ (2 ^ 52 + (m - 2 ^ 52)) * 2 ^ (52 + (1022 - s))

@@ -52,7 +52,8 @@ fn by_digits(w: u64) -> u64
     let mut root = 0;
     let mut rest = w;
     let mut t = LEAD;
-    // Steps: a digit a turn.
+    // Each digit goes on from the one before, and the turn is named for the invariant alone. Of a fold of root, rest and
+    // t it stayed open that its closure may be called at each turn, and what it gives.
     for turn in 0..52u64 {
         let step = 2 * root + t;
         if step <= rest {
@@ -74,6 +75,7 @@ fn by_digits(w: u64) -> u64
 
 // The bit pattern of the root of x, where x * 2 ^ 1074 is (2 ^ 52 + digits) * 2 ^ (52 + e): half of the exponent and the
 // significand. x is scaled by 2 ^ 1074.
+#[tactic(auto, using(crate::proofs::Roots::RootPatterns::root_of))]
 fn pattern(digits: u64, e: u64) -> u64
     requires { (digits < 2 ^ 52) × (e < 3069) }
     ensures { RootOf digits e result }
@@ -81,22 +83,18 @@ fn pattern(digits: u64, e: u64) -> u64
     e / 2 * LEAD + by_digits((LEAD + digits) * (1 + e % 2))
 }
 
-// The bit pattern of the root of a double without a leading digit, whose bit pattern is b: doubled until it has one.
+// The bit pattern of the root of a double without a leading digit, whose bit pattern is b: moved up until it has one.
 fn subnormal_pattern(b: u64) -> u64
     requires { (0 < b) × (b < 2 ^ 52) }
     ensures { (result ≡ root_pattern (scaled_bits b)) × (result < 0x7FF0_0000_0000_0000) }
 {
-    let mut m = b;
-    let mut shift = 0u64;
-    // Doublings are counted here, and no index.
-    while m < LEAD {
-        m = 2 * m;
-        shift = shift + 1;
-    }
-    pattern(m - LEAD, 1022 - shift)
+    let shift = b.leading_zeros() - 11;
+    let m = b << shift;
+    pattern(m - LEAD, 1022 - u64::from(shift))
 }
 
 // The bit pattern of the root of the finite double above 0 with the bit pattern b.
+#[tactic(auto, using(crate::proofs::Roots::RootPatterns::normal_argument))]
 pub(crate) fn root_pattern(b: u64) -> u64
     requires { (0 < b) × (b < 0x7FF0_0000_0000_0000) }
     ensures { (result ≡ root_pattern (scaled_bits b)) × (result < 0x7FF0_0000_0000_0000) }
@@ -109,6 +107,7 @@ pub(crate) fn root_pattern(b: u64) -> u64
 
 // Whether g is the root of the finite double above 0 with the bit pattern b; where b has no leading digit, or g is far off,
 // the answer is no, untried.
+#[tactic(auto, using(crate::proofs::Doubles::Patterns::equals_itself, crate::proofs::Roots::RootPatterns::root_of, crate::proofs::Roots::RootPatterns::normal_argument))]
 pub(crate) fn is_root(b: u64, g: f64) -> bool
     requires { (0 < b) × (b < 0x7FF0_0000_0000_0000) }
     ensures { result ≡ true → to_bits binary64 g ≡ root_pattern (scaled_bits b) }

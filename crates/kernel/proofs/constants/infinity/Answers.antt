@@ -1,3 +1,4 @@
+-- The quotient by which std defines infinity has the bits of ours.
 use Rattle.std.proofs.Common.{refl}
 use lib.Ieee as Ieee
 use lib.Ieee.{of_bits}

@@ -1,26 +1,22 @@
--- `abs` meets its contract: below zero, at a zero, and elsewhere.
-use mathlib.Core.Path.{◌≡◌, refl, sym, ap, ◌∙◌, subst}
-use Prim.Native.Nat.{zero, suc, ◌*◌}
+-- Case by case of x: the tests against 0.0 tell its sign, and a zero that the format holds is 0 * 2 ^ 0.
+use Rattle.std.proofs.Common.{arith, ◌*◌, zero, suc, ◌≡◌, refl, sym, ap, ◌∙◌, subst, true, false, T}
 use native.Mathlib.Nat.{pow-succ'}
-use native.Mathlib.Omega.{arith}
-use mathlib.Core.Bool.{true, false}
 use lib.IntN.{ℤ, pos, negsuc}
 use lib.Pow.{pow_pos}
-use lib.Dec.{T, eqb→eq}
+use lib.Dec.{eqb→eq}
 use lib.Ieee.{Float, nan, inf, fin, binary64, fits, of_bits, neg, up, down}
 use Rattle.kernel.specs.Number.{abs}
 use Rattle.kernel.proofs.Doubles.Signs.{+0, negative, is_zero, below-zero, equals_zero}
-use Rattle.kernel.proofs.number.abs.Statement.{statement}
-use Rattle.kernel.proofs.number.abs.Tie as tie
+use Rattle.kernel.proofs.number.abs.Goals as goal
 
-of_negative : (x : Float) → T (negative x) → neg x ≡ abs x
+of_negative : (x : Float) → negative x ≡ true → neg x ≡ abs x
 unfolding neg abs
-of_negative nan h = absurd h
-of_negative (inf true) h = refl
-of_negative (inf false) h = absurd h
-of_negative (fin s zero e) h = absurd h
-of_negative (fin true (suc m) e) h = refl
-of_negative (fin false (suc m) e) h = absurd h
+of_negative nan p = absurd (subst T (sym p) tt)
+of_negative (inf true) p = refl
+of_negative (inf false) p = absurd (subst T (sym p) tt)
+of_negative (fin s zero e) p = absurd (subst T (sym p) tt)
+of_negative (fin true (suc m) e) p = refl
+of_negative (fin false (suc m) e) p = absurd (subst T (sym p) tt)
 
 -- 2 ^ e is 1 only for e = 0, so a zero that the format holds is 0 * 2 ^ 0
 no_power : (e : ℤ) → up e * down e ≡ 1 → e ≡ pos 0
@@ -44,19 +40,14 @@ of_other (fin s zero e) p q = absurd (subst T q tt)
 of_other (fin true (suc m) e) p q = absurd (subst T p tt)
 of_other (fin false (suc m) e) p q = refl
 
-returns-then-x : tie.Need-returns-then-x
+pub returns-then-x : goal.returns-then-x
 unfolding of_bits
-returns-then-x c = let x = c.before.args.x in of_negative x (subst T (sym c.if-x.true ∙ below-zero x) tt)
+returns-then-x c = of_negative c.args.x (sym (below-zero c.args.x) ∙ c.if-x.true)
 
-returns-then-x-2 : tie.Need-returns-then-x-2
+pub returns-then-x-2 : goal.returns-then-x-2
 unfolding of_bits
-returns-then-x-2 c =
-    let start = c.before.before in
-    let x = start.args.x in of_zero x (subst T (sym start.well_formed.0.1) tt) (subst T (sym c.if-x-2.true ∙ equals_zero x) tt)
+returns-then-x-2 c = of_zero c.args.x (subst T (sym c.well_formed.0.1) tt) (subst T (sym c.if-x-2.true ∙ equals_zero c.args.x) tt)
 
-returns : tie.Need-returns
+pub returns : goal.returns
 unfolding of_bits
-returns c = let x = c.before.before.args.x in of_other x (sym (below-zero x) ∙ c.before.if-x.false) (sym (equals_zero x) ∙ c.if-x-2.false)
-
-pub abs_spec : {M : Type 1} → statement M
-abs_spec = tie.close (tie.spec returns-then-x returns-then-x-2 returns)
+returns c = of_other c.args.x (sym (below-zero c.args.x) ∙ c.if-x.false) (sym (equals_zero c.args.x) ∙ c.if-x-2.false)
