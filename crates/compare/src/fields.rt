@@ -7,6 +7,7 @@ ghost use Rattle.compare.specs.Fields.{lower_field, covariance_entry, track_cova
 ghost use Rattle.compare.specs.Private.{HasFields};
 
 use crate::inside::track_covariance;
+use dense::questions::ask_shape;
 use dense::shape::{is_matrix, is_side};
 use kernel::question::Question;
 
@@ -42,15 +43,11 @@ fn is_track(v: &[f64], d: usize, out: &[f64]) -> bool
 }
 
 // The covariance of the track of dimension d whose fields stand first in v, as a whole matrix, into out.
+#[tactic(auto, using(dense::proofs::Tests::square_area, dense::proofs::Tests::side_high), unfolding(dense::specs::Matrix::has_length, crate::specs::Fields::whole_covariance))]
 pub fn whole_covariance(v: &[f64], d: usize, out: &mut [f64]) -> Result<(), Question>
     ensures { Leaves (whole_covariance v.now d out.old) out.old result out.new }
 {
-    if !is_side(d) {
-        return Err(Question::Side);
-    }
-    if !is_track(v, d, out) {
-        return Err(Question::Length);
-    }
+    ask_shape(is_side(d), || is_track(v, d, out))?;
     track_covariance(v, d, out);
     Ok(())
 }

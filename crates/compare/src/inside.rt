@@ -36,13 +36,12 @@ fn distance_after(
     mu: &[f64],
     x: &[f64],
     cov: &[f64],
-    n: usize,
 ) -> Result<f64, Question>
-    requires { Under x.now mu.now cov.now n × (n ≤ 16) }
-    ensures { result ≡ after_repaired repaired (distance x.now mu.now cov.now n) }
+    requires { Under x.now mu.now cov.now }
+    ensures { result ≡ after_repaired repaired (distance x.now mu.now cov.now (length x.now)) }
 {
     repaired?;
-    distance(x, mu, cov, n)
+    distance(x, mu, cov)
 }
 
 // The same of dimension 1: the distance of three numbers.
@@ -58,7 +57,8 @@ fn single_distance_after(
     single_distance(x, mu, cov)
 }
 
-// The comparison of the tracks with the states mu and x and the covariances p and q, n by n. The slices s and r are room for the joint covariance and its repair.
+// The comparison of the tracks with the states mu and x and the covariances p and q, n by n. The slices s and r are room
+// for the joint covariance and its repair. Here and in those that call it, n is mu.len(), in the order of the call.
 #[tactic(auto, using(dense::proofs::Tests::side_high))]
 fn compared_in(
     mu: &[f64],
@@ -75,7 +75,7 @@ fn compared_in(
 {
     joint_covariance(p, q, n, s);
     let repair = repair(s, terms.floor, n, r);
-    let answer = distance_after(repair, mu, x, r, n);
+    let answer = distance_after(repair, mu, x, r);
     ComparisonReport {
         comparison: comparison_of(answer, terms.gate),
         repair,

@@ -11,6 +11,7 @@ pub mod questions;
 
 use crate::inside::compare_tracks;
 use crate::questions::{are_tracks, is_floor_and_gate};
+use dense::questions::ask_shape;
 use dense::shape::is_side;
 use kernel::question::Question;
 use repair::RegularizationReport;
@@ -31,7 +32,7 @@ pub struct ComparisonReport {
 }
 
 // Compares track i, with the state mu and the covariance p_i, with track j, with x and p_j; n is their dimension.
-#[tactic(auto, using(dense::proofs::Tests::area), unfolding(dense::specs::Matrix::has_length, crate::specs::Distance::compared_with_report, crate::specs::Distance::comparing))]
+#[tactic(auto, using(dense::proofs::Tests::square_area, dense::proofs::Tests::side_high), unfolding(dense::specs::Matrix::has_length))]
 pub fn compare(
     mu: &[f64],
     x: &[f64],
@@ -43,12 +44,7 @@ pub fn compare(
 ) -> Result<Comparison, Question>
     ensures { result ≡ comparing mu.now x.now p_i.now p_j.now n floor gate }
 {
-    if !is_side(n) {
-        return Err(Question::Side);
-    }
-    if !are_tracks(mu, x, p_i, p_j, n) {
-        return Err(Question::Length);
-    }
+    ask_shape(is_side(n), || are_tracks(mu, x, p_i, p_j, n))?;
     if !is_floor_and_gate(floor, gate) {
         return Err(Question::FloorAndGate);
     }

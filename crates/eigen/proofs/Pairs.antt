@@ -25,6 +25,10 @@ use Rattle.kernel.specs.declared.question.Question.TheVariants as question
 pub ordering : (e : List Float) (n : ℕ) {l : List ℕ} → l ≡ order e n → Ordering n l
 ordering e n p = subst (λ (z : List ℕ). Ordering n z) (sym p) (record { size = length-order e n; below = order_below e n })
 
+-- the diagonal by another name of the side
+pub diagonal_of : (m : List Float) {e : List Float} {k n : ℕ} → e ≡ diagonal m k → k ≡ n → e ≡ diagonal m n
+diagonal_of m p q = p ∙ ap (diagonal m) q
+
 pub length_diagonal : (m : List Float) (n : ℕ) {e : List Float} → e ≡ diagonal m n → length e ≡ n
 length_diagonal m n p = ap length p ∙ length-tabulate n _
 

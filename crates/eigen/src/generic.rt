@@ -7,11 +7,13 @@ ghost use Rattle.eigen.specs.Private.{Lent, state_of};
 use crate::inside::eigenpairs_in;
 use crate::order::{arrange_values, arrange_vectors, diagonal, sort};
 use crate::planes::plane_eigenpairs;
+use dense::questions::ask_shape;
 use dense::shape::{is_form, is_matrix, is_side};
 use dense::vector::{are_finite, is_finite};
 use kernel::question::Question;
 
 // Question 4, and then the eigenpairs that m and the rows of v, n by n, show.
+// n is values.len(): with `let n = length values.old in` for it the two clauses are 58 characters longer.
 pub(crate) fn pairs(
     m: &[f64],
     v: &[f64],
@@ -26,7 +28,7 @@ pub(crate) fn pairs(
     let mut order_room = [0usize; 16];
     let e = &mut values_room[..n];
     let l = &mut order_room[..n];
-    diagonal(m, n, e);
+    diagonal(m, e);
     if !are_finite(e) {
         return Err(Question::FiniteEigenvalues);
     }
@@ -51,6 +53,7 @@ fn single_eigenpair(a: &[f64], values: &mut [f64], vectors: &mut [f64]) -> Resul
 }
 
 // The eigenpairs of a, n by n, with room for matrices of SIZE entries.
+// The parameters of the call, in its order; with length values.old for n the clauses are 84 characters longer.
 fn eigenpairs_within<const SIZE: usize>(
     a: &[f64],
     n: usize,
@@ -67,6 +70,7 @@ fn eigenpairs_within<const SIZE: usize>(
 }
 
 // The eigenpairs of a, n by n, from question 4 on, with the room that the order needs.
+// The parameters of the call, in its order; with length values.old for n the clauses are 52 characters longer.
 #[tactic(auto, using(crate::proofs::Pairs::small_size, crate::proofs::Pairs::full_size))]
 fn eigenpairs(a: &[f64], n: usize, values: &mut [f64], vectors: &mut [f64]) -> Result<(), Question>
     requires { (n ≤ 16) × Lent n a.now values.old vectors.old }
@@ -93,6 +97,7 @@ fn are_lent(a: &[f64], values: &[f64], vectors: &[f64], n: usize) -> bool
 }
 
 // The eigenvalues of a, n by n, in descending order, into values, and their vectors into the columns of vectors.
+#[tactic(auto, using(dense::proofs::Tests::square_area, dense::proofs::Tests::side_high), unfolding(dense::specs::Matrix::has_length))]
 pub fn mat_symmetric_eigen(
     a: &[f64],
     n: usize,
@@ -102,11 +107,6 @@ pub fn mat_symmetric_eigen(
     ensures { (result, values.new, vectors.new)
         ≡ after_pairs (mat_symmetric_eigen a.now n values.old vectors.old) values.old vectors.old }
 {
-    if !is_side(n) {
-        return Err(Question::Side);
-    }
-    if !are_lent(a, values, vectors, n) {
-        return Err(Question::Length);
-    }
+    ask_shape(is_side(n), || are_lent(a, values, vectors, n))?;
     eigenpairs(a, n, values, vectors)
 }

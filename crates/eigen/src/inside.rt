@@ -24,6 +24,7 @@ pub fn eigenplane(w: f64, x: f64, y: f64, z: f64) -> Plane
 }
 
 // The eigenpairs of a, n by n, from question 4 on. The slices m and v are room for the matrix and, as rows, the vectors.
+// n is values.len(): with `let n = length values.old in` for it the three clauses are 87 characters longer.
 pub fn eigenpairs_in(
     a: &[f64],
     n: usize,

@@ -8,12 +8,13 @@ ghost use Rattle.eigen.specs.Private.{Ordering, Below};
 use dense::fill::{fill, fill_matrix};
 use dense::shape::entry;
 
-// Writes the diagonal of m, n by n.
+// Writes the diagonal of m, a square matrix.
 #[tactic(auto, using(dense::proofs::Laws::cell))]
-pub(crate) fn diagonal(m: &[f64], n: usize, e: &mut [f64])
-    requires { (length m.now ≡ n * n) × (length e.old ≡ n) }
-    ensures { e.new ≡ diagonal m.now n }
+pub(crate) fn diagonal(m: &[f64], e: &mut [f64])
+    requires { length m.now ≡ length e.old * length e.old }
+    ensures { e.new ≡ diagonal m.now (length e.old) }
 {
+    let n = e.len();
     fill(|i| entry(m, n, i, i), e);
 }
 
@@ -26,18 +27,12 @@ fn value_at(e: &[f64], l: &[usize], k: usize) -> f64
 }
 
 // Where k goes among the first k of l, which descend.
-#[tactic(auto, unfolding(crate::specs::Eigen::spot, crate::specs::Private::Below))]
+#[tactic(auto, unfolding(crate::specs::Private::Below))]
 fn spot(e: &[f64], l: &[usize], k: usize) -> usize
     requires { (k < length l.now) × (k < length e.now) × Below (length e.now) k l.now }
     ensures { result ≡ spot e.now l.now k }
 {
-    // A loop that leaves at the first smaller value.
-    for j in 0..k {
-        if value_at(e, l, j) < e[k] {
-            return j;
-        }
-    }
-    k
+    (0..k).find(|j| value_at(e, l, *j) < e[k]).unwrap_or(k)
 }
 
 // Puts k into place j of the first k of l.
@@ -54,7 +49,7 @@ pub(crate) fn sort(e: &[f64], l: &mut [usize])
     requires { length l.old ≡ length e.now }
     ensures { l.new ≡ order e.now (length e.now) }
 {
-    // Steps: each index goes among those before it.
+    // Each index goes among those before it. By for_each, what insert needs and what l becomes stayed open.
     for k in 0..e.len() {
         let j = spot(e, l, k);
         insert(l, k, j);
@@ -80,6 +75,7 @@ fn vector_entry(v: &[f64], l: &[usize], n: usize, k: usize, i: usize) -> f64
 }
 
 // Writes the rows of v, n by n, as columns, in the order l.
+// n is l.len(): with `let n = length l.now in` for it the two clauses are 48 characters longer.
 #[tactic(auto, unfolding(crate::specs::Private::Below))]
 pub(crate) fn arrange_vectors(v: &[f64], l: &[usize], n: usize, out: &mut [f64])
     requires { (length v.now ≡ n * n) × Ordering n l.now × (length out.old ≡ n * n) }

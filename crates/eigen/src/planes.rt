@@ -70,7 +70,7 @@ pub(crate) fn sweep_plane(s: Plane, tol: f64) -> Plane
     ensures { plane_state result ≡ swept 2 tol (plane_state s) }
 {
     let mut p = s;
-    // Steps: each goes on from the one before, until it is small enough.
+    // k counts the sweeps for the invariant. By try_fold the plane ends as Ok or as Err, and both goals stayed open.
     for k in 0..SWEEPS {
         if 0.0 + p.apq * p.apq < tol {
             return p;

@@ -20,7 +20,7 @@ fn turn_rows(m: &mut [f64], n: usize, p: usize, q: usize, g: Rotation)
     requires { Crossing n p q × (length m.old ≡ n * n) }
     ensures { m.new ≡ turned_rows g n p q m.old }
 {
-    // Two rows of one slice change together: no iterator lends both.
+    // By split_at_mut and a zip of iter_mut no invariant can name what the two rows hold: the result stayed open.
     for j in 0..n {
         let x = entry(m, n, p, j);
         let y = entry(m, n, q, j);
@@ -45,7 +45,7 @@ fn mirror(m: &mut [f64], n: usize, p: usize)
     requires { (p < n) × (length m.old ≡ n * n) }
     ensures { m.new ≡ mirrored n p m.old }
 {
-    // A row and a column of one slice: no iterator lends both.
+    // By chunks_exact_mut row p is lent as one of the rows, and would first have to be copied out.
     for i in 0..n {
         let x = entry(m, n, p, i);
         put(m, n, i, p, x);

@@ -28,7 +28,7 @@ fn above(m: &[f64], n: usize) -> f64
     ensures { result ≡ above_rows m.now n n }
 {
     let mut s = 0.0;
-    // The rows right of the diagonal differ in length, so `sum_rows_from` does not fit.
+    // Rows of differing length, so no `sum_rows_from`. By fold, what its closure asks and what it gives stayed open.
     for i in 0..n {
         s = sum_from(s, n - (i + 1), |d| square(entry(m, n, i, i + 1 + d)));
     }
@@ -48,7 +48,7 @@ fn sweep_row(m: &mut [f64], v: &mut [f64], n: usize, p: usize)
     requires { (p < n) × Slices n m.old v.old }
     ensures { state_of n m.new v.new ≡ swept_row n p (state_of n m.old v.old) (n - suc p) }
 {
-    // Steps: each rotation goes on from the one before.
+    // Each rotation goes on from the one before. By for_each, what rotate needs and what is left stayed open.
     for q in p + 1..n {
         rotate(m, v, n, p, q);
     }
@@ -59,7 +59,7 @@ fn sweep(m: &mut [f64], v: &mut [f64], n: usize)
     requires { Slices n m.old v.old }
     ensures { state_of n m.new v.new ≡ sweep n (state_of n m.old v.old) }
 {
-    // Steps, row by row.
+    // Row by row. By for_each, what sweep_row needs and what is left stayed open.
     for p in 0..n {
         sweep_row(m, v, n, p);
     }
@@ -70,7 +70,7 @@ pub(crate) fn sweep_until(m: &mut [f64], v: &mut [f64], n: usize, tol: f64)
     requires { Slices n m.old v.old }
     ensures { state_of n m.new v.new ≡ swept n tol (state_of n m.old v.old) }
 {
-    // Steps: each sweep goes on from the one before, until it is small enough.
+    // k counts the sweeps for the invariant. By try_for_each, what sweep needs and what is left stayed open.
     for k in 0..SWEEPS {
         if above(m, n) < tol {
             return;

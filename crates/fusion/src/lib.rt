@@ -9,12 +9,13 @@ mod information;
 pub mod inside;
 mod track;
 
+use dense::questions::ask_shape;
 use dense::shape::{is_side, is_vector};
 use inside::fuse_tracks;
 use kernel::question::Question;
 use tracks::inside::fields;
 
-// What a fusion answers: that the fused track is written, or that there is none.
+// What a fusion answers: that the fused track is written, or that there is none. A bool would not say of what.
 #[derive(Clone, Copy, Debug, PartialEq, Eq)]
 pub enum Fusion {
     Fused,
@@ -42,12 +43,7 @@ pub fn fuse(
     ensures { (result, out.new)
         ≡ after_fusing (fusing base.now ours.now theirs.now d floor out.old) out.old }
 {
-    if !is_side(d) {
-        return Err(Question::Side);
-    }
-    if !are_long(base, ours, theirs, out, fields(d)) {
-        return Err(Question::Length);
-    }
+    ask_shape(is_side(d), || are_long(base, ours, theirs, out, fields(d)))?;
     if fuse_tracks(base, ours, theirs, d, floor, out) {
         return Ok(Fusion::Fused);
     }

@@ -40,7 +40,8 @@ fn write_fields(x: &[f64], p: &[f64], d: usize, out: &mut [f64])
 {
     out[..d].copy_from_slice(x);
     let mut at = d;
-    // The rows of the triangle differ in length.
+    // Rows of differing length, which are no chunks. By a fold of `at`, what its closure asks and what out becomes stayed
+    // open.
     for i in 0..d {
         let next = at + i + 1;
         out[at..next].copy_from_slice(part(p, i * d, i + 1));

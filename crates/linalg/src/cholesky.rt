@@ -34,7 +34,8 @@ fn left_entries(a: &[f64], n: usize, i: usize, l: &mut [f64])
     requires { Factoring a.now n i l.old }
     ensures { Padded (with_left a.now n (factor a.now n i) i i) l.new }
 {
-    // It reads the row that it writes, so that `fill` cannot be lent it.
+    // It reads the row that it writes, so `fill` cannot be lent it. By for_each, what its closure asks and what l becomes
+    // stayed open.
     for j in 0..i {
         l[i * n + j] = (entry(a, n, i, j) - inner(l, n, i, j)) / entry(l, n, j, j);
     }
@@ -63,7 +64,7 @@ fn factor_rows(a: &[f64], n: usize, l: &mut [f64]) -> Result<(), Question>
     ensures answer { result ≡ ask question.CholeskyPivot (definite a.now n n) (Ok tt) }
     ensures made { result ≡ Ok tt → l.new ≡ factor a.now n n }
 {
-    // Steps, until a pivot is not met.
+    // `(0..n).try_for_each` leaves both clauses open: a proof knows nothing of what its closure changes.
     for i in 0..n {
         factor_row(a, n, i, l)?;
     }

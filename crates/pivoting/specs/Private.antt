@@ -1,5 +1,5 @@
 -- Words of the private contracts: what the functions ask of their slices, and what they do to a row. No definition that a user reads needs them.
-use Rattle.std.specs.Prelude.{ℕ, ◌*◌, ◌<◌, cond, List, ◌≡◌, eqb, ltb, Float, length}
+use Rattle.std.specs.Prelude.{ℕ, ◌*◌, ◌<◌, ◌≤◌, cond, List, ◌≡◌, eqb, ltb, Float, length}
 use Rattle.kernel.specs.Number.{sub, mul, div}
 
 -- two rows of equally many entries, with a column k
@@ -7,30 +7,26 @@ pub record TwoRows (k : ℕ) (x y : List Float) : Type 0 where
   pub column : k < length x
   pub even : length x ≡ length y
 
--- a matrix m, n by w, with a column k and a row x that is taken from its rows
-pub record Clearing (n w k : ℕ) (x m : List Float) : Type 0 where
-  pub column : k < w
-  pub row : length x ≡ w
-  pub matrix : length m ≡ n * w
+-- a matrix m of n rows, with a column k and a row x that is taken from its rows
+pub record Clearing (n k : ℕ) (x m : List Float) : Type 0 where
+  pub column : k < length x
+  pub matrix : length m ≡ n * length x
 
--- a matrix m, n by w, with the pivot of column k in row p, and room x for that row
-pub record PivotRow (n w p k : ℕ) (m x : List Float) : Type 0 where
+-- a matrix m of n rows, with the pivot of column k in row p, and room x for that row
+pub record PivotRow (n p k : ℕ) (m x : List Float) : Type 0 where
   pub row : p < n
-  pub column : k < w
-  pub matrix : length m ≡ n * w
-  pub room : length x ≡ w
+  pub column : k < length x
+  pub matrix : length m ≡ n * length x
 
--- a matrix m, n by w, with the norms s of its rows, and room x for a row
-pub record Elimination (n w : ℕ) (m s x : List Float) : Type 0 where
-  pub matrix : length m ≡ n * w
-  pub norms : length s ≡ n
-  pub row : length x ≡ w
+-- a matrix m, with the norms s of its rows, and room x for a row
+abbrev pub Elimination : List Float → List Float → List Float → Type 0
+Elimination m s x = length m ≡ length s * length x
 
 -- the same with a column k that has a row of its own
-pub record Column (n w k : ℕ) (m s x : List Float) : Type 0 where
-  pub diagonal : k < n
-  pub column : k < w
-  pub room : Elimination n w m s x
+pub record Column (k : ℕ) (m s x : List Float) : Type 0 where
+  pub diagonal : k < length s
+  pub column : k < length x
+  pub room : Elimination m s x
 
 -- a matrix a, n by n, with right sides b and room for the solution, both n by r
 pub record System (n r : ℕ) (a b out : List Float) : Type 0 where
@@ -38,11 +34,11 @@ pub record System (n r : ℕ) (a b out : List Float) : Type 0 where
   pub sides : length b ≡ n * r
   pub solution : length out ≡ n * r
 
--- two vectors of n entries, and an n by n matrix
-pub record Under (x mu cov : List Float) (n : ℕ) : Type 0 where
-  pub first : length x ≡ n
-  pub second : length mu ≡ n
-  pub square : length cov ≡ n * n
+-- two vectors of as many entries, at most 16, and a square matrix of as many rows
+pub record Under (x mu cov : List Float) : Type 0 where
+  pub few : length x ≤ 16
+  pub even : length mu ≡ length x
+  pub square : length cov ≡ length x * length x
 
 -- entry j of y less, right of column k, its own entry in column k over that of x, times x
 abbrev pub below_pivot : (ℕ → Float) → (ℕ → Float) → ℕ → ℕ → Float

@@ -32,14 +32,14 @@ pub(crate) fn consider(best: Pivot, s: f64, x: f64, i: usize) -> Pivot
     best
 }
 
-// The pivot of column k of m, n by w, with norms s.
-fn choose(m: &[f64], s: &[f64], n: usize, w: usize, k: usize) -> Pivot
-    requires { (k < n) × (k < w) × (length m.now ≡ n * w) × (length s.now ≡ n) }
-    ensures { result ≡ pivot m.now s.now n w k }
+// The pivot of column k of m, a matrix of w columns whose rows have the norms s.
+fn choose(m: &[f64], s: &[f64], w: usize, k: usize) -> Pivot
+    requires { (k < length s.now) × (k < w) × (length m.now ≡ length s.now * w) }
+    ensures { result ≡ pivot m.now s.now (length s.now) w k }
 {
     let mut best = Pivot { ratio: 0.0, row: k };
-    // The best so far goes on from row to row: a fold is no plainer.
-    for i in k..n {
+    // A fold leaves two goals open, and each answer states this loop's invariant, of the items passed so far.
+    for i in k..s.len() {
         best = consider(best, s[i], entry(m, w, i, k), i);
     }
     best
@@ -53,18 +53,12 @@ pub(crate) fn is_taken(p: Pivot) -> bool
     !(p.ratio < REL_TOL)
 }
 
-// Question 6 in column k of m, n by w, with norms s, and then the row of its pivot.
-pub(crate) fn pivot_row(
-    m: &[f64],
-    s: &[f64],
-    n: usize,
-    w: usize,
-    k: usize,
-) -> Result<usize, Question>
-    requires { (k < n) × (k < w) × (length m.now ≡ n * w) × (length s.now ≡ n) }
-    ensures { result ≡ ask question.PivotRatio (taken (pivot m.now s.now n w k)) (Ok (pivot m.now s.now n w k).row) }
+// Question 6 in column k of m, a matrix of w columns whose rows have the norms s, and then the row of its pivot.
+pub(crate) fn pivot_row(m: &[f64], s: &[f64], w: usize, k: usize) -> Result<usize, Question>
+    requires { (k < length s.now) × (k < w) × (length m.now ≡ length s.now * w) }
+    ensures { let p = pivot m.now s.now (length s.now) w k in result ≡ ask question.PivotRatio (taken p) (Ok p.row) }
 {
-    let best = choose(m, s, n, w, k);
+    let best = choose(m, s, w, k);
     if !is_taken(best) {
         return Err(Question::PivotRatio);
     }

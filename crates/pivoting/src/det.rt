@@ -11,18 +11,15 @@ use crate::norms::{row_norms, some_scale};
 use crate::rows::copy_row;
 use dense::fill::fill;
 use dense::shape::{entry, row};
+use dense::vector::subtract_scaled;
 
 // Takes from y, right of column k, its entry in column k over that of x, times x.
-#[tactic(auto, using(dense::proofs::Laws::by_entries))]
 fn below_pivot(x: &[f64], k: usize, y: &mut [f64])
     requires { TwoRows k x.now y.old }
     ensures { y.new ≡ tabulate (length x.now) (below_pivot (nth x.now) (nth y.old) k) }
 {
     let factor = y[k] / x[k];
-    // Only what is right of column k changes, so that `combine` does not fit.
-    for j in k + 1..y.len() {
-        y[j] = y[j] - factor * x[j];
-    }
+    subtract_scaled(factor, &x[k + 1..], &mut y[k + 1..]);
 }
 
 // Row i, from row k on, of a step in column k, from y: the pivot row x where i is k, else y less its part of x.
@@ -38,26 +35,28 @@ fn pivot_or_below(x: &[f64], k: usize, i: usize, y: &mut [f64])
     below_pivot(x, k, y);
 }
 
-// Row k of m, n by n, becomes x, and every row below it loses its part of x.
-fn reduce_below(x: &[f64], m: &mut [f64], n: usize, k: usize)
-    requires { Clearing n n k x.now m.old }
-    ensures { m.new ≡ matrix n n (λ i j. cond (ltb i k) (at m.old n i j) (pivot_or_below (nth x.now) (at m.old n i) k i j)) }
+// Row k of m, a square matrix, becomes x, and every row below it loses its part of x.
+fn reduce_below(x: &[f64], m: &mut [f64], k: usize)
+    requires { Clearing (length x.now) k x.now m.old }
+    ensures { let n = length x.now in m.new ≡ matrix n n (λ i j. cond (ltb i k) (at m.old n i j) (pivot_or_below (nth x.now) (at m.old n i) k i j)) }
 {
-    // Each row is lent and changed in place.
+    let n = x.len();
+    // `m.chunks_exact_mut(n).enumerate().skip(k)` leaves `returns` open: a proof knows nothing of rows lent so.
     for i in k..n {
         let start = i * n;
         pivot_or_below(x, k, i, &mut m[start..start + n]);
     }
 }
 
-// The step in column k of m, n by n, with its pivot in row p; x takes the pivot row.
-fn forward_step(m: &mut [f64], x: &mut [f64], n: usize, k: usize, p: usize)
-    requires { PivotRow n n p k m.old x.old }
-    ensures { m.new ≡ matrix n n (forward_entry m.old n k p) }
+// The step in column k of m, a square matrix, with its pivot in row p; x takes the pivot row.
+fn forward_step(m: &mut [f64], x: &mut [f64], k: usize, p: usize)
+    requires { PivotRow (length x.old) p k m.old x.old }
+    ensures { let n = length x.old in m.new ≡ matrix n n (forward_entry m.old n k p) }
 {
+    let n = x.len();
     x.copy_from_slice(row(m, n, p));
     copy_row(m, n, n, k, p);
-    reduce_below(x, m, n, k);
+    reduce_below(x, m, k);
 }
 
 // The sign s, flipped where p is not k.
@@ -71,23 +70,24 @@ fn flipped(s: f64, k: usize, p: usize) -> f64
     -s
 }
 
-// Question 6 in each column of m, n by n, with norms s, and then the product of the pivots with its sign; 0.0 where it is
-// not met. x is room for a row.
-fn signed_product(m: &mut [f64], s: &mut [f64], x: &mut [f64], n: usize) -> f64
-    requires { Elimination n n m.old s.old x.old }
-    ensures { result ≡ signed_product n (triangulated n (stage m.old s.old)) }
+// Question 6 in each column of m, whose rows have the norms s, and then the product of the pivots with its sign; 0.0
+// where it is not met. x is room for a row.
+fn signed_product(m: &mut [f64], s: &mut [f64], x: &mut [f64]) -> f64
+    requires { (length x.old ≡ length s.old) × Elimination m.old s.old x.old }
+    ensures { let n = length s.old in result ≡ signed_product n (triangulated n (stage m.old s.old)) }
 {
+    let n = s.len();
     let mut sign = 1.0;
     let mut det = 1.0;
-    // Steps: each column is reduced after the one before.
+    // A `try_fold` leaves three goals open: a proof knows nothing of m, s and x, which its closure changes.
     for k in 0..n {
-        let Ok(p) = pivot_row(m, s, n, n, k) else {
+        let Ok(p) = pivot_row(m, s, n, k) else {
             return 0.0;
         };
         sign = flipped(sign, k, p);
         det = det * entry(m, n, p, k);
         s.swap(k, p);
-        forward_step(m, x, n, k, p);
+        forward_step(m, x, k, p);
     }
     sign * det
 }
@@ -103,10 +103,10 @@ pub(crate) fn determinant(a: &[f64], n: usize) -> f64
     let mut x = [0.0f64; 16];
     let m = &mut m[..n * n];
     let s = &mut s[..n];
-    row_norms(a, n, s);
+    row_norms(a, s);
     if !some_scale(s) {
         return 0.0;
     }
     m.copy_from_slice(a);
-    signed_product(m, s, &mut x[..n], n)
+    signed_product(m, s, &mut x[..n])
 }

@@ -1,4 +1,5 @@
-// The pivoting calls of generic.rs, for matrices of any side from 1 to 16.
+// The pivoting calls of generic.rs, for matrices of any side from 1 to 16. What is alike in them is a line that asks of
+// their shape.
 ghost use Rattle.std.specs.Prelude.{◌≡◌};
 ghost use Rattle.dense.specs.Answer.{Leaves};
 ghost use Rattle.pivoting.specs.Pivot.{row_inf_norms};
@@ -9,6 +10,7 @@ use crate::det::determinant;
 use crate::inside::distance;
 use crate::norms::row_norms;
 use crate::solve::{inverse, solve};
+use dense::questions::ask_shape;
 use dense::shape::{are_matrices, is_distance, is_matrix, is_side, is_system, is_vector};
 use kernel::question::Question;
 
@@ -17,13 +19,8 @@ use kernel::question::Question;
 pub fn row_inf_norms(a: &[f64], n: usize, out: &mut [f64]) -> Result<(), Question>
     ensures { Leaves (row_inf_norms a.now n out.old) out.old result out.new }
 {
-    if !is_side(n) {
-        return Err(Question::Side);
-    }
-    if !(is_matrix(a, n, n) && is_vector(out, n)) {
-        return Err(Question::Length);
-    }
-    row_norms(a, n, out);
+    ask_shape(is_side(n), || is_matrix(a, n, n) && is_vector(out, n))?;
+    row_norms(a, out);
     Ok(())
 }
 
@@ -32,12 +29,7 @@ pub fn row_inf_norms(a: &[f64], n: usize, out: &mut [f64]) -> Result<(), Questio
 pub fn mat_solve(a: &[f64], b: &[f64], n: usize, out: &mut [f64]) -> Result<(), Question>
     ensures { Leaves (mat_solve a.now b.now n out.old) out.old result out.new }
 {
-    if !is_side(n) {
-        return Err(Question::Side);
-    }
-    if !is_system(a, b, out, n) {
-        return Err(Question::Length);
-    }
+    ask_shape(is_side(n), || is_system(a, b, out, n))?;
     solve(a, b, n, 1, out)
 }
 
@@ -46,12 +38,7 @@ pub fn mat_solve(a: &[f64], b: &[f64], n: usize, out: &mut [f64]) -> Result<(), 
 pub fn mat_inv(a: &[f64], n: usize, out: &mut [f64]) -> Result<(), Question>
     ensures { Leaves (mat_inv a.now n out.old) out.old result out.new }
 {
-    if !is_side(n) {
-        return Err(Question::Side);
-    }
-    if !are_matrices(a, n, n, out, n, n) {
-        return Err(Question::Length);
-    }
+    ask_shape(is_side(n), || are_matrices(a, n, n, out, n, n))?;
     inverse(a, n, out)
 }
 
@@ -60,12 +47,7 @@ pub fn mat_inv(a: &[f64], n: usize, out: &mut [f64]) -> Result<(), Question>
 pub fn mat_det(a: &[f64], n: usize) -> Result<f64, Question>
     ensures { result ≡ mat_det a.now n }
 {
-    if !is_side(n) {
-        return Err(Question::Side);
-    }
-    if !is_matrix(a, n, n) {
-        return Err(Question::Length);
-    }
+    ask_shape(is_side(n), || is_matrix(a, n, n))?;
     Ok(determinant(a, n))
 }
 
@@ -79,11 +61,6 @@ pub fn mahalanobis_distance_squared(
 ) -> Result<f64, Question>
     ensures { result ≡ mahalanobis x.now mu.now cov.now n }
 {
-    if !is_side(n) {
-        return Err(Question::Side);
-    }
-    if !is_distance(x, mu, cov, n) {
-        return Err(Question::Length);
-    }
-    distance(x, mu, cov, n)
+    ask_shape(is_side(n), || is_distance(x, mu, cov, n))?;
+    distance(x, mu, cov)
 }

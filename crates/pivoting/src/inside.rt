@@ -1,5 +1,5 @@
 // The distance over the inverse for a caller that knows the lengths: what the project's own crates call, and no user does.
-ghost use Rattle.std.specs.Prelude.{◌≡◌, [], ◌∷◌, ◌≤◌};
+ghost use Rattle.std.specs.Prelude.{◌≡◌, [], ◌∷◌, length};
 ghost use Rattle.dense.specs.Matrix.{max_abs};
 ghost use Rattle.pivoting.specs.Private.{Under};
 ghost use Rattle.pivoting.specs.Solve.{distance};
@@ -11,15 +11,16 @@ use kernel::constants::MIN_SCALE;
 use kernel::number::abs;
 use kernel::question::Question;
 
-// Questions 5 and 6, and then the quadratic form of x - mu under the inverse of cov, n by n, with the room that the order needs.
-pub fn distance(x: &[f64], mu: &[f64], cov: &[f64], n: usize) -> Result<f64, Question>
-    requires { Under x.now mu.now cov.now n × (n ≤ 16) }
-    ensures { result ≡ distance x.now mu.now cov.now n }
+// Questions 5 and 6, and then the quadratic form of x - mu under the inverse of cov, with the room that its order
+// needs.
+pub fn distance(x: &[f64], mu: &[f64], cov: &[f64]) -> Result<f64, Question>
+    requires { Under x.now mu.now cov.now }
+    ensures { result ≡ distance x.now mu.now cov.now (length x.now) }
 {
-    if n <= 4 {
-        return distance_within::<16>(x, mu, cov, n);
+    if cov.len() <= 16 {
+        return distance_within::<16>(x, mu, cov);
     }
-    distance_within::<256>(x, mu, cov, n)
+    distance_within::<256>(x, mu, cov)
 }
 
 // The norm of a row of one entry.

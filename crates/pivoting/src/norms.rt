@@ -15,11 +15,12 @@ fn row_norm(a: &[f64], n: usize, i: usize) -> f64
     max_abs(row(a, n, i))
 }
 
-// Writes the norms of the rows of a, n by n.
-pub(crate) fn row_norms(a: &[f64], n: usize, s: &mut [f64])
-    requires { (length a.now ≡ n * n) × (length s.old ≡ n) }
-    ensures { s.new ≡ row_norms a.now n }
+// Writes the norms of the rows of a, a square matrix of as many rows as s has entries.
+pub(crate) fn row_norms(a: &[f64], s: &mut [f64])
+    requires { length a.now ≡ length s.old * length s.old }
+    ensures { s.new ≡ row_norms a.now (length s.old) }
 {
+    let n = s.len();
     fill(|i| row_norm(a, n, i), s);
 }
 

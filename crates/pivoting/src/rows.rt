@@ -1,9 +1,9 @@
-// Loops over one row of a matrix.
-ghost use Rattle.std.specs.Prelude.{◌≡◌, cond, ◌+◌, ◌*◌, ◌<◌, eqb, length};
+// The rows of an elimination.
+ghost use Rattle.std.specs.Prelude.{◌≡◌, cond, ◌+◌, ◌*◌, ◌<◌, ◌≤◌, eqb, length};
 ghost use Rattle.dense.specs.Matrix.{nth, at, matrix};
 ghost use Rattle.kernel.specs.Lists.{tabulate};
 ghost use Rattle.pivoting.specs.Solve.{divided_entry, cleared_entry};
-ghost use Rattle.pivoting.specs.Private.{TwoRows, PivotRow};
+ghost use Rattle.pivoting.specs.Private.{TwoRows};
 
 use dense::fill::fill;
 use dense::shape::entry;
@@ -24,16 +24,17 @@ pub(crate) fn reduce_row(x: &[f64], k: usize, i: usize, y: &mut [f64])
     subtract_scaled(factor, x, y);
 }
 
-// Writes row p of m, n by w, divided by its entry in column k.
-pub(crate) fn divided_row(m: &[f64], n: usize, w: usize, p: usize, k: usize, y: &mut [f64])
-    requires { PivotRow n w p k m.now y.old }
-    ensures { y.new ≡ tabulate w (divided_entry m.now w p k) }
+// Writes row p of m, whose rows are as long as y, divided by its entry in column k.
+pub(crate) fn divided_row(m: &[f64], p: usize, k: usize, y: &mut [f64])
+    requires { let w = length y.old in (k < w) × (p * w + w ≤ length m.now) }
+    ensures { let w = length y.old in y.new ≡ tabulate w (divided_entry m.now w p k) }
 {
+    let w = y.len();
     let d = entry(m, w, p, k);
     fill(|j| entry(m, w, p, j) / d, y);
 }
 
-// Copies row k of m, n by w, to row p.
+// Copies row k of m, n by w, to row p. n is for the contract: it says how many rows m has.
 pub(crate) fn copy_row(m: &mut [f64], n: usize, w: usize, k: usize, p: usize)
     requires { (k < n) × (p < n) × (length m.old ≡ n * w) }
     ensures { m.new ≡ matrix n w (λ i j. at m.old w (cond (eqb i p) k i) j) }

@@ -35,24 +35,24 @@ fn joined_entry(a: &[f64], n: usize, i: usize, j: usize) -> f64
     unit(i, j - n)
 }
 
-// Questions 5 and 6 of m, n by w with r right sides, and s, the norms of its rows, and then what the right sides become
-// into out. x is room for a row.
+// Questions 5 and 6 of m with r right sides, and s, the norms of its rows, and then what the right sides become into
+// out. x is room for a row. Its length is w: where w is read from x, `mat_solve` takes up to 1.3 % more instructions.
 fn eliminate(
     m: &mut [f64],
     s: &mut [f64],
     x: &mut [f64],
-    n: usize,
     r: usize,
     w: usize,
     out: &mut [f64],
 ) -> Result<(), Question>
-    requires { (w ≡ n + r) × Elimination n w m.old s.old x.old × (length out.old ≡ n * r) }
-    ensures { Leaves (solved_from n r (stage m.old s.old)) out.old result out.new }
+    requires { let n = length s.old in (w ≡ n + r) × (length x.old ≡ w) × Elimination m.old s.old x.old × (length out.old ≡ n * r) }
+    ensures { Leaves (solved_from (length s.old) r (stage m.old s.old)) out.old result out.new }
 {
+    let n = s.len();
     if !some_scale(s) {
         return Err(Question::RowNorm);
     }
-    reduce(m, s, x, n, w)?;
+    reduce(m, s, x)?;
     fill_matrix(|i, j| entry(m, w, i, n + j), n, r, out);
     Ok(())
 }
@@ -80,9 +80,9 @@ fn solve_within<F: Fn(usize, usize) -> f64, const N: usize, const W: usize, cons
     let w = n + r;
     let m = &mut m[..n * w];
     let s = &mut s[..n];
-    row_norms(a, n, s);
+    row_norms(a, s);
     fill_matrix(f, n, w, m);
-    eliminate(m, s, &mut x[..w], n, r, w, out)
+    eliminate(m, s, &mut x[..w], r, w, out)
 }
 
 // The same with the room that the order needs.

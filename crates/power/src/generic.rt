@@ -1,10 +1,12 @@
-// The calls of generic.rs that iterate with powers of a matrix.
+// The calls of generic.rs that iterate with powers of a matrix. What is alike in them is a line that asks of their
+// shape.
 ghost use Rattle.std.specs.Prelude.{◌≡◌};
 ghost use Rattle.power.specs.Power.{singular_value, mat_eigenvector_max, after_eigenpair, mat_largest_singular_value};
 ghost use Rattle.power.specs.Condition.{condition_number};
 
 use crate::inverse::{condition, gram};
 use crate::rounds::dominant;
+use dense::questions::ask_shape;
 use dense::shape::{is_form, is_matrix, is_side};
 use kernel::number::sqrt;
 use kernel::question::Question;
@@ -20,12 +22,7 @@ pub fn mat_eigenvector_max(
 ) -> Result<f64, Question>
     ensures { (result, v.new) ≡ after_eigenpair (mat_eigenvector_max a.now n max_iter tol v.old) v.old }
 {
-    if !is_side(n) {
-        return Err(Question::Side);
-    }
-    if !is_form(v, a, n) {
-        return Err(Question::Length);
-    }
+    ask_shape(is_side(n), || is_form(v, a, n))?;
     let mut w = [0.0f64; 16];
     Ok(dominant(a, n, max_iter, tol, v, &mut w[..n]))
 }
@@ -51,12 +48,7 @@ pub fn mat_largest_singular_value(
 ) -> Result<f64, Question>
     ensures { result ≡ mat_largest_singular_value a.now n max_iter tol }
 {
-    if !is_side(n) {
-        return Err(Question::Side);
-    }
-    if !is_matrix(a, n, n) {
-        return Err(Question::Length);
-    }
+    ask_shape(is_side(n), || is_matrix(a, n, n))?;
     let mut g = [0.0f64; 256];
     let mut v = [0.0f64; 16];
     let mut w = [0.0f64; 16];
@@ -71,11 +63,6 @@ pub fn mat_largest_singular_value(
 pub fn condition_number(a: &[f64], n: usize) -> Result<f64, Question>
     ensures { result ≡ condition_number a.now n }
 {
-    if !is_side(n) {
-        return Err(Question::Side);
-    }
-    if !is_matrix(a, n, n) {
-        return Err(Question::Length);
-    }
+    ask_shape(is_side(n), || is_matrix(a, n, n))?;
     Ok(condition(a, n))
 }

@@ -59,7 +59,7 @@ fn start(v: &[f64], y: &mut [f64]) -> Option<f64>
     ensures written { (s : Float) → result ≡ Some s → y.new ≡ deflated v.now (length v.now) (start_index v.now (length v.now)) }
     ensures measured { (s : Float) → result ≡ Some s → s ≡ norm y.new (length v.now) }
 {
-    // A loop that leaves at the first unit vector that is a start.
+    // Leaves at the first start. By find_map a proof does not learn what y holds, and all four clauses stayed open.
     for k in 0..v.len() {
         deflate(v, k, y);
         let size = norm(y);
@@ -90,12 +90,13 @@ fn ratio(sigma: f64, estimate: f64) -> f64
 }
 
 // The condition number by at most 500 rounds from x; y is room for a vector.
+// n is x.len(): with length x.old for it the clauses are 26 characters longer.
 fn rounds(g: &[f64], n: usize, sigma: f64, x: &mut [f64], y: &mut [f64]) -> f64
     requires { Vectors n g.now x.old y.old }
     ensures { result ≡ iterated_ratio g.now n sigma (iterate x.old nought) }
 {
     let mut estimate = 0.0;
-    // Steps: each round goes on from the one before, until it is steady.
+    // k counts the rounds for the invariant. By try_fold, what normalize needs and both results stayed open.
     for k in 0..MAX_ROUNDS {
         if mat_solve(g, x, n, y).is_err() {
             return infinity(); // no solution
@@ -115,9 +116,9 @@ fn rounds(g: &[f64], n: usize, sigma: f64, x: &mut [f64], y: &mut [f64]) -> f64
 }
 
 // The condition number by the greatest eigenvalue of g and its vector v; x and y are room for vectors.
-fn ratio_of(g: &[f64], n: usize, lambda: f64, v: &[f64], x: &mut [f64], y: &mut [f64]) -> f64
-    requires { Vectors n g.now x.old y.old × (length v.now ≡ n) }
-    ensures { result ≡ ratio_of g.now n (eigenpair v.now lambda) }
+fn ratio_of(g: &[f64], lambda: f64, v: &[f64], x: &mut [f64], y: &mut [f64]) -> f64
+    requires { Vectors (length v.now) g.now x.old y.old }
+    ensures { result ≡ ratio_of g.now (length v.now) (eigenpair v.now lambda) }
 {
     if lambda <= 0.0 {
         return infinity();
@@ -127,7 +128,7 @@ fn ratio_of(g: &[f64], n: usize, lambda: f64, v: &[f64], x: &mut [f64], y: &mut 
         return infinity();
     };
     normalize(y, size, x);
-    rounds(g, n, sigma, x, y)
+    rounds(g, v.len(), sigma, x, y)
 }
 
 // Writes the product of the transpose of a, n by n, and a.
@@ -154,5 +155,5 @@ pub(crate) fn condition(a: &[f64], n: usize) -> f64
     let y = &mut y[..n];
     gram(a, n, g);
     let lambda = dominant(g, n, MAX_ROUNDS, REL_TOL, v, y);
-    ratio_of(g, n, lambda, v, &mut x[..n], y)
+    ratio_of(g, lambda, v, &mut x[..n], y)
 }

@@ -46,6 +46,7 @@ fn is_small(tol: f64, lambda: f64, r: f64) -> bool
 }
 
 // One round from v, whose product has the norm size; whether it has converged.
+// n is v.len(): with length v.old for it the clauses are 26 characters longer.
 fn round(a: &[f64], n: usize, tol: f64, size: f64, v: &mut [f64], w: &mut [f64]) -> bool
     requires { Measured n a.now v.old w.old size }
     ensures { Rounded a.now n tol v.old result v.new w.new }
@@ -57,11 +58,12 @@ fn round(a: &[f64], n: usize, tol: f64, size: f64, v: &mut [f64], w: &mut [f64])
 }
 
 // At most max_iter rounds from v, whose product is w.
+// The parameters of the call, in its order; with length v.old for n the clauses are 26 characters longer.
 fn rounds(a: &[f64], n: usize, max_iter: u32, tol: f64, v: &mut [f64], w: &mut [f64]) -> f64
     requires { Multiplied n a.now v.old w.old }
     ensures { eigenpair v.new result ≡ iterated a.now n max_iter tol v.old }
 {
-    // Steps: each round goes on from the one before, until it has converged.
+    // k counts the rounds for the invariant. By try_for_each, what round needs and both results stayed open.
     for k in 0..max_iter {
         let size = norm(w);
         if size < VANISHING {
@@ -85,6 +87,7 @@ fn begin(v: &mut [f64])
 }
 
 // The eigenvalue of a, n by n, that is greatest in size, and its vector into v; w is room for a vector.
+// The parameters of the call, in its order; with length v.old for n the clauses are 26 characters longer.
 #[tactic(auto, unfolding(crate::specs::Power::dominant))]
 pub(crate) fn dominant(
     a: &[f64],

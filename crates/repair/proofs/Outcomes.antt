@@ -2,12 +2,13 @@
 use Prim.Native.Nat.{ℕ}
 use native.Mathlib.Omega.{arith}
 use mathlib.Core.List.{List}
-use mathlib.Core.Path.{◌≡◌, sym, ap}
+use mathlib.Core.Path.{◌≡◌, sym, ap, ◌∙◌}
 use lib.Ieee.{Float}
 use lib.ListN.{length}
 use Rattle.std.specs.Prelude.{Ok, Err}
 use Rattle.kernel.specs.Answer.{Outcome, through}
 use Rattle.kernel.specs.Lists.{tabulate}
+use Rattle.kernel.proofs.Lists.{length-tabulate}
 use Rattle.dense.specs.Matrix.{nth, matrix}
 use Rattle.eigen.specs.Eigen.{Eigenpairs, eigenpairs, after_pairs}
 use Rattle.repair.specs.declared.RegularizationReport.{RegularizationReport}
@@ -27,7 +28,9 @@ module _ (cov : List Float) (floor : Float) (n : ℕ) (e v : List Float) where
   done_by (Ok r) p = ap (λ (z : Answer). Ok (record { values = z.1; vectors = z.2 })) (sym p)
 
   pub repair_done : (out : List Float) {x y z new : List Float} {t : RegularizationReport} → ◌≡◌ {A = Answer} (Ok tt, x, y) (after_pairs (eigenpairs cov n) e v)
-      → length x ≡ n → t ≡ report_of x floor (length x) → z ≡ tabulate (length x) (λ k. raised floor (nth x k)) → new ≡ matrix n n (rebuilt_entry y z n)
+      → length x ≡ n → t ≡ report_of x floor (length x) → z ≡ tabulate (length x) (λ k. raised floor (nth x k)) → new ≡ matrix (length z) (length z) (rebuilt_entry y z (length z))
       → ◌≡◌ {A = Outcome RegularizationReport × List Float} (Ok t, new) (after_repair (through (repair_of floor n) (eigenpairs cov n)) out)
   unfolding repair_of
-  repair_done out p size ft fz fn = rw (done_by (eigenpairs cov n) p, ft, fn, fz, size)
+  repair_done out {x} {y} {z} p size ft fz fn =
+      let long : length z ≡ n = ap length fz ∙ length-tabulate (length x) _ ∙ size in
+      rw (done_by (eigenpairs cov n) p, ft, fn, long, fz, size)

@@ -1,5 +1,5 @@
 // The eigenvalues that are below the floor.
-ghost use Rattle.std.specs.Prelude.{◌≡◌, ◌≤◌, length};
+ghost use Rattle.std.specs.Prelude.{◌≡◌, length};
 ghost use Rattle.kernel.specs.Lists.{tabulate};
 ghost use Rattle.dense.specs.Matrix.{nth};
 ghost use Rattle.repair.specs.Repair.{clip_count, greater_clip, largest_clip, clip_mask, raised, report_of};
@@ -27,34 +27,25 @@ fn greater_clip(g: f64, x: f64, floor: f64) -> f64
 }
 
 // The largest clip of the entries of e.
-#[tactic(auto, using(crate::proofs::Clips::clip_more), unfolding(crate::specs::Repair::largest_clip))]
+#[tactic(auto, using(crate::proofs::Clips::largest_folds))]
 fn largest_clip(e: &[f64], floor: f64) -> f64
     ensures { result ≡ largest_clip e.now floor (length e.now) }
 {
-    let mut g = 0.0;
-    for x in e {
-        g = greater_clip(g, *x, floor);
-    }
-    g
+    e.iter()
+        .copied()
+        .fold(0.0, |g, x| greater_clip(g, x, floor))
 }
 
 // Which of the entries of e are below the floor.
 fn clip_mask(e: &[f64], floor: f64) -> [bool; 16]
-    requires { length e.now ≤ 16 }
     ensures { result ≡ clip_mask e.now floor (length e.now) }
 {
-    let mut mask = [false; 16];
-    // Only the first of the sixteen truths are written.
-    for i in 0..e.len() {
-        mask[i] = e[i] < floor;
-    }
-    mask
+    std::array::from_fn(|i| i < e.len() && e[i] < floor)
 }
 
 // What is told of the eigenvalues e.
 #[tactic(auto, unfolding(crate::specs::Repair::report_of))]
 pub(crate) fn report(e: &[f64], floor: f64) -> RegularizationReport
-    requires { length e.now ≤ 16 }
     ensures { result ≡ report_of e.now floor (length e.now) }
 {
     RegularizationReport {

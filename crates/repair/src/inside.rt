@@ -33,7 +33,7 @@ fn repair_within<const N: usize, const SIZE: usize>(
     eigenpairs_in(cov, n, &mut m[..size], &mut w[..size], e, v)?;
     let report = report(e, floor);
     raise(e, floor);
-    rebuild(v, e, n, out);
+    rebuild(v, e, out);
     Ok(report)
 }
 

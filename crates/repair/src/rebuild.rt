@@ -15,12 +15,13 @@ pub(crate) fn share(v: f64, e: f64, w: f64) -> f64
     v * e * w
 }
 
-// Entry (i, j) of the matrix with the eigenvalues e and the eigenvectors v, n by n.
+// Entry (i, j) of the matrix with the eigenvalues e and the eigenvectors v.
 #[tactic(auto, using(dense::proofs::Laws::cell), unfolding(crate::specs::Repair::rebuilt_entry))]
-fn rebuilt_entry(v: &[f64], e: &[f64], n: usize, i: usize, j: usize) -> f64
-    requires { (i < n) × (j < n) × (length v.now ≡ n * n) × (length e.now ≡ n) }
-    ensures { result ≡ rebuilt_entry v.now e.now n i j }
+fn rebuilt_entry(v: &[f64], e: &[f64], i: usize, j: usize) -> f64
+    requires { (i < length e.now) × (j < length e.now) × (length v.now ≡ length e.now * length e.now) }
+    ensures { result ≡ rebuilt_entry v.now e.now (length e.now) i j }
 {
+    let n = e.len();
     sum_from(
         0.0,
         n,
@@ -28,10 +29,11 @@ fn rebuilt_entry(v: &[f64], e: &[f64], n: usize, i: usize, j: usize) -> f64
     )
 }
 
-// Writes the matrix with the eigenvalues e and the eigenvectors v, n by n.
-pub(crate) fn rebuild(v: &[f64], e: &[f64], n: usize, out: &mut [f64])
-    requires { (length v.now ≡ n * n) × (length e.now ≡ n) × (length out.old ≡ n * n) }
-    ensures { out.new ≡ matrix n n (rebuilt_entry v.now e.now n) }
+// Writes the matrix with the eigenvalues e and the eigenvectors v.
+pub(crate) fn rebuild(v: &[f64], e: &[f64], out: &mut [f64])
+    requires { (length v.now ≡ length e.now * length e.now) × (length out.old ≡ length v.now) }
+    ensures { out.new ≡ matrix (length e.now) (length e.now) (rebuilt_entry v.now e.now (length e.now)) }
 {
-    fill_matrix(|i, j| rebuilt_entry(v, e, n, i, j), n, n, out);
+    let n = e.len();
+    fill_matrix(|i, j| rebuilt_entry(v, e, i, j), n, n, out);
 }

@@ -5,10 +5,12 @@ ghost use Rattle.repair.specs.Repair.{nearest_psd, after_repair};
 use crate::RegularizationReport;
 use crate::direct::single_repair;
 use crate::inside::repair;
+use dense::questions::ask_shape;
 use dense::shape::{are_matrices, is_side};
 use kernel::question::Question;
 
 // The questions, and then the repair, for callers of any order.
+#[tactic(auto, using(dense::proofs::Tests::square_area, dense::proofs::Tests::side_high), unfolding(dense::specs::Matrix::has_length))]
 fn asked_repair(
     cov: &[f64],
     floor: f64,
@@ -17,12 +19,7 @@ fn asked_repair(
 ) -> Result<RegularizationReport, Question>
     ensures { (result, out.new) ≡ after_repair (nearest_psd cov.now floor n out.old) out.old }
 {
-    if !is_side(n) {
-        return Err(Question::Side);
-    }
-    if !are_matrices(cov, n, n, out, n, n) {
-        return Err(Question::Length);
-    }
+    ask_shape(is_side(n), || are_matrices(cov, n, n, out, n, n))?;
     repair(cov, floor, n, out)
 }
 

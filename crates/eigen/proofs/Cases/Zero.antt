@@ -28,7 +28,7 @@ use Rattle.std.specs.Prelude.{Ok}
 
 -- ---- a test that never holds
 
-first_never : (n : ℕ) (test : ℕ → Bool) → ((j : ℕ) → j < n → test j ≡ false) → first_below n test ≡ n
+pub first_never : (n : ℕ) (test : ℕ → Bool) → ((j : ℕ) → j < n → test j ≡ false) → first_below n test ≡ n
 unfolding first_below
 first_never zero test h = refl
 first_never (suc n) test h = rw (first_never n test (λ j l. h j (omega arith)), h n (omega arith))

@@ -1,3 +1,4 @@
+-- An entry of the lower triangle is among the fields, and so is the one that an upper entry mirrors.
 use Rattle.std.proofs.Common.{arith}
 use Rattle.compare.proofs.Covariance.{field_within}
 use Rattle.compare.proofs.fields.covariance_entry.Goals as goal

@@ -12,4 +12,4 @@ returns c =
     let x = c.args in
     with_report x.mu.now x.x.now x.n x.terms.gate x.p.now x.q.now x.r.now x.terms.floor
     (c.repair-repair.ensures ∙ ap (λ (s : List Float). after_repair (repair s x.terms.floor x.n) x.r.now) c.joint_covariance.ensures)
-    (rw (sym c.distance_after-answer.ensures) c.comparison_of.ensures)
+    (rw (sym (rw c.requires.0.state-j at c.distance_after-answer.ensures)) c.comparison_of.ensures)

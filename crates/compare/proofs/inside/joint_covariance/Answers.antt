@@ -1,3 +1,4 @@
+-- Two covariances added entry by entry are the joint covariance.
 use Rattle.std.proofs.Common.{rules, ◌≡◌, ◌∙◌, length}
 use Rattle.kernel.specs.Lists.{tabulate}
 use Rattle.kernel.specs.Number.{add}

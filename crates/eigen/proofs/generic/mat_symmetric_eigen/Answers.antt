@@ -1,26 +1,32 @@
--- Each question is put by its own function, and `eigenpairs` has the answer.
-use Rattle.std.proofs.Common.{◌*◌}
-use Rattle.dense.proofs.Tests.{met, unmet, square_area, side_high, three-long}
-use Rattle.eigen.specs.Eigen.{mat_symmetric_eigen}
+-- A refusal of the shape is the call's, and else `eigenpairs` has the answer.
+use Rattle.std.proofs.Common.{rules, ◌≡◌, ℕ, ◌*◌, Bool, ◌&&◌, List}
+use Rattle.std.specs.Prelude.{Ok, Err}
+use lib.Ieee.{Float}
+use Rattle.kernel.specs.declared.question.Question.{Question}
+use Rattle.dense.specs.Answer.{asked}
+use Rattle.dense.specs.Matrix.{is_side, has_length}
+use Rattle.dense.proofs.Asked.{refused, passed}
+use Rattle.eigen.specs.Eigen.{eigenpairs, mat_symmetric_eigen}
 use Rattle.eigen.proofs.generic.mat_symmetric_eigen.Goals as goal
 
-pub returns-then-not-is_side : goal.returns-then-not-is_side
-unfolding mat_symmetric_eigen
-returns-then-not-is_side c = rw (unmet c.is_side.ensures c.if-not-is_side.true)
+module _ (a values vectors : List Float) (n : ℕ) where
+  abbrev lengths : Bool
+  lengths = has_length a (n * n) && (has_length values n && has_length vectors (n * n))
 
-pub are_lent-requires : goal.are_lent-requires
-are_lent-requires c = square_area c.args.n (met c.is_side.ensures c.if-not-is_side.false)
+  refusal : {q : Question} → asked (is_side n) lengths ≡ Err q → mat_symmetric_eigen a n values vectors ≡ Err q
+  unfolding mat_symmetric_eigen
+  refusal e = refused (is_side n) lengths (eigenpairs a n) e
 
-pub returns-then-not-are_lent : goal.returns-then-not-are_lent
-unfolding mat_symmetric_eigen
-returns-then-not-are_lent c = rw (met c.is_side.ensures c.if-not-is_side.false, unmet c.are_lent.ensures c.if-not-are_lent.true)
+  answer : asked (is_side n) lengths ≡ Ok tt → mat_symmetric_eigen a n values vectors ≡ eigenpairs a n
+  unfolding mat_symmetric_eigen
+  answer e = passed (is_side n) lengths (eigenpairs a n) e
 
-pub eigenpairs-requires : goal.eigenpairs-requires
-eigenpairs-requires c =
+pub returns-in_err-ask_shape : goal.returns-in_err-ask_shape
+returns-in_err-ask_shape c =
     let x = c.args in
-    let long = three-long x.a.now x.values.now x.vectors.now (x.n * x.n) x.n (x.n * x.n) (met c.are_lent.ensures c.if-not-are_lent.false) in
-    (side_high x.n (met c.is_side.ensures c.if-not-is_side.false), record { matrix-size = long.0; values-size = long.1; vectors-size = long.2 })
+    rw (refusal x.a.now x.values.now x.vectors.now x.n {q = c.in_err-ask_shape.field-0.0} (search rules)) (search rules)
 
 pub returns : goal.returns
-unfolding mat_symmetric_eigen
-returns c = rw (met c.is_side.ensures c.if-not-is_side.false, met c.are_lent.ensures c.if-not-are_lent.false) c.eigenpairs.ensures
+returns c =
+    let x = c.args in
+    rw (answer x.a.now x.values.now x.vectors.now x.n (search rules)) c.eigenpairs.ensures

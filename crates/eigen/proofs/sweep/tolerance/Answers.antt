@@ -1,3 +1,4 @@
+-- The tolerance, from the greater of the sum of all squares and the smallest normal number.
 use Rattle.eigen.specs.Eigen.{tolerance}
 use Rattle.eigen.proofs.sweep.tolerance.Goals as goal
 

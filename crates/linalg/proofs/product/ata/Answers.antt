@@ -1,3 +1,4 @@
+-- A gram matrix is the product by the rule of its entries, whichever of two entries is multiplied by the other.
 use Rattle.std.proofs.Common.{rules, ◌∙◌}
 use Rattle.dense.specs.Matrix.{at}
 use Rattle.dense.proofs.Laws.{matrix_ext}

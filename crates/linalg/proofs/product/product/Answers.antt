@@ -1,3 +1,4 @@
+-- The product is that by the rule which reads the entries of a.
 use Rattle.std.proofs.Common.{rules}
 use Rattle.dense.specs.Matrix.{at}
 use Rattle.linalg.specs.Products.{product}

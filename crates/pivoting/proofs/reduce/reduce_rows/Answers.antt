@@ -14,7 +14,7 @@ pub loop-i-preserved : goal.loop-i-preserved
 loop-i-preserved c =
     let rows = c.loop-i.invariant in
     row_written rows c.loop-i-test.true
-    (rw c.requires.row at c.reduce_row.ensures ∙ tabulate_ext _ _ _ (λ j h. rw (row_old rows j h, row_old rows c.args.k c.requires.column)))
+    (c.reduce_row.ensures ∙ tabulate_ext _ _ _ (λ j h. rw (row_old rows j h, row_old rows c.args.k c.requires.column)))
 
 pub returns : goal.returns
 returns c = every_row c.loop-i.invariant c.loop-i-test.false

@@ -36,7 +36,10 @@ ratio_of-requires c =
     let g : length c.gram.new.g ≡ c.args.n * c.args.n = c.gram.auto.g ∙ length-take-le _ _ (omega arith) in
     let v : length c.dominant-lambda.new.v ≡ c.args.n = c.dominant-lambda.auto.v ∙ length-take-le _ _ (omega arith) in
     let y : length c.dominant-lambda.new.w ≡ c.args.n = c.dominant-lambda.auto.w ∙ length-take-le _ _ (omega arith) in
-    (record { order = c.requires.0; matrix = g; left = length-take-le _ _ (omega arith); right = y }, v)
+    rw v (record { order = c.requires.0; matrix = g; left = length-take-le _ _ (omega arith); right = y })
 
 pub returns : goal.returns
-returns c = conditioned c.args.a.now c.args.n c.gram.ensures c.dominant-lambda.ensures c.ratio_of.ensures
+returns c =
+    let h = side_high c.args.n c.requires.0 in
+    let v : length c.dominant-lambda.new.v ≡ c.args.n = c.dominant-lambda.auto.v ∙ length-take-le _ _ (omega arith) in
+    conditioned c.args.a.now c.args.n c.gram.ensures c.dominant-lambda.ensures (rw v at c.ratio_of.ensures)

@@ -1,25 +1,32 @@
--- Each question is put by its own function, and the repair has the answer.
-use Rattle.dense.proofs.Tests.{met, unmet, two-long, two_squares}
-use Rattle.repair.specs.Repair.{nearest_psd}
+-- A refusal of the shape is the call's, and else the repair has the answer.
+use Rattle.std.proofs.Common.{rules, ◌≡◌, ℕ, ◌*◌, Bool, ◌&&◌, List}
+use Rattle.std.specs.Prelude.{Ok, Err}
+use lib.Ieee.{Float}
+use Rattle.kernel.specs.declared.question.Question.{Question}
+use Rattle.dense.specs.Answer.{asked}
+use Rattle.dense.specs.Matrix.{is_side, has_length}
+use Rattle.dense.proofs.Asked.{refused, passed}
+use Rattle.repair.specs.Repair.{repair, nearest_psd}
 use Rattle.repair.proofs.regularize.asked_repair.Goals as goal
 
-pub returns-then-not-is_side : goal.returns-then-not-is_side
-unfolding nearest_psd
-returns-then-not-is_side c = rw (unmet c.is_side.ensures c.if-not-is_side.true)
+module _ (cov : List Float) (floor : Float) (n : ℕ) (out : List Float) where
+  abbrev lengths : Bool
+  lengths = has_length cov (n * n) && has_length out (n * n)
 
-pub are_matrices-requires : goal.are_matrices-requires
-are_matrices-requires c = two_squares c.args.n (met c.is_side.ensures c.if-not-is_side.false)
+  refusal : {q : Question} → asked (is_side n) lengths ≡ Err q → nearest_psd cov floor n out ≡ Err q
+  unfolding nearest_psd
+  refusal e = refused (is_side n) lengths (repair cov floor n) e
 
-pub returns-then-not-are_matrices : goal.returns-then-not-are_matrices
-unfolding nearest_psd
-returns-then-not-are_matrices c = rw (met c.is_side.ensures c.if-not-is_side.false, unmet c.are_matrices.ensures c.if-not-are_matrices.true)
+  answer : asked (is_side n) lengths ≡ Ok tt → nearest_psd cov floor n out ≡ repair cov floor n
+  unfolding nearest_psd
+  answer e = passed (is_side n) lengths (repair cov floor n) e
 
-pub repair-requires : goal.repair-requires
-repair-requires c =
+pub returns-in_err-ask_shape : goal.returns-in_err-ask_shape
+returns-in_err-ask_shape c =
     let x = c.args in
-    let long = two-long x.cov.now x.out.now _ _ (met c.are_matrices.ensures c.if-not-are_matrices.false) in
-    record { order = met c.is_side.ensures c.if-not-is_side.false; matrix-size = long.0; out_size = long.1 }
+    rw (refusal x.cov.now x.floor x.n x.out.now {q = c.in_err-ask_shape.field-0.0} (search rules)) (search rules)
 
 pub returns : goal.returns
-unfolding nearest_psd
-returns c = rw (met c.is_side.ensures c.if-not-is_side.false, met c.are_matrices.ensures c.if-not-are_matrices.false) c.repair.ensures
+returns c =
+    let x = c.args in
+    rw (answer x.cov.now x.floor x.n x.out.now (search rules)) c.repair.ensures
