@@ -105,7 +105,8 @@ fn compared(with: Arguments, out: &mut [f64]) -> Option<Result<(), Question>> {
     Some(enter_comparison(answer, out))
 }
 
-// What the call answers; nothing where the record lacks what it takes.
+// What the call answers; nothing where the record lacks what it takes. A match on an enum: which call it is stands in
+// the input.
 pub(crate) fn answer(call: Call, with: Arguments, out: &mut [f64]) -> Option<Result<(), Question>> {
     let Arguments {
         m,

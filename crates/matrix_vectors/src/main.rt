@@ -10,24 +10,25 @@ mod call;
 
 use crate::answer::Arguments;
 use crate::call::Call;
-use reading::read_full;
-use replay::{BLOCK, Records, Tally, after, first_doubles, number, up_to};
+use replay::{Blocks, Tally, after, first_doubles, number, up_to};
 use std::io;
 
 // The bytes of a record before its data.
 const HEAD: u64 = 88;
 // The most entries of a slice, one of a wrong length included.
-const ENTRIES: usize = 272;
+const MOST: u16 = 272;
+
+const ENTRIES: usize = MOST as usize;
 
 // What stands in a slice before it is written.
 const BEFORE: f64 = 7.0;
 
 // Whether the record at the start of s is answered as it says.
 fn is_met(s: &[u8], call: Call) -> bool {
-    let la = up_to(ENTRIES, number(s, 6));
-    let lb = up_to(ENTRIES, number(s, 7));
-    let lc = up_to(ENTRIES, number(s, 8));
-    let lo = up_to(ENTRIES, number(s, 9));
+    let la = up_to(MOST, number(s, 6));
+    let lb = up_to(MOST, number(s, 7));
+    let lc = up_to(MOST, number(s, 8));
+    let lo = up_to(MOST, number(s, 9));
     let at_a = after(s, HEAD);
     let at_b = after(at_a, 8 * la as u64);
     let at_c = after(at_b, 8 * lb as u64);
@@ -55,25 +56,14 @@ fn is_met(s: &[u8], call: Call) -> bool {
 
 fn main(rt: HostRuntime) -> io::Result<()> {
     let mut tallies = [Tally::default(); 30];
-    let mut buffer = [0u8; BLOCK];
-    let mut reader = rt.reader();
-    // A proved loop has to end, and nothing says that the input does: so its turns are counted, up to a number that no
-    // run uses up.
-    for _ in 0..u64::MAX {
-        let n = read_full(&mut reader, &mut buffer);
-        if n == 0 {
-            break;
-        }
-        for s in (Records { rest: &buffer[..n] }) {
+    for block in Blocks::of(rt.reader()) {
+        for s in block.records() {
             let call = Call::of(number(s, 1));
             tallies[call as usize].count(is_met(s, call));
         }
     }
     for (call, tally) in Call::ALL.iter().zip(&tallies) {
-        println!(rt;
-            "{call} {} cases {} differences",
-            tally.cases, tally.differences
-        )?;
+        println!(rt; "{call} {tally}")?;
     }
     Ok(())
 }

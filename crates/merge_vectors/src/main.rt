@@ -11,8 +11,7 @@ use kernel::bytes::same_bytes;
 use kernel::question::Question;
 use merge::Counts;
 use merge::winner::{Part, WinningPart, winner, winning};
-use reading::read_full;
-use replay::{BLOCK, Records, Tally, after, number, part, split};
+use replay::{Blocks, Tally, after, number, part, split};
 use std::io;
 
 // The bytes of a record before its data.
@@ -129,7 +128,7 @@ fn wins(s: &[u8]) -> bool {
     is_told && same_bytes(wanted, winner(ours, theirs, row))
 }
 
-// Whether the record at the start of s is answered as it says.
+// Whether the record at the start of s is answered as it says. A match on an enum: the kind stands in the input.
 fn is_met(s: &[u8], kind: Kind) -> bool {
     match kind {
         Kind::Merge => merges(s),
@@ -138,18 +137,11 @@ fn is_met(s: &[u8], kind: Kind) -> bool {
     }
 }
 
+// As in the other programs: a function over the kinds and their checks would need a trait as long as this.
 fn main(rt: HostRuntime) -> io::Result<()> {
     let mut tallies = [Tally::default(); 3];
-    let mut buffer = [0u8; BLOCK];
-    let mut reader = rt.reader();
-    // A proved loop has to end, and nothing says that the input does: so its turns are counted, up to a number that no
-    // run uses up.
-    for _ in 0..u64::MAX {
-        let n = read_full(&mut reader, &mut buffer);
-        if n == 0 {
-            break;
-        }
-        for s in (Records { rest: &buffer[..n] }) {
+    for block in Blocks::of(rt.reader()) {
+        for s in block.records() {
             let kind = Kind::of(number(s, 1));
             tallies[kind as usize].count(is_met(s, kind));
         }

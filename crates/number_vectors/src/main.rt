@@ -3,7 +3,7 @@
 #![tactic(auto)]
 
 use kernel::number;
-use replay::{BLOCK, Tally};
+use replay::{Blocks, Tally};
 use std::fmt::{Display, Formatter};
 use std::{fmt, io};
 
@@ -72,20 +72,14 @@ fn replay_record(record: &[u8], tallies: &mut [Tally; 5]) {
 }
 
 fn main(rt: HostRuntime) -> io::Result<()> {
-    let mut reader = rt.reader();
-    let mut buffer = [0u8; BLOCK];
     let mut tallies = [Tally::default(); 5];
-    for _ in 0..2 {
-        let n = reading::read_full(&mut reader, &mut buffer);
-        for record in buffer[..n].chunks_exact(RECORD) {
+    for block in Blocks::of(rt.reader()).take(2) {
+        for record in block.bytes().chunks_exact(RECORD) {
             replay_record(record, &mut tallies);
         }
     }
     for (call, tally) in Call::ALL.iter().zip(&tallies) {
-        println!(rt;
-            "{call} {} cases {} differences",
-            tally.cases, tally.differences
-        )?;
+        println!(rt; "{call} {tally}")?;
     }
     Ok(())
 }

@@ -12,14 +12,8 @@ pub fn read_full<R: Read>(reader: &mut R, buffer: &mut [u8]) -> usize
     ensures bytes { Consumes (R.remaining reader.old) (R.remaining reader.new) (take result buffer.new) }
 {
     let mut done = 0;
-    // Each read goes after the one before; as many turns as bytes are enough.
-    for _ in 0..buffer.len() {
-        let Ok(n) = reader.read(&mut buffer[done..]) else {
-            break;
-        };
-        if n == 0 {
-            break;
-        }
+    // Each read goes after the one before.
+    while let Ok(n @ 1..) = reader.read(&mut buffer[done..]) {
         done += n;
     }
     done

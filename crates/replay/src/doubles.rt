@@ -6,6 +6,7 @@ ghost use Rattle.replay.specs.Replay.{entry, same, all_same};
 
 use crate::records::number;
 use kernel::constants;
+use std::array;
 
 // The double with the bit pattern p; of a NaN's pattern, a NaN.
 #[tactic(auto, using(crate::proofs::Laws::of_nan_pattern, crate::proofs::Laws::no_nan_pattern))]
@@ -22,12 +23,7 @@ pub fn double(p: u64) -> f64
 pub fn first_doubles<const N: usize>(s: &[u8]) -> [f64; N]
     ensures { (i : ℕ) → i < N → entry result i ≡ from_bits binary64 (word s.now (8 * i)) }
 {
-    let mut values = [0.0; N];
-    // The numbers of s are reckoned by their places.
-    for i in 0..N {
-        values[i] = double(number(s, i));
-    }
-    values
+    array::from_fn(|i| double(number(s, i)))
 }
 
 // Whether x is the double with the bit pattern p: any NaN is any NaN.

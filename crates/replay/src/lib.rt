@@ -3,10 +3,12 @@
 // up with zeros to a whole number.
 #![tactic(auto)]
 
+mod blocks;
 mod doubles;
 mod records;
 mod tally;
 
+pub use blocks::{Block, Blocks};
 pub use doubles::{are_same, double, first_doubles, is_same};
-pub use records::{BLOCK, Records, after, number, part, size, split, up_to};
-pub use tally::{Tally, one_more};
+pub use records::{Records, after, number, part, size, split, up_to};
+pub use tally::Tally;

@@ -6,9 +6,6 @@ ghost use Rattle.replay.specs.Replay.{bytes_at, bytes_after, record_size};
 
 use kernel::bytes;
 
-// The most bytes of a block.
-pub const BLOCK: usize = 65536;
-
 // Number k of s; 0 where it is not all there.
 #[tactic(auto, using(kernel::proofs::Words::word_outside))]
 pub fn number(s: &[u8], k: usize) -> u64
@@ -21,7 +18,7 @@ pub fn number(s: &[u8], k: usize) -> u64
 }
 
 // The n bytes of s at an index; none where they are not all there.
-#[tactic(auto, using(crate::proofs::Blocks::bytes_missing, crate::proofs::Blocks::part_there))]
+#[tactic(auto, using(crate::proofs::Parts::bytes_missing, crate::proofs::Parts::part_there))]
 pub fn part(s: &[u8], at: u64, n: u64) -> &[u8]
     ensures { result.now ≡ bytes_at s.now at n }
 {
@@ -34,7 +31,7 @@ pub fn part(s: &[u8], at: u64, n: u64) -> &[u8]
 }
 
 // What s has after n bytes that are filled up to a whole number.
-#[tactic(auto, using(crate::proofs::Blocks::none_after, crate::proofs::Blocks::left_after))]
+#[tactic(auto, using(crate::proofs::Parts::none_after, crate::proofs::Parts::left_after))]
 pub fn after(s: &[u8], n: u64) -> &[u8]
     ensures { result.now ≡ bytes_after s.now n }
 {
@@ -54,15 +51,14 @@ pub fn split(s: &[u8], n: u64) -> (&[u8], &[u8])
 }
 
 // A number from 0 to most, by one of a record: the rest that is left of n by one more than most.
-pub fn up_to(most: usize, n: u64) -> usize
-    requires { most < 65536 }
+pub fn up_to(most: u16, n: u64) -> usize
     ensures { (result ≡ n % (most + 1)) × (result ≤ most) }
 {
-    (n % (most as u64 + 1)) as usize
+    (n % (u64::from(most) + 1)) as usize
 }
 
 // The bytes of the record of s at an index; 0 where it is not all there.
-#[tactic(auto, using(crate::proofs::Blocks::size_missing, crate::proofs::Blocks::size_within), unfolding(crate::specs::Replay::record_size))]
+#[tactic(auto, using(crate::proofs::Parts::size_missing, crate::proofs::Parts::size_within), unfolding(crate::specs::Replay::record_size))]
 pub fn size(s: &[u8], at: usize) -> usize
     ensures { (result ≡ record_size s.now at) × (result ≤ length s.now - at) }
 {

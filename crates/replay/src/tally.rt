@@ -1,12 +1,8 @@
 // How many records were replayed.
 ghost use Rattle.std.specs.Prelude.{◌≡◌, ◌+◌, ◌%◌, ◌^◌, cond};
 
-// One more than n; after the largest number, 0.
-pub fn one_more(n: u64) -> u64
-    ensures { result ≡ (n + 1) % 2 ^ 64 }
-{
-    n.wrapping_add(1)
-}
+use std::fmt;
+use std::fmt::{Display, Formatter};
 
 // How many records there were of one kind, and how many of them were answered otherwise than they say.
 #[derive(Clone, Copy, Debug, Default, PartialEq, Eq)]
@@ -21,9 +17,15 @@ impl Tally {
         ensures cases { self.new.cases ≡ (self.old.cases + 1) % 2 ^ 64 }
         ensures differences { self.new.differences ≡ cond is_met self.old.differences ((self.old.differences + 1) % 2 ^ 64) }
     {
-        self.cases = one_more(self.cases);
+        self.cases = self.cases.wrapping_add(1);
         if !is_met {
-            self.differences = one_more(self.differences);
+            self.differences = self.differences.wrapping_add(1);
         }
+    }
+}
+
+impl Display for Tally {
+    fn fmt<W: fmt::Write>(&self, f: &mut Formatter<W>) -> fmt::Result {
+        write!(f, "{} cases {} differences", self.cases, self.differences)
     }
 }

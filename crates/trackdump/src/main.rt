@@ -36,11 +36,8 @@ fn print_values(rt: &impl Print, values: &[f64]) -> io::Result<()> {
 
 // The last value of each row of a triangle, which has at most nine.
 fn print_variances(rt: &impl Print, triangle: &[f64]) -> io::Result<()> {
-    // The places of the variances are reckoned: no iterator has them.
-    for i in 0..9 {
-        if let Some(x) = triangle.get(i * (i + 3) / 2) {
-            print!(rt; " {x:?}")?;
-        }
+    for x in (0..9).filter_map(|i| triangle.get(i * (i + 3) / 2)) {
+        print!(rt; " {x:?}")?;
     }
     Ok(())
 }

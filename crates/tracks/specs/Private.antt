@@ -1,5 +1,7 @@
 -- The words of the private functions' contracts: no caller needs them.
 use Rattle.std.specs.Prelude.{ℕ, ◌+◌, ◌*◌, ◌/◌, ◌≤◌, ◌<◌, ◌≡◌, List, length, Float}
+use Rattle.std.specs.Float.{binary64}
+use Rattle.std.specs.Float.Ieee.{of_bits}
 use Rattle.kernel.specs.Answer.{Outcome, through}
 use Rattle.kernel.specs.Lists.{over, tabulate}
 use Rattle.tracks.specs.Layout.{fields, map_bytes}
@@ -30,6 +32,14 @@ track_of_doubles v = track_of (patterns v)
 abbrev pub Puts : {A : Type 0} → (A → List ℕ) → Outcome (Item A) → List Float → ℕ → ℕ → List Float → Type 0
 Puts {A} fields_of o old i next new = (x : Item A) → o ≡ Ok x → (next ≡ x.next) × (new ≡ over old i (doubles (fields_of x.value)))
 
+-- That the value of a field is left, and the offset after the field is given.
+abbrev pub PutsField : Outcome (Item ℕ) → ℕ → Float → Type 0
+PutsField o next value = (x : Item ℕ) → o ≡ Ok x → (next ≡ x.next) × (value ≡ of_bits binary64 x.value)
+
+-- That the values of a track are left, and the offset after the track is given.
+abbrev pub PutsTrack : Outcome (Item Track) → ℕ → List Float → Type 0
+PutsTrack o next values = (t : Item Track) → o ≡ Ok t → (next ≡ t.next) × (values ≡ doubles t.value.values)
+
 -- That bytes are left in a buffer from an offset on, and the offset after them is given.
 abbrev pub Writes : List ℕ → List ℕ → ℕ → ℕ → List ℕ → Type 0
 Writes bytes old at next new = (next ≡ at + length bytes) × (new ≡ over old at bytes)
@@ -52,16 +62,15 @@ pub record FieldsChecked (list : List ℕ) (f map start : ℕ) : Type 0 where
   pub told : map + map_bytes f ≤ length list
   pub within : start ≤ length list
 
--- that the byte which tells of field k is there, room for the field at i, and that it is accepted
-pub record FieldPut (list : List ℕ) (map k at : ℕ) (values : List Float) (i : ℕ) : Type 0 where
+-- that the byte which tells of field k is there, and that the field is accepted
+pub record FieldPut (list : List ℕ) (map k at : ℕ) : Type 0 where
   pub told : map + k / 8 < length list
-  pub room : i < length values
   pub accepted : Accepted (field list map k at)
 
--- room for the fields of a track from i on, and that the track is accepted
-pub record TrackPut (list : List ℕ) (d map : ℕ) (values : List Float) (i : ℕ) : Type 0 where
+-- a value for each field of a track, and that the track is accepted
+pub record TrackPut (list : List ℕ) (d map : ℕ) (values : List Float) : Type 0 where
   pub small : d ≤ 9
-  pub room : i + fields d ≤ length values
+  pub long : length values ≡ fields d
   pub accepted : Accepted (track list d map)
 
 -- room for the fields of so many tracks, and that these are accepted
@@ -74,6 +83,6 @@ pub record TracksPut (list : List ℕ) (size : ListSize) (values : List Float) :
 -- the values of n tracks, and room for their records
 pub record TracksWritten (values : List Float) (d n : ℕ) (out : List ℕ) : Type 0 where
   pub small : d ≤ 9
-  pub few : n ≤ 32
+  pub sized : 0 < fields d
   pub long : length values ≡ n * fields d
   pub room : 2 + length (records_of d (tracks_of n (fields d) (patterns values))) ≤ length out

@@ -45,17 +45,14 @@ pub(crate) fn finite(bits: u64) -> bool
     bits % constants::SIGN_BIT < constants::INFINITY_BITS
 }
 
-// Question 13: whether the spare bits of the map at an offset are 0.
-#[tactic(auto, using(crate::proofs::Numbers::Bits::none_more, crate::proofs::Numbers::Bits::spare_never), unfolding(crate::specs::Layout::none, crate::specs::Layout::spare))]
+// Question 13: whether the spare bits of the map at an offset are 0. They are the high bits of its last byte.
+#[tactic(auto, using(crate::proofs::Numbers::Spare::none_spare, crate::proofs::Numbers::Spare::spare_byte))]
 pub(crate) fn spare_clear(list: &[u8], bits: usize, map: usize) -> bool
     requires { (bits ≤ 64) × (map + map_bytes bits ≤ length list.now) }
     ensures { result ≡ spare list.now bits map }
 {
-    // A loop that leaves at the first bit that is set.
-    for i in 0..(bits + 7) / 8 * 8 - bits {
-        if stands(list, map, bits + i) {
-            return false;
-        }
+    if bits % 8 == 0 {
+        return true;
     }
-    true
+    list[map + bits / 8] >> (bits % 8) == 0
 }

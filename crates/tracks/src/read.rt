@@ -5,7 +5,7 @@ ghost use Rattle.kernel.specs.Lists.{over, tabulate};
 ghost use Rattle.tracks.specs.Read.{stored, field, items, track, tracks, contents, reading};
 ghost use Rattle.tracks.specs.Calls.{joined, read_answer, read_values, read_with_offsets};
 ghost use Rattle.tracks.specs.Record.{end_of};
-ghost use Rattle.tracks.specs.Private.{ends, Within, Puts, Offsets, TracksChecked, FieldsChecked, FieldPut, TrackPut, TracksPut};
+ghost use Rattle.tracks.specs.Private.{ends, Within, Puts, PutsField, PutsTrack, Offsets, TracksChecked, FieldsChecked, FieldPut, TrackPut, TracksPut};
 
 use crate::{inside, layout};
 use kernel::bytes;
@@ -58,7 +58,8 @@ fn check_fields(list: &[u8], f: usize, map: usize, start: usize) -> Result<usize
     ensures { result ≡ ends (items (field list.now map) start f) }
 {
     let mut at = start;
-    // Each field goes after the one before, whose length the map tells.
+    // By `(0..f).try_fold(start, ..)` it is not proved that each call finds its offset within the list, nor what the
+    // calls give: no lemma of the library speaks of `try_fold`.
     for k in 0..f {
         at = check_field(list, map, k, at)?;
     }
@@ -99,8 +100,8 @@ fn check_tracks(list: &[u8], size: ListSize, offsets: &mut [usize]) -> Result<us
 {
     let mut end = Ok(2);
     // Each track goes after the one before.
-    for j in 0..size.count {
-        offsets[j] = end.unwrap_or(0);
+    for offset in offsets[..size.count].iter_mut() {
+        *offset = end.unwrap_or(0);
         end = next_track(list, size.dimension, end);
     }
     offsets[size.count] = end.unwrap_or(0);
@@ -143,30 +144,29 @@ pub(crate) fn check_list(list: &[u8]) -> Result<ListSize, Question>
     check_offsets(list, &mut offsets)
 }
 
-// Stores field k of an accepted track at an index of the values, and gives the offset after the field.
+// Stores field k of an accepted track, and gives the offset after the field.
 #[tactic(auto, using(crate::proofs::Reading::Accepted::field_laws))]
-fn put_field(list: &[u8], map: usize, k: usize, at: usize, values: &mut [f64], i: usize) -> usize
-    requires { FieldPut list.now map k at values.old i }
-    ensures { Puts (λ x. x ∷ []) (field list.now map k at) values.old i result values.new }
+fn put_field(list: &[u8], map: usize, k: usize, at: usize, value: &mut f64) -> usize
+    requires { FieldPut list.now map k at }
+    ensures { PutsField (field list.now map k at) result value.new }
 {
     if layout::stands(list, map, k) {
-        values[i] = f64::from_bits(bytes::word(list, at));
+        *value = f64::from_bits(bytes::word(list, at));
         return at + 8;
     }
-    values[i] = 0.0;
+    *value = 0.0;
     at
 }
 
-// Stores the fields of an accepted track from an index of the values on, and gives the offset after the track.
-fn put_track(list: &[u8], d: usize, map: usize, values: &mut [f64], i: usize) -> usize
-    requires { TrackPut list.now d map values.old i }
-    ensures { Puts (λ t. t.values) (track list.now d map) values.old i result values.new }
+// Stores the fields of an accepted track, and gives the offset after the track.
+fn put_track(list: &[u8], d: usize, map: usize, values: &mut [f64]) -> usize
+    requires { TrackPut list.now d map values.old }
+    ensures { PutsTrack (track list.now d map) result values.new }
 {
-    let f = inside::fields(d);
     let mut at = map + layout::map_bytes(d);
     // Each field goes after the one before, whose length the map tells.
-    for k in 0..f {
-        at = put_field(list, map, k, at, values, i + k);
+    for (k, value) in values.iter_mut().enumerate() {
+        at = put_field(list, map, k, at, value);
     }
     at
 }
@@ -178,9 +178,9 @@ fn put_tracks(list: &[u8], size: ListSize, values: &mut [f64]) -> usize
 {
     let f = inside::fields(size.dimension);
     let mut at = 2;
-    // Each track goes after the one before.
+    // Over `chunks_exact_mut(f).take(size.count)` the invariant has no name for the values that are stored.
     for j in 0..size.count {
-        at = put_track(list, size.dimension, at, values, j * f);
+        at = put_track(list, size.dimension, at, &mut values[j * f..(j + 1) * f]);
     }
     at
 }

@@ -1,31 +1,31 @@
 // A track's own bytes, as a part of the caller's list.
-ghost use Rattle.std.specs.Prelude.{◌≡◌, ◌≤◌, length, get_or};
+ghost use Rattle.std.specs.Prelude.{◌≡◌, ◌≤◌, length, get_or, unwrap_or, IfSome};
 ghost use Rattle.kernel.specs.Bytes.{same_bytes};
 ghost use Rattle.tracks.specs.Record.{record_end, record_at, OwnBytes, track_record, next_offset, at_end};
 ghost use Rattle.tracks.specs.Calls.{track_offsets};
 
 use crate::read;
 use crate::read::ListSize;
+use kernel::bytes;
 use kernel::question::Question;
 
-// Where the record that starts at an offset ends, among so many records; 0 where none of them starts there.
+// Where the record that starts at an offset ends, among so many records, if one of them starts there.
 #[tactic(auto, using(crate::proofs::Records::Ends::end_laws))]
-fn find_end(list: &[u8], size: ListSize, at: usize) -> usize
+fn find_end(list: &[u8], size: ListSize, at: usize) -> Option<usize>
     requires { (size.dimension ≤ 9) × (2 ≤ length list.now) }
-    ensures { (result ≡ record_end list.now size.dimension at 2 size.count) × (result ≤ length list.now) }
+    ensures end { unwrap_or result 0 ≡ record_end list.now size.dimension at 2 size.count }
+    ensures within { IfSome result (λ end. (at ≤ end) × (end ≤ length list.now)) }
 {
     let mut here = 2;
-    // Each record goes after the one before.
+    // Each record goes after the one before. A `try_fold` would hand out the end that is found as an error.
     for _ in 0..size.count {
-        let Ok(next) = read::check_track(list, size.dimension, here) else {
-            return 0;
-        };
+        let next = read::check_track(list, size.dimension, here).ok()?;
         if here == at {
-            return next;
+            return Some(next);
         }
         here = next;
     }
-    0
+    None
 }
 
 // A track's own bytes: the record of an accepted list that starts at an offset, or an empty part.
@@ -36,10 +36,9 @@ pub fn record(list: &[u8], at: usize) -> &[u8]
     let Ok(size) = read::check_list(list) else {
         return &list[..0];
     };
-    let end = find_end(list, size, at);
-    if end < at {
+    let Some(end) = find_end(list, size, at) else {
         return &list[..0];
-    }
+    };
     &list[at..end]
 }
 
@@ -93,9 +92,8 @@ pub fn at_end(list: &[u8], at: usize) -> bool
 }
 
 // Whether two records are equal.
-#[tactic(auto, using(crate::proofs::Records::Bytes::pointwise_same))]
 pub fn same_record(a: &[u8], b: &[u8]) -> bool
     ensures { result ≡ same_bytes a.now b.now }
 {
-    a == b
+    bytes::same_bytes(a, b)
 }

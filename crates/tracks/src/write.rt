@@ -1,5 +1,5 @@
 // Writing a list. Every question is put before anything is written.
-ghost use Rattle.std.specs.Prelude.{◌≡◌, ◌+◌, ◌*◌, ◌<◌, ◌≤◌, length, get_or};
+ghost use Rattle.std.specs.Prelude.{◌≡◌, ◌+◌, ◌*◌, ◌/◌, ◌<◌, ◌≤◌, length, get_or};
 ghost use Rattle.std.specs.Float.{binary64};
 ghost use Rattle.std.specs.Float.Ieee.{to_bits};
 ghost use Rattle.kernel.specs.Bytes.{bytes};
@@ -64,16 +64,10 @@ fn map_byte(v: &[f64], b: usize) -> u8
     requires { b < 64 }
     ensures { result ≡ map_byte (track_of_doubles v.now) b }
 {
-    let mut byte: usize = 0;
-    let mut weight: usize = 1;
-    // A loop: a fold over the bits and their weights is no plainer.
-    for i in 0..8 {
-        if is_stored(v, 8 * b + i) {
-            byte += weight;
-        }
-        weight *= 2;
-    }
-    byte as u8
+    (0..8).fold(
+        0,
+        |byte, i| byte + if is_stored(v, 8 * b + i) { 1 << i } else { 0 },
+    )
 }
 
 // Writes the map of a track of dimension d.
@@ -82,9 +76,8 @@ fn write_map(v: &[f64], d: usize, out: &mut [u8], at: usize) -> usize
     ensures { Writes (map_of d (track_of_doubles v.now)) out.old at result out.new }
 {
     let n = layout::map_bytes(d);
-    // Written from an offset on.
-    for b in 0..n {
-        out[at + b] = map_byte(v, b);
+    for (b, x) in out[at..at + n].iter_mut().enumerate() {
+        *x = map_byte(v, b);
     }
     at + n
 }
@@ -133,17 +126,16 @@ pub(crate) fn write_record(v: &[f64], d: usize, out: &mut [u8], at: usize) -> us
     write_fields(v, out, next)
 }
 
-// Writes n tracks of dimension d, after the two bytes of count and dimension.
-fn write_tracks(v: &[f64], d: usize, n: usize, out: &mut [u8]) -> usize
-    requires { TracksWritten v.now d n out.old }
-    ensures { Writes (records_of d (tracks_of n (fields d) (patterns v.now))) out.old 2 result out.new }
+// Writes the tracks of dimension d whose fields are the values, after the two bytes of count and dimension.
+fn write_tracks(v: &[f64], d: usize, out: &mut [u8]) -> usize
+    requires { TracksWritten v.now d (length v.now / fields d) out.old }
+    ensures { Writes (records_of d (tracks_of (length v.now / fields d) (fields d) (patterns v.now))) out.old 2 result out.new }
 {
     let f = inside::fields(d);
     let mut at = 2;
     // Each record goes after the one before.
-    for j in 0..n {
-        let start = j * f;
-        at = write_record(&v[start..start + f], d, out, at);
+    for values in v.chunks_exact(f) {
+        at = write_record(values, d, out, at);
     }
     at
 }
@@ -181,6 +173,6 @@ pub fn write_list(n: usize, d: usize, values: &[f64], out: &mut [u8]) -> Result<
     let length = check_write(n, d, values, out.len())?;
     out[0] = n as u8;
     out[1] = d as u8;
-    write_tracks(values, d, n, out);
+    write_tracks(values, d, out);
     Ok(length)
 }

@@ -8,7 +8,7 @@ mod kind;
 
 use crate::kind::Kind;
 use kernel::bytes::same_bytes;
-use replay::{BLOCK, Records, Tally};
+use replay::{Blocks, Tally};
 use std::io;
 use tracks::reader::Reader;
 use tracks::{read, record, write};
@@ -16,9 +16,13 @@ use tracks::{read, record, write};
 // The bytes of a record before its data.
 const HEAD: u64 = 64;
 // The most values and bytes that a record lends.
-const VALUES: usize = 128;
+const MOST_VALUES: u16 = 128;
 
-const BYTES: usize = 1100;
+const VALUES: usize = MOST_VALUES as usize;
+
+const MOST_BYTES: u16 = 1100;
+
+const BYTES: usize = MOST_BYTES as usize;
 
 // The most records of a list.
 const MOST_RECORDS: usize = 32;
@@ -32,7 +36,7 @@ const BYTE_BEFORE: u8 = 0xA5;
 // count, the dimension and the records that a reader finds; the list, and the values afterwards.
 fn reads(s: &[u8]) -> bool {
     let (list, left) = replay::split(replay::after(s, HEAD), replay::number(s, 2));
-    let room = replay::up_to(VALUES, replay::number(s, 3));
+    let room = replay::up_to(MOST_VALUES, replay::number(s, 3));
     let mut lent = [VALUE_BEFORE; VALUES];
     let values = &mut lent[..room];
     let is_told = match read::read_list(list, values) {
@@ -59,9 +63,9 @@ fn walks(s: &[u8]) -> bool {
 // number and the list's length; the values, and the bytes afterwards.
 fn writes(s: &[u8]) -> bool {
     let data = replay::after(s, HEAD);
-    let n = replay::up_to(VALUES, replay::number(s, 4));
+    let n = replay::up_to(MOST_VALUES, replay::number(s, 4));
     let values = replay::first_doubles::<VALUES>(data);
-    let room = replay::up_to(BYTES, replay::number(s, 5));
+    let room = replay::up_to(MOST_BYTES, replay::number(s, 5));
     let (left, _) = replay::split(replay::after(data, 8 * n as u64), replay::number(s, 5));
     let mut lent = [BYTE_BEFORE; BYTES];
     let out = &mut lent[..room];
@@ -102,7 +106,7 @@ fn compares(s: &[u8]) -> bool {
     replay::number(s, 4) == u64::from(record::same_record(a, b))
 }
 
-// Whether the record at the start of s is answered as it says.
+// Whether the record at the start of s is answered as it says. A match on an enum: the kind stands in the input.
 fn is_met(s: &[u8], kind: Kind) -> bool {
     match kind {
         Kind::Read => reads(s) && walks(s),
@@ -112,13 +116,14 @@ fn is_met(s: &[u8], kind: Kind) -> bool {
     }
 }
 
+// As in the other programs: a function over the kinds and their checks would need a trait as long as this.
 fn main(rt: HostRuntime) -> io::Result<()> {
     let mut tallies = [Tally::default(); 4];
-    let mut buffer = [0u8; BLOCK];
-    let n = reading::read_full(&mut rt.reader(), &mut buffer);
-    for record in (Records { rest: &buffer[..n] }) {
-        let kind = Kind::of(replay::number(record, 1));
-        tallies[kind as usize].count(is_met(record, kind));
+    for block in Blocks::of(rt.reader()).take(1) {
+        for record in block.records() {
+            let kind = Kind::of(replay::number(record, 1));
+            tallies[kind as usize].count(is_met(record, kind));
+        }
     }
     for (kind, tally) in Kind::ALL.iter().zip(&tallies) {
         println!(rt; "{} {kind}, {} differences", tally.cases, tally.differences)?;

@@ -15,8 +15,8 @@ written_after a k n xs ys within fits =
     ∙ ap (λ l. take a xs ++ take n l) (drop_at (take a xs) (ys ++ post_of a k xs) a (length-take-le a xs within))
     ∙ ap (λ l. take a xs ++ l) (take-append-le n ys (post_of a k xs) fits)
 
-pub loop-preserved : goal.loop-preserved
-loop-preserved g c =
-    let within = c.loop.invariant.0 in
-    let joined = written_after c.loop.done (length c.loop.buffer - c.loop.done) c.in-Ok.n c.loop.buffer c.read.new.buf within c.in-Ok.ensures.bound.0 in
-    (search rules, subst (Consumes _ _) (sym joined) (Consumes-trans _ _ _ _ _ c.loop.invariant.1 c.in-Ok.ensures.bytes.0))
+pub loop-n-preserved : goal.loop-n-preserved
+loop-n-preserved g c =
+    let within = c.loop-n.invariant.0 in
+    let joined = written_after c.loop-n.done (length c.loop-n.buffer - c.loop-n.done) c.in-Ok-1-to-max.n c.loop-n.buffer c.read.new.buf within c.in-Ok-1-to-max.ensures.bound.0 in
+    (search rules, subst (Consumes _ _) (sym joined) (Consumes-trans _ _ _ _ _ c.loop-n.invariant.1 c.in-Ok-1-to-max.ensures.bytes.0))

@@ -11,8 +11,7 @@ use mathlib.Core.Path.{◌≡◌, refl, sym, ap, ◌∙◌}
 use mathlib.Core.Bool.{Bool, true, false, not, ◌&&◌, cond}
 use borrow.Author.Tests.{eqb-true, eqb-false, eq-eqb}
 use lib.Dec.{eqb}
-use mathlib.Core.List.{List}
-use Rattle.tracks.specs.Layout.{map_bytes, stands, none, spare}
+use Rattle.tracks.specs.Layout.{none}
 use Rattle.tracks.specs.Write.{packed}
 
 -- ---- bits that are packed one by one
@@ -108,11 +107,6 @@ packed_bit test n i h = bit_back (test i) (packed test n / 2 ^ i) (by n h)
 
 -- ---- tests that all fail
 
--- one test more that fails
-pub none_more : (test : ℕ → Bool) (n : ℕ) {b : Bool} → none test n ≡ true → test n ≡ b → none test (n + 1) ≡ not b
-unfolding none
-none_more test n p q = rw (add-one, p, q) refl
-
 -- a test that holds
 pub none_not : (test : ℕ → Bool) (k n : ℕ) → k < n → test k ≡ true → none test n ≡ false
 unfolding none
@@ -126,11 +120,6 @@ none_not test k (suc n) h e =
     no_right : (a : Bool) {b : Bool} → b ≡ false → a && b ≡ false
     no_right true q = q
     no_right false q = refl
-
--- a spare bit that stands
-pub spare_never : (l : List ℕ) (bits map i : ℕ) → i < 8 * map_bytes bits - bits → stands l map (bits + i) ≡ true → spare l bits map ≡ false
-unfolding spare
-spare_never l bits map i h e = none_not (λ j. stands l map (bits + j)) i (8 * map_bytes bits - bits) h e
 
 -- each test fails
 pub none_each : (test : ℕ → Bool) (n : ℕ) → none test n ≡ true → (i : ℕ) → i < n → test i ≡ false

@@ -20,7 +20,6 @@ use Rattle.tracks.specs.Private.{ends, Within}
 use Rattle.tracks.specs.Record.{end_of, offset}
 use Rattle.kernel.specs.Lists.{over, tabulate}
 use Rattle.tracks.proofs.Reading.Items.{ended, stopped, made_met, items_ind, items-length}
-use Rattle.kernel.proofs.Lists.{over-set}
 use Rattle.kernel.proofs.Answers.{answered_inj, ask_met, and_then_met}
 use Rattle.std.specs.Prelude.{Ok, Err}
 use Rattle.kernel.specs.declared.question.Question.{Question}
@@ -97,6 +96,9 @@ track_met l d at t e =
 
 pub track_within : (l : List ℕ) (d at : ℕ) → Within l (ends (track l d at))
 track_within l d at e p = let a = ended (track l d at) e p in omega (arith, (track_met l d at a.0 a.1).within, a.2)
+
+pub track_after : (l : List ℕ) (d at : ℕ) {next : ℕ} → ends (track l d at) ≡ Ok next → at ≤ next
+track_after l d at {next} p = let a = ended (track l d at) next p in omega (arith, (track_met l d at a.0 a.1).from, a.2)
 
 -- accepted tracks end within the list
 pub tracks_within : (l : List ℕ) (d n : ℕ) → 2 ≤ length l → Within l (ends (tracks l d n))
@@ -205,7 +207,7 @@ offsets_told l old c a = ap (λ (n : ℕ). over old 0 (tabulate (n + 1) (offset 
 -- ---- for the search
 
 -- of `put_field`
-pub ruleset field_laws = (field_stored, field_absent, finite_no_nan, over-set)
+pub ruleset field_laws = (field_stored, field_absent, finite_no_nan)
 
 -- of `check_offsets`
 pub ruleset question_laws = (dimension-small, few_tracks, contents_headless, contents_many, contents_sized, contents_stopped, contents_followed, contents_ended, offsets_told)

@@ -130,8 +130,8 @@ record_found l at size end told e =
     let same = e ∙ ap (record_end l d at 2) k.count ∙ ap (λ (n : ℕ). record_end l n at 2 (length k.held.tracks)) k.dimension in
     ap (record_in l at) k.accepted ∙ ap (part l at) (sym same)
 
-pub part_before : (l : List ℕ) (at end : ℕ) → end < at → part l at end ≡ []
-part_before l at end h = let none : end - at ≡ 0 = omega arith in ap (λ (n : ℕ). take n (drop at l)) none
+pub record_missing : (l : List ℕ) (at : ℕ) (size : ListSize) → Ok size ≡ read_answer (contents l) → 0 ≡ record_end l size.dimension at 2 size.count → record_at l at ≡ []
+record_missing l at size told e = record_found l at size 0 told e ∙ (let none : 0 - at ≡ 0 = omega arith in ap (λ (n : ℕ). take n (drop at l)) none)
 
 pub size_head : (l : List ℕ) (size : ListSize) → Ok size ≡ read_answer (contents l) → 2 ≤ length l
 size_head l size told = (known_list l told).whole.two
@@ -142,4 +142,4 @@ size_head l size told = (known_list l told).whole.two
 pub ruleset read_laws = (size_few, size_small, size_tracks, size_values, reading_few, reading_answer, reading_left, reading_refused)
 
 -- of `record`
-pub ruleset record_laws = (size_small, size_head, record_refused, record_found, part_before)
+pub ruleset record_laws = (size_small, size_head, record_refused, record_found, record_missing)

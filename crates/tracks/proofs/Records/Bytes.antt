@@ -1,21 +1,21 @@
 -- Laws of the bytes of fields, maps and records, as a loop writes them. `stored_more` and `records_more` are the steps of the loops,
 -- `list_length` is the length of a whole list, `written_met` gives each question of a list that is written. `written_many` and its neighbours say which question is not met,
 -- `listed_few` and its neighbours what a list is whose length is answered.
-use Prim.Native.Nat.{ℕ, zero, suc, ◌+◌, ◌*◌, ◌<◌, ◌≤◌}
+use Prim.Native.Nat.{ℕ, zero, suc, ◌+◌, ◌*◌, ◌/◌, ◌<◌, ◌≤◌}
 use native.Mathlib.Omega.{arith}
 use native.Mathlib.Nat.{zero-mul, suc-mul}
 use native.Mathlib.Numerals.{add-one}
-use mathlib.Core.Path.{◌≡◌, refl, sym, ap, ◌∙◌}
+use Rattle.std.proofs.Math.Nat.{mul-div_cancel}
+use mathlib.Core.Path.{◌≡◌, refl, sym, ap, ◌∙◌, subst}
 use mathlib.Core.Bool.{Bool, true, false}
 use mathlib.Core.List.{List, [], ◌∷◌, ◌++◌, flat_map}
 use borrow.Author.Tests.{eq-eqb, ne_eqb, eqb-true, eqb-false, leb-true, le-leb, lt-leb}
 use lib.Dec.{eqb, leb}
 use lib.Ieee.{Float, nan, binary64, to_bits}
-use lib.Pointwise.{pointwise}
 use lib.ListN.{length, get_or, take, drop, set, length-set, length-append, take-append-drop}
 use lib.Seq.{take-add, take_all}
 use Rattle.tracks.specs.Layout.{fields, map_bits, map_bytes, count_met, dimension_met}
-use Rattle.kernel.specs.Bytes.{bytes, same_bytes}
+use Rattle.kernel.specs.Bytes.{bytes}
 use Rattle.tracks.specs.Read.{Track, track_of}
 use Rattle.tracks.specs.Write.{map_byte, map_of, field_bytes, stored_bytes, record_of, records_of, list_of, tracks_of, track_list, all_finite, written}
 use Rattle.kernel.specs.Lists.{tabulate, over}
@@ -23,7 +23,7 @@ use Rattle.kernel.specs.Answer.{Outcome}
 use Rattle.tracks.specs.Calls.{patterns, write_answer, write_bytes}
 use Rattle.tracks.specs.Private.{TracksWritten}
 use Rattle.tracks.proofs.Reading.Accepted.{dimension-small, few_tracks}
-use Rattle.tracks.proofs.Numbers.Fields.{few_values}
+use Rattle.tracks.proofs.Numbers.Fields.{few_values, some-fields}
 use Rattle.tracks.proofs.Numbers.Values.{length-patterns, pattern-at}
 use Rattle.kernel.proofs.Answers.{answered_inj, ask_met, never_both}
 use Rattle.kernel.proofs.Words.{length-bytes}
@@ -47,15 +47,6 @@ field_takes_none x e = ap length (field_none x e)
 
 pub field_takes_eight : (x : ℕ) → (x ≡ 0 → ⊥) → length (field_bytes x) ≡ 8
 field_takes_eight x e = ap length (field_some x e) ∙ length-bytes 8 x
-
--- ---- bytes that are compared
-
-pub pointwise_same : (a b : List ℕ) → pointwise eqb a b ≡ same_bytes a b
-unfolding same_bytes
-pointwise_same [] [] = refl
-pointwise_same [] (y ∷ b) = refl
-pointwise_same (x ∷ a) [] = refl
-pointwise_same (x ∷ a) (y ∷ b) = rw (pointwise_same a b) refl
 
 -- ---- the stored fields
 
@@ -229,6 +220,9 @@ module _ (v : List Float) (n d room k : ℕ) (told : Ok k ≡ write_answer (writ
   pub listed_small : d ≤ 9
   listed_small = dimension-small d answered.2.sized
 
+  listed_rows : length v / fields d ≡ n
+  listed_rows = ap (λ (k : ℕ). k / fields d) (sym (length-patterns v) ∙ answered.2.long) ∙ mul-div_cancel n (some-fields d answered.2.sized)
+
   shape : answered.0 ≡ n ∷ d ∷ records_of d (tracks_of n (fields d) (patterns v))
   unfolding list_of tracks_of
   shape = answered.2.same ∙ ap (λ (j : ℕ). j ∷ d ∷ records_of d (tracks_of n (fields d) (patterns v))) (length-tabulate n _)
@@ -237,12 +231,16 @@ module _ (v : List Float) (n d room k : ℕ) (told : Ok k ≡ write_answer (writ
   listed_room = omega (arith, answered.2.fits, ap length shape)
 
   module _ (out : List ℕ) (size : length out ≡ room) where
-    pub listed_tracks : TracksWritten v d n (set (set out 0 n) 1 d)
-    listed_tracks = record { small = listed_small; few = listed_few; long = sym (length-patterns v) ∙ answered.2.long; room = simp length-set (omega (arith, listed_room, size)) }
+    pub listed_tracks : TracksWritten v d (length v / fields d) (set (set out 0 n) 1 d)
+    listed_tracks =
+        subst (λ (k : ℕ). TracksWritten v d k (set (set out 0 n) 1 d)) (sym listed_rows)
+        (record { small = listed_small; sized = some-fields d answered.2.sized; long = sym (length-patterns v) ∙ answered.2.long; room = simp length-set (omega (arith, listed_room, size)) })
 
-    pub listed_left : (new : List ℕ) → new ≡ over (set (set out 0 n) 1 d) 2 (records_of d (tracks_of n (fields d) (patterns v))) → new ≡ write_bytes (written n d (patterns v) room) out
+    pub listed_left : (new : List ℕ) → new ≡ over (set (set out 0 n) 1 d) 2 (records_of d (tracks_of (length v / fields d) (fields d) (patterns v)))
+        → new ≡ write_bytes (written n d (patterns v) room) out
     listed_left new e =
-        e ∙ over-two out n d (records_of d (tracks_of n (fields d) (patterns v))) (omega (arith, listed_room, size)) ∙ ap (over out 0) (sym shape)
+        e ∙ ap (λ (k : ℕ). over (set (set out 0 n) 1 d) 2 (records_of d (tracks_of k (fields d) (patterns v)))) listed_rows
+        ∙ over-two out n d (records_of d (tracks_of n (fields d) (patterns v))) (omega (arith, listed_room, size)) ∙ ap (over out 0) (sym shape)
         ∙ sym (ap (λ (o : Outcome (List ℕ)). write_bytes o out) answered.1)
 
 -- ---- for the search

@@ -10,7 +10,7 @@ use Rattle.kernel.specs.Answer.{Outcome}
 use Rattle.tracks.specs.Read.{TrackList, track, contents}
 use Rattle.tracks.specs.Private.{ends}
 use Rattle.tracks.specs.Record.{record_end, record_in, record_at}
-use Rattle.tracks.proofs.Reading.Accepted.{track_within}
+use Rattle.tracks.proofs.Reading.Accepted.{track_within, track_after}
 use Rattle.tracks.proofs.Reading.Items.{ended, stopped}
 use Rattle.std.specs.Prelude.{Ok, Err}
 use Rattle.kernel.specs.declared.question.Question.{Question}
@@ -55,4 +55,4 @@ record_short l at = by (contents l)
     by (Ok c) = let e = record_end l c.dimension at 2 (length c.tracks) in omega (arith, length-take (e - at) (drop at l), length-drop at l)
 
 -- for the search of `find_end`
-pub ruleset end_laws = (found_here, found_later, found_nowhere, found_none, track_within)
+pub ruleset end_laws = (found_here, found_later, found_nowhere, found_none, track_within, track_after)

@@ -11,7 +11,7 @@ use lib.Seq.{take-suc, drop-drop, length-take-le}
 use Rattle.std.specs.Int.{to_le_bytes}
 use Rattle.kernel.specs.Bytes.{bytes}
 use Rattle.kernel.proofs.Words.{bytes_8, length-bytes}
-use Rattle.std.proofs.Common.{w64}
+use Rattle.std.proofs.Common.{w64, drop_of_length-le}
 use borrow.Rule.Slice.PartMut.{put_mid}
 use Rattle.kernel.specs.Lists.{tabulate, over}
 use Rattle.kernel.proofs.Lists.{tabulate_more, over-set, over_more, over-over}
@@ -84,6 +84,11 @@ get_d_more P d (y ∷ l) x n h p (suc i) = get_d_more P d l x n (λ j. h (suc j)
 pub over_front : {A : Type 0} (l y : List A) (n : ℕ) → n ≡ length y → y ++ drop n l ≡ over l 0 y
 unfolding over
 over_front l y n e = let z : n ≡ 0 + length y = omega (arith, e) in ap (λ (i : ℕ). y ++ drop i l) z
+
+-- all elements, written over
+pub over_whole : {A : Type 0} (l y : List A) → length y ≡ length l → over l 0 y ≡ y
+unfolding over
+over_whole l y e = let h : length l ≤ 0 + length y = omega (arith, e) in rw (drop_of_length-le l h) (append-nil y)
 
 pub put_mid_over : {A : Type 0} (l y : List A) (at n : ℕ) → n ≡ length y → put_mid at n l y ≡ over l at y
 unfolding over

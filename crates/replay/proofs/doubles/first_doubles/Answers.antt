@@ -1,12 +1,9 @@
--- The turn's number is put in its place, and leaves the others.
-use Rattle.std.proofs.Common.{◌<◌, ◌≢◌, length, arith, rules, get_or-set_other, get_or-set_same, below_more}
+-- Each call gives the number of its place.
+use Rattle.std.proofs.Common.{◌*◌, from_bits, rules, arith}
+use Rattle.std.specs.Float.{binary64}
+use Rattle.kernel.specs.Bytes.{word}
+use Rattle.replay.proofs.Made.{made_at}
 use Rattle.replay.proofs.doubles.first_doubles.Goals as goal
 
-pub loop-i-preserved : goal.loop-i-preserved
-loop-i-preserved g c =
-    let here : c.loop-i.i < length c.loop-i.values = omega arith in (
-      search rules,
-      below_more _ _
-          (λ k h. let other : k ≢ c.loop-i.i = omega arith in rw get_or-set_other (c.loop-i.invariant.1 k h))
-          (rw get_or-set_same (cc)),
-    )
+pub returns : goal.returns
+returns g c i h = (made_at _ c.from_fn.result (λ k. from_bits binary64 (word c.args.s.now (8 * k))) (λ k x q e. search rules) 0 _ c.from_fn.ensures.items.each i (omega arith) (omega (arith, h))).1 _

@@ -7,8 +7,8 @@ use Rattle.tracks.specs.Private.{ends}
 use Rattle.tracks.proofs.Slices.Laid.{Laid}
 use Rattle.tracks.proofs.read.check_tracks.Given as goal
 
-abbrev pub invariant-loop-j : goal.invariant-loop-j
-invariant-loop-j l = record {
-  told : l.end ≡ ends (tracks l.list l.size.dimension l.j);
-  laid : Laid l.fn.offsets 0 (tabulate l.j (λ j. end_of (tracks l.list l.size.dimension j))) l.j l.offsets;
+abbrev pub invariant-loop-offset : goal.invariant-loop-offset
+invariant-loop-offset l = record {
+  told : l.end ≡ ends (tracks l.list l.size.dimension l.offset-index);
+  laid : Laid l.initial.offset-items 0 (tabulate l.offset-index (λ j. end_of (tracks l.list l.size.dimension j))) l.offset-index l.offset-items;
 }

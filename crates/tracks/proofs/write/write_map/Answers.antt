@@ -1,30 +1,22 @@
--- A byte more of the map is laid, and all of them are the map.
-use Rattle.std.proofs.Common.{ℕ, ◌+◌, ◌≡◌, ◌++◌, [], ◌∷◌, ap, ◌∙◌, arith}
-use native.Mathlib.Nat.{add-zero, le_antisymm}
-use Rattle.kernel.specs.Lists.{tabulate}
-use Rattle.kernel.proofs.Lists.{length-tabulate, tabulate_more}
+-- All bytes of the map are written.
+use Rattle.std.proofs.Common.{ℕ, ◌+◌, ◌-◌, ◌≡◌, length, take, drop, ap, ◌∙◌, arith, length-take, length-drop}
+use Rattle.kernel.specs.Lists.{tabulate, over}
+use Rattle.kernel.proofs.Lists.{by_elements}
 use Rattle.tracks.specs.Write.{map_byte, map_of}
 use Rattle.tracks.specs.Private.{track_of_doubles}
-use Rattle.tracks.proofs.Slices.Laid.{laid_none, laid_set, laid_all}
+use Rattle.tracks.proofs.Slices.Lists.{put_mid_over}
+use Rattle.tracks.proofs.Records.Bytes.{map_length}
 use Rattle.tracks.proofs.write.write_map.Goals as goal
-
-pub loop-b-init : goal.loop-b-init
-unfolding tabulate
-loop-b-init c = rw add-zero laid_none
-
-pub loop-b-preserved : goal.loop-b-preserved
-loop-b-preserved c =
-    let l = c.loop-b in
-    let t = track_of_doubles c.args.v.now in
-    let more : tabulate (l.b + 1) (map_byte t) ≡ tabulate l.b (map_byte t) ++ (c.map_byte.result ∷ []) = rw c.map_byte.ensures (tabulate_more l.b (map_byte t)) in
-    laid_set l.invariant _ more (omega (arith, length-tabulate (l.b + 1) (map_byte t), c.map_bytes-n.ensures.0)) (omega arith)
 
 pub returns : goal.returns
 unfolding map_of
 returns c =
     let x = c.args in
     let l = c.loop-b in
-    let bytes = map_byte (track_of_doubles x.v.now) in
-    let n : l.b ≡ c.map_bytes-n.result = le_antisymm l.auto.b-end c.loop-b-test.false in
-    let all = laid_all l.invariant (ap (λ (k : ℕ). tabulate k bytes) (n ∙ c.map_bytes-n.ensures.0)) in
-    (omega (arith, all.0, n), all.1)
+    let n = c.map_bytes-n.result in
+    let t = track_of_doubles x.v.now in
+    let part : length (take (x.at + n - x.at) (drop x.at x.out.now)) ≡ n =
+    omega (arith, length-take (x.at + n - x.at) (drop x.at x.out.now), length-drop x.at x.out.now, c.requires.1, c.map_bytes-n.ensures.0) in
+    let long : length l.x-items ≡ n = l.auto.x-items ∙ part in
+    let whole = by_elements 0 n (map_byte t) l.x-items long (λ i h. l.invariant i (omega (arith, h, part, c.loop-b-test.false))) ∙ ap (λ (k : ℕ). tabulate k (map_byte t)) c.map_bytes-n.ensures.0 in
+    (omega (arith, map_length x.d t, c.map_bytes-n.ensures.0), put_mid_over x.out.now l.x-items x.at (x.at + n - x.at) (omega (arith, long)) ∙ ap (over x.out.now x.at) whole)
