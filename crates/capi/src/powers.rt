@@ -52,7 +52,7 @@ pub extern "C" fn pel_condition_number(a: &[f64], n: usize, out: &mut f64) -> u3
     enter(generic::condition_number(a, n), out)
 }
 
-// The code of an answer, and its condition numbers into the two places.
+// The code of an answer, and its condition numbers into the two places, as `enter_read` does.
 fn enter_damping(answer: Result<TikhonovReport, Question>, before: &mut f64, after: &mut f64) -> u32
     ensures { (result, (before.new, after.new)) ≡ told_damping answer before.old after.old }
 {

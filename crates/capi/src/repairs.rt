@@ -11,14 +11,10 @@ use repair::{RegularizationReport, regularize};
 fn mask_bits(mask: [bool; 16]) -> u32
     ensures { result ≡ mask_bits mask }
 {
-    let mut bits: u32 = 0;
-    let mut weight: u32 = 1;
-    // A loop: a fold over the truths and their weights is no plainer.
-    for k in 0..16 {
-        if mask[k] {
-            bits += weight;
-        }
-        weight *= 2;
+    let mut bits = 0;
+    // By a fold with `|` the result stayed open; by one that doubles, from the last bit on, also that the sum fits.
+    for (k, x) in mask.iter().enumerate() {
+        bits += u32::from(*x) << k;
     }
     bits
 }

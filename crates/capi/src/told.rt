@@ -37,7 +37,8 @@ pub(crate) fn enter<T: Copy>(answer: Result<T, Question>, place: &mut T) -> u32
     }
 }
 
-// The code of an answer, and its count and dimension into their places.
+// The code of an answer, and its count and dimension into their places. Other answers of several fields are entered
+// alike: by one function over a closure that writes them, the result stays open, since of a refusal nothing is said.
 pub(crate) fn enter_read(
     answer: Result<ListSize, Question>,
     count: &mut usize,

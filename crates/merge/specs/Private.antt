@@ -147,12 +147,11 @@ pub record SomeKeys (terms : Terms) (mu p vs q keys : List Float) : Type 0 where
   pub track : Comparable terms mu p q
   pub others : Values vs (length keys) (fields terms.d)
 
--- That the track with the fields u can be compared with n others, and that there is room for their keys.
-pub record KeyRow (terms : Terms) (u vs : List Float) (n : ℕ) (keys : List Float) : Type 0 where
+-- That the track with the fields u can be compared with others, as many as there is room for keys.
+pub record KeyRow (terms : Terms) (u vs keys : List Float) : Type 0 where
   pub compares : Compares terms
   pub track : length u ≡ fields terms.d
-  pub others : Values vs n (fields terms.d)
-  pub room : length keys ≡ n
+  pub others : Values vs (length keys) (fields terms.d)
 
 -- That the tracks of two lists can be compared, and those of three.
 pub record TwoValues (terms : Terms) (us : List Float) (m : ℕ) (vs : List Float) (n : ℕ) : Type 0 where

@@ -15,24 +15,20 @@ fn tracks_among(i: u8, j: u8, k: u8) -> usize
 }
 
 // How many of the first `total` rows have n tracks.
-#[tactic(auto, using(crate::proofs::Buffers::HowMany::how_many_most), unfolding(crate::specs::Buffer::how_many))]
 fn rows_with(rows: &[u8], total: usize, n: usize) -> usize
-    requires { (total ≤ 96) × (4 * total ≤ length rows.now) }
+    requires { 4 * total ≤ length rows.now }
     ensures { result ≡ how_many total (λ x. eqb (tracks_in rows.now x) n) }
 {
-    let mut count = 0;
-    // Rows are read by their places, of which there may be more than are counted.
-    for r in 0..total {
-        if tracks_among(rows[4 * r], rows[4 * r + 1], rows[4 * r + 2]) == n {
-            count += 1;
-        }
-    }
-    count
+    let (rows, _) = rows.as_chunks::<4>();
+    rows[..total]
+        .iter()
+        .filter(|row| tracks_among(row[0], row[1], row[2]) == n)
+        .count()
 }
 
 // The counts of the first `total` rows.
 pub(crate) fn count_rows(rows: &[u8], total: usize) -> Counts
-    requires { (total ≤ 96) × (4 * total ≤ length rows.now) }
+    requires { 4 * total ≤ length rows.now }
     ensures { result ≡ counts_in rows.now total }
 {
     let full = rows_with(rows, total, 3);

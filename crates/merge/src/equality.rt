@@ -14,7 +14,8 @@ pub(crate) struct Placed<'a> {
     pub(crate) offsets: &'a [usize],
 }
 
-// Whether track i of one list and track j of another are there and have equal records.
+// Whether track i of one list and track j of another are there and have equal records. No derive or `==` of std does
+// this, since a track is no value here: it asks first whether both are there, and finds their records by the offsets.
 #[tactic(auto, using(crate::proofs::Readings::Located::compared))]
 pub(crate) fn same_tracks(a: Placed, i: u8, b: Placed, j: u8) -> bool
     requires { TwoIndices a.list.now a.offsets.now i b.list.now b.offsets.now j }

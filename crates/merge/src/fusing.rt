@@ -26,7 +26,8 @@ fn fuse_over(base: &mut [f64], ours: &[f64], theirs: &[f64], d: usize, floor: f6
     true
 }
 
-// The verdict on a row of base's track that had the verdict v, with track j of ours and track k of theirs, after the pass.
+// The verdict on a row of base's track that had the verdict v, with track j of ours and track k of theirs, after the
+// pass. Numbers, as they stand in the row: v goes back as it is where nothing is fused.
 fn verdict_after(
     v: u8,
     j: u8,
@@ -69,7 +70,8 @@ pub(crate) fn fuse_rows(
 {
     let d = sizes.dimension;
     let f = fields(d);
-    // A row and the values of its base track change together.
+    // A row and its base track's values change together. By `chunks_exact_mut` of both with `zip` the proof stays
+    // open: of the two slices it then knows only the lengths.
     for i in 0..sizes.base {
         let start = i * f;
         let v = verdict_after(

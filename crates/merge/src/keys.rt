@@ -67,10 +67,8 @@ fn put_keys(
     ensures { keys.new ≡ keys_from terms (eqb first nobody) mu.now p.now vs.now partners (length keys.old) }
 {
     let f = fields(terms.d);
-    let n = keys.len();
-    // The room for a covariance is written for each key, which a closure of `fill` cannot do.
-    for j in 0..n {
-        keys[j] = if first == NO_TRACK && partners[j] == NO_TRACK {
+    for (j, place) in keys.iter_mut().enumerate() {
+        *place = if first == NO_TRACK && partners[j] == NO_TRACK {
             key(mu, p, row(vs, f, j), terms, q)
         } else {
             no_key()
@@ -78,18 +76,10 @@ fn put_keys(
     }
 }
 
-// Writes the keys of the track with the fields u, and those of n tracks of the second list.
-fn key_row(
-    u: &[f64],
-    first: u8,
-    vs: &[f64],
-    partners: [u8; 32],
-    n: usize,
-    terms: Terms,
-    keys: &mut [f64],
-)
-    requires { KeyRow terms u.now vs.now n keys.old }
-    ensures { keys.new ≡ tabulate n (λ j. key_among terms (eqb first nobody) (is_free partners j) u.now (row_of vs.now (fields terms.d) j)) }
+// Writes the keys of the track with the fields u, and tracks of the second list, as many as there is room for keys.
+fn key_row(u: &[f64], first: u8, vs: &[f64], partners: [u8; 32], terms: Terms, keys: &mut [f64])
+    requires { KeyRow terms u.now vs.now keys.old }
+    ensures { keys.new ≡ tabulate (length keys.old) (λ j. key_among terms (eqb first nobody) (is_free partners j) u.now (row_of vs.now (fields terms.d) j)) }
 {
     let mut p = [0.0f64; 81];
     let mut q = [0.0f64; 81];
@@ -123,7 +113,8 @@ pub(crate) fn keys_between(
     ensures { KeysInFront (m * n) (keys_between terms us.now us_partners m vs.now vs_partners n) keys.new }
 {
     let f = fields(terms.d);
-    // Each row of keys is lent.
+    // By `chunks_exact_mut(n)`, which 0 columns do not allow, the proof stays open: of the keys it then knows only
+    // how many there are.
     for i in 0..m {
         let u = row(us, f, i);
         let start = i * n;
@@ -133,7 +124,6 @@ pub(crate) fn keys_between(
             us_partners[i],
             vs,
             vs_partners,
-            n,
             terms,
             &mut keys[start..end],
         );

@@ -5,7 +5,7 @@ ghost use Rattle.kernel.specs.Lists.{over};
 ghost use Rattle.merge.specs.Private.{undecided, undecided_row, rows_by, rows_bytes, base_group, ours_group, theirs_group, only_if, Appended, RowsRoom, AllRowsRoom};
 
 use crate::NO_TRACK;
-use crate::pairings::{Pairings, Partners};
+use crate::pairings::Pairings;
 use crate::questions::Sizes;
 use crate::verdict::Verdict;
 
@@ -17,41 +17,30 @@ fn put_row(wanted: bool, i: u8, j: u8, k: u8, r: usize, rows: &mut [u8]) -> usiz
     if !wanted {
         return r;
     }
-    rows[4 * r] = i;
-    rows[4 * r + 1] = j;
-    rows[4 * r + 2] = k;
-    rows[4 * r + 3] = Verdict::Keep.number();
+    rows[4 * r..4 * r + 4].copy_from_slice(&[i, j, k, Verdict::Keep.number()]);
     r + 1
 }
 
 // Writes the rows of m base tracks, by their partners in ours and in theirs.
-fn base_rows(base_ours: Partners, base_theirs: Partners, m: usize, rows: &mut [u8])
+fn base_rows(ours_of: [u8; 32], theirs_of: [u8; 32], m: usize, rows: &mut [u8])
     requires { RowsRoom m 0 rows.old }
-    ensures { rows.new ≡ over rows.old 0 (rows_bytes (base_group base_ours.firsts base_theirs.firsts m)) }
+    ensures { rows.new ≡ over rows.old 0 (rows_bytes (base_group ours_of theirs_of m)) }
 {
-    let ours_of = base_ours.firsts;
-    let theirs_of = base_theirs.firsts;
-    // Each row of the buffer goes after the one before.
+    // The index stands in the row, is the row's place and is read at in two tables: by `zip`, `take` and `enumerate`
+    // on the tables it is no shorter, and the proof must tell what they yield.
     for i in 0..m {
         put_row(true, i as u8, ours_of[i], theirs_of[i], i, rows);
     }
 }
 
-// Writes the rows of those of n tracks of ours that have no base track, from row `at` on, and gives the row after them.
-fn ours_rows(
-    base_ours: Partners,
-    ours_theirs: Partners,
-    n: usize,
-    at: usize,
-    rows: &mut [u8],
-) -> usize
+// Writes the rows of those of n tracks of ours that have no base track, by their partners in base and in theirs, from
+// row `at` on, and gives the row after them.
+fn ours_rows(base_of: [u8; 32], theirs_of: [u8; 32], n: usize, at: usize, rows: &mut [u8]) -> usize
     requires { RowsRoom n at rows.old }
-    ensures { Appended (ours_group base_ours.seconds ours_theirs.firsts n) at rows.old result rows.new }
+    ensures { Appended (ours_group base_of theirs_of n) at rows.old result rows.new }
 {
-    let base_of = base_ours.seconds;
-    let theirs_of = ours_theirs.firsts;
     let mut r = at;
-    // Each row of the buffer goes after the one before.
+    // As in `base_rows`; and each row goes after those that were wanted before.
     for j in 0..n {
         r = put_row(
             base_of[j] == NO_TRACK,
@@ -65,21 +54,14 @@ fn ours_rows(
     r
 }
 
-// Writes the rows of those of l tracks of theirs that have neither, from row `at` on, and gives the row after them.
-fn theirs_rows(
-    base_theirs: Partners,
-    ours_theirs: Partners,
-    l: usize,
-    at: usize,
-    rows: &mut [u8],
-) -> usize
+// Writes the rows of those of l tracks of theirs that have neither, by their partners in base and in ours, from row
+// `at` on, and gives the row after them.
+fn theirs_rows(base_of: [u8; 32], ours_of: [u8; 32], l: usize, at: usize, rows: &mut [u8]) -> usize
     requires { RowsRoom l at rows.old }
-    ensures { Appended (theirs_group base_theirs.seconds ours_theirs.seconds l) at rows.old result rows.new }
+    ensures { Appended (theirs_group base_of ours_of l) at rows.old result rows.new }
 {
-    let base_of = base_theirs.seconds;
-    let ours_of = ours_theirs.seconds;
     let mut r = at;
-    // Each row of the buffer goes after the one before.
+    // As in `ours_rows`.
     for k in 0..l {
         r = put_row(
             base_of[k] == NO_TRACK && ours_of[k] == NO_TRACK,
@@ -101,7 +83,19 @@ pub(crate) fn write_rows(p: Pairings, sizes: Sizes, rows: &mut [u8]) -> usize
     let base_ours = p.base_ours;
     let base_theirs = p.base_theirs;
     let ours_theirs = p.ours_theirs;
-    base_rows(base_ours, base_theirs, sizes.base, rows);
-    let r = ours_rows(base_ours, ours_theirs, sizes.ours, sizes.base, rows);
-    theirs_rows(base_theirs, ours_theirs, sizes.theirs, r, rows)
+    base_rows(base_ours.firsts, base_theirs.firsts, sizes.base, rows);
+    let r = ours_rows(
+        base_ours.seconds,
+        ours_theirs.firsts,
+        sizes.ours,
+        sizes.base,
+        rows,
+    );
+    theirs_rows(
+        base_theirs.seconds,
+        ours_theirs.seconds,
+        sizes.theirs,
+        r,
+        rows,
+    )
 }

@@ -1,7 +1,8 @@
 // The verdict on a row, by the records of its tracks.
-ghost use Rattle.std.specs.Prelude.{◌≡◌, cond};
+ghost use Rattle.std.specs.Prelude.{◌≡◌, ◌<◌, cond, MatchOption};
 ghost use Rattle.kernel.specs.Lists.{over, tabulate};
 ghost use Rattle.merge.specs.Rows.{verdict, Equal, deleted, conflict};
+ghost use Rattle.merge.specs.Fused.{fuse};
 ghost use Rattle.merge.specs.Verdict.{verdict_number};
 ghost use Rattle.merge.specs.Private.{ThreeIndices, RowsToDecide, verdict_held, decided_row, rows_bytes};
 
@@ -25,6 +26,21 @@ impl Verdict {
         ensures { result ≡ verdict_number self }
     {
         self as u8
+    }
+
+    // The verdict with a number, or None for a number above that of the last.
+    pub fn of(number: u8) -> Option<Verdict>
+        ensures { MatchOption result (fuse < number) (λ v. verdict_number v ≡ number) }
+    {
+        match number {
+            0 => Some(Verdict::Keep),
+            1 => Some(Verdict::TakeOurs),
+            2 => Some(Verdict::TakeTheirs),
+            3 => Some(Verdict::Deleted),
+            4 => Some(Verdict::Conflict),
+            5 => Some(Verdict::Fuse),
+            _ => None,
+        }
     }
 }
 
@@ -121,7 +137,7 @@ pub(crate) fn write_verdicts(lists: Lists, total: usize, rows: &mut [u8])
     requires { RowsToDecide lists total rows.old }
     ensures { rows.new ≡ over rows.old 0 (rows_bytes (tabulate total (decided_row lists.entry rows.old))) }
 {
-    // A row is read and its verdict written in the same buffer.
+    // By `as_chunks_mut`, a row an array, the proof stays open: of the slice it then knows only the length.
     for r in 0..total {
         let row = Indices {
             base: rows[4 * r],

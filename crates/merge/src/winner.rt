@@ -41,13 +41,11 @@ fn place_in(list: &[u8], other: &[u8], i: usize) -> Option<Part>
 pub fn winning(ours: &[u8], theirs: &[u8], row: [u8; 4]) -> Option<WinningPart>
     ensures { result ≡ winning ours.now theirs.now row }
 {
-    if row[3] == Verdict::TakeOurs.number() {
-        return place_in(ours, theirs, row[1] as usize).map(WinningPart::Ours);
+    match Verdict::of(row[3])? {
+        Verdict::TakeOurs => place_in(ours, theirs, row[1] as usize).map(WinningPart::Ours),
+        Verdict::TakeTheirs => place_in(theirs, ours, row[2] as usize).map(WinningPart::Theirs),
+        Verdict::Keep | Verdict::Deleted | Verdict::Conflict | Verdict::Fuse => None,
     }
-    if row[3] == Verdict::TakeTheirs.number() {
-        return place_in(theirs, ours, row[2] as usize).map(WinningPart::Theirs);
-    }
-    None
 }
 
 // The winning record's own bytes, as a part of ours or of theirs, or an empty part.

@@ -1,4 +1,4 @@
--- How many rows have a verdict: `with_first`, of one row more in a buffer. `case_of`: what a verdict takes, and `one`:
+-- How many rows have a verdict: `with_counted`, of the first in a buffer. `case_of`: what a verdict takes, and `one`:
 -- how many tracks.
 use Prim.Native.Nat.{ℕ, zero, suc, ◌+◌}
 use native.Mathlib.Omega.{arith}
@@ -7,8 +7,8 @@ use mathlib.Core.Bool.{Bool, true, false, cond}
 use mathlib.Core.List.{List, [], ◌∷◌, ◌++◌}
 use borrow.Author.Tests.{ne_eqb, eqb-true}
 use lib.Dec.{eqb}
-use Rattle.kernel.proofs.Lists.{tabulate_more}
-use Rattle.merge.specs.Buffer.{verdict_in}
+use Rattle.kernel.specs.Lists.{tabulate}
+use Rattle.merge.specs.Buffer.{verdict_in, how_many}
 use Rattle.merge.specs.Rows.{Row, keep, take_ours, take_theirs}
 use Rattle.merge.specs.Fused.{fuse}
 use Rattle.merge_list.specs.MergeList.{with_verdict}
@@ -20,8 +20,10 @@ module _ (v : ℕ) where
   with_more [] w = omega arith
   with_more (x ∷ l) w = omega (arith, with_more l w)
 
-  pub with_first : (rows : List ℕ) (r : ℕ) → with_verdict v (rows_in rows (r + 1)) ≡ with_verdict v (rows_in rows r) + cond (eqb (verdict_in rows r) v) 1 0
-  with_first rows r = ap (with_verdict v) (tabulate_more r (row_in rows)) ∙ with_more (rows_in rows r) (row_in rows r)
+  pub with_counted : (rows : List ℕ) (n : ℕ) → with_verdict v (rows_in rows n) ≡ how_many n (λ r. eqb (verdict_in rows r) v)
+  unfolding with_verdict tabulate how_many
+  with_counted rows zero = refl
+  with_counted rows (suc n) = with_more (rows_in rows n) (row_in rows n) ∙ ap (λ (k : ℕ). k + cond (eqb (verdict_in rows n) v) 1 0) (with_counted rows n)
 
 -- a verdict that takes no track
 pub record TakesNone (v : ℕ) : Type 0 where

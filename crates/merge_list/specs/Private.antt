@@ -105,12 +105,10 @@ pub record ToTake (lists : Lists) (rows : List ℕ) (total : ℕ) : Type 0 where
   pub sized : Sized lists.base.now
   pub fused : (r : ℕ) → r < total → verdict_in rows r ≡ fuse → HasPlace lists.base.now lists.values.now (base_in rows r)
 
--- That row r is one of them.
-pub record RowToTake (lists : Lists) (rows : List ℕ) (r : ℕ) : Type 0 where
-  pub few : r < 96
-  pub room : 4 * r + 4 ≤ length rows
+-- The same of one row by itself, which is row 0 of its four bytes.
+pub record RowToTake (lists : Lists) (row : List ℕ) : Type 0 where
   pub sized : Sized lists.base.now
-  pub fused : verdict_in rows r ≡ fuse → HasPlace lists.base.now lists.values.now (base_in rows r)
+  pub fused : verdict_in row 0 ≡ fuse → HasPlace lists.base.now lists.values.now (base_in row 0)
 
 -- That they can be taken, and that their list is no longer than the longest one, if it has no more tracks.
 pub record ToList (lists : Lists) (rows : List ℕ) (total : ℕ) : Type 0 where

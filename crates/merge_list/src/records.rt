@@ -40,34 +40,20 @@ fn write_placed(lists: Lists, i: u8, out: &mut [u8], at: usize) -> usize
     write_track(row(lists.values, fields(d), i as usize), d, out, at)
 }
 
-// The same of the record that row r takes, if it takes one.
+// The same of the record that a row takes, if it takes one.
 #[tactic(auto, using(kernel::proofs::Lists::over_none), unfolding(crate::specs::Private::record_taken))]
-fn write_taken(
-    lists: Lists,
-    offsets: &Offsets,
-    rows: &[u8],
-    r: usize,
-    out: &mut [u8],
-    at: usize,
-) -> usize
-    requires to_take { RowToTake lists rows.now r }
-    requires fits { at + length (record_taken (sources lists offsets.now) (row_in rows.now r)) ≤ length out.old }
-    ensures { Writes (record_taken (sources lists.entry offsets.now) (row_in rows.now r)) out.old at result out.new }
+fn write_taken(lists: Lists, offsets: &Offsets, row: [u8; 4], out: &mut [u8], at: usize) -> usize
+    requires to_take { RowToTake lists row }
+    requires fits { at + length (record_taken (sources lists offsets.now) (row_in row 0)) ≤ length out.old }
+    ensures { Writes (record_taken (sources lists.entry offsets.now) (row_in row 0)) out.old at result out.new }
 {
-    let verdict = rows[4 * r + 3];
-    if verdict == Verdict::Keep.number() {
-        return copy_record(lists.base, &offsets.base, rows[4 * r], out, at);
+    match Verdict::of(row[3]) {
+        Some(Verdict::Keep) => copy_record(lists.base, &offsets.base, row[0], out, at),
+        Some(Verdict::TakeOurs) => copy_record(lists.ours, &offsets.ours, row[1], out, at),
+        Some(Verdict::TakeTheirs) => copy_record(lists.theirs, &offsets.theirs, row[2], out, at),
+        Some(Verdict::Fuse) => write_placed(lists, row[0], out, at),
+        Some(Verdict::Deleted | Verdict::Conflict) | None => at,
     }
-    if verdict == Verdict::TakeOurs.number() {
-        return copy_record(lists.ours, &offsets.ours, rows[4 * r + 1], out, at);
-    }
-    if verdict == Verdict::TakeTheirs.number() {
-        return copy_record(lists.theirs, &offsets.theirs, rows[4 * r + 2], out, at);
-    }
-    if verdict == Verdict::Fuse.number() {
-        return write_placed(lists, rows[4 * r], out, at);
-    }
-    at
 }
 
 // Writes the records that the first `total` rows take, after the two bytes of count and dimension, and gives where they
@@ -83,10 +69,10 @@ pub(crate) fn write_records(
     requires records_fit { RecordsFit (sources lists offsets.now) (rows_in rows.now total) out.old }
     ensures { Writes (records_taken (sources lists.entry offsets.now) (rows_in rows.now total)) out.old 2 result out.new }
 {
+    let (rows, _) = rows.as_chunks::<4>();
     let mut at = 2;
-    // Each record goes after the one before.
-    for r in 0..total {
-        at = write_taken(lists, offsets, rows, r, out, at);
+    for row in &rows[..total] {
+        at = write_taken(lists, offsets, *row, out, at);
     }
     at
 }

@@ -12,19 +12,15 @@ use merge::verdict::{Offsets, Verdict};
 use tracks::record::track_offsets;
 
 // How many of the first `total` rows have a verdict.
-#[tactic(auto, using(crate::proofs::Verdicts::with_first), unfolding(crate::specs::MergeList::with_verdict, kernel::specs::Lists::tabulate))]
 fn with_verdict(rows: &[u8], total: usize, verdict: Verdict) -> usize
     requires { RowsStand rows.now total }
     ensures { (result ≡ with_verdict (verdict_number verdict) (rows_in rows.now total)) × (result ≤ 96) }
 {
-    let mut count = 0;
-    // Rows are read by their places, of which there may be more than are counted.
-    for r in 0..total {
-        if rows[4 * r + 3] == verdict.number() {
-            count += 1;
-        }
-    }
-    count
+    let (rows, _) = rows.as_chunks::<4>();
+    rows[..total]
+        .iter()
+        .filter(|row| row[3] == verdict.number())
+        .count()
 }
 
 // How many of them take a track.

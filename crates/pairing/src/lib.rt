@@ -6,7 +6,8 @@ ghost use Rattle.pairing.specs.Keys.{Shape, from_keys, first_partners, second_pa
 
 mod search;
 
-// Stands for no partner in a table of partners, and for no track in a row of the merge.
+// Stands for no partner in a table of partners, and for no track in a row of the merge: a byte, since C reads a row's
+// bytes, and an entry goes into a row as it is.
 pub const NOBODY: u8 = 255;
 
 // The pair that comes first of those looked at, and its key.

@@ -7,38 +7,34 @@ use crate::{Foremost, NOBODY};
 
 // The best so far, and then the pair of first track i with second track j, which comes after it by index.
 #[tactic(auto, unfolding(crate::specs::Private::look_at))]
-fn look_at(best: Option<Foremost>, key: f64, i: usize, j: usize) -> Option<Foremost>
-    ensures { result ≡ look_at best key i j }
+fn look_at(best: &mut Option<Foremost>, key: f64, i: usize, j: usize)
+    ensures { best.new ≡ look_at best.old key i j }
 {
     let sooner = match best {
         Some(best) => key < best.key,
         None => key == key,
     };
     if sooner {
-        return Some(Foremost {
+        *best = Some(Foremost {
             key,
             first: i,
             second: j,
         });
     }
-    best
 }
 
 // The best so far, and then the pairs of first track i with the free second tracks.
 #[tactic(auto, unfolding(crate::specs::Private::search_row, crate::specs::Keys::key_of))]
-fn search_row(keys: &[f64], seconds: &[u8], i: usize, start: Option<Foremost>) -> Option<Foremost>
+fn search_row(keys: &[f64], seconds: &[u8], i: usize, best: &mut Option<Foremost>)
     requires { i * length seconds.now + length seconds.now ≤ length keys.now }
-    ensures { result ≡ search_row keys.now (length seconds.now) seconds.now i (length seconds.now) start }
+    ensures { best.new ≡ search_row keys.now (length seconds.now) seconds.now i (length seconds.now) best.old }
 {
     let n = seconds.len();
-    let mut best = start;
-    // The best so far goes on from pair to pair: a fold is no plainer.
-    for j in 0..n {
-        if seconds[j] == NOBODY {
-            best = look_at(best, keys[i * n + j], i, j);
+    for (j, second) in seconds.iter().enumerate() {
+        if *second == NOBODY {
+            look_at(best, keys[i * n + j], i, j);
         }
     }
-    best
 }
 
 // The best of the pairs of free tracks.
@@ -48,10 +44,9 @@ pub(crate) fn search(keys: &[f64], firsts: &[u8], seconds: &[u8]) -> Option<Fore
     ensures { result ≡ search keys.now (length seconds.now) firsts.now seconds.now (length firsts.now) }
 {
     let mut best = None;
-    // Likewise from row to row.
-    for i in 0..firsts.len() {
-        if firsts[i] == NOBODY {
-            best = search_row(keys, seconds, i, best);
+    for (i, first) in firsts.iter().enumerate() {
+        if *first == NOBODY {
+            search_row(keys, seconds, i, &mut best);
         }
     }
     best

@@ -9,7 +9,7 @@ use Rattle.dense.specs.Matrix.{row_of, matrix}
 use Rattle.dense.proofs.Laws.{length_part, rows_none, rows_more}
 use Rattle.tracks.specs.Layout.{fields}
 use Rattle.pairing.specs.Keys.{is_free}
-use Rattle.merge.specs.Private.{key_among}
+use Rattle.merge.specs.Private.{Values, key_among}
 use Rattle.merge.proofs.keys.keys_between.Goals as goal
 
 pub loop-i-init : goal.loop-i-init
@@ -29,11 +29,11 @@ pub key_row-requires : goal.key_row-requires
 key_row-requires c =
     let x = c.args in
     let h = c.requires.0 in
+    let lent = length_part c.loop-i.keys x.n c.loop-i.i (within x.m x.n c.loop-i.i c.loop-i.keys c.loop-i-test.true h.firsts.few h.seconds.few (c.loop-i.invariant.size ∙ c.requires.1)) in
     record {
       compares = h.compares;
       track = c.row-u.ensures.0 ∙ c.fields-f.ensures.0;
-      others = h.seconds;
-      room = length_part c.loop-i.keys x.n c.loop-i.i (within x.m x.n c.loop-i.i c.loop-i.keys c.loop-i-test.true h.firsts.few h.seconds.few (c.loop-i.invariant.size ∙ c.requires.1));
+      others = subst (λ (k : ℕ). Values x.vs.now k (fields x.terms.d)) (sym lent) h.seconds;
     }
 
 pub loop-i-preserved : goal.loop-i-preserved
@@ -42,9 +42,10 @@ loop-i-preserved c =
     let h = c.requires.0 in
     let i = c.loop-i.i in
     let v = c.loop-i.invariant in
-    let row : List Float → List Float = λ u. tabulate x.n (λ j. key_among x.terms (is_free x.us_partners i) (is_free x.vs_partners j) u (row_of x.vs.now (fields x.terms.d) j)) in
-    rows_more _ x.n i (within x.m x.n i c.loop-i.keys c.loop-i-test.true h.firsts.few h.seconds.few (v.size ∙ c.requires.1))
-    (c.key_row.ensures ∙ ap row (c.row-u.ensures.1 ∙ ap (λ (f : ℕ). row_of x.us.now f i) c.fields-f.ensures.0)) v
+    let fits = within x.m x.n i c.loop-i.keys c.loop-i-test.true h.firsts.few h.seconds.few (v.size ∙ c.requires.1) in
+    let row : ℕ → List Float → List Float = λ k u. tabulate k (λ j. key_among x.terms (is_free x.us_partners i) (is_free x.vs_partners j) u (row_of x.vs.now (fields x.terms.d) j)) in
+    rows_more _ x.n i fits
+    (c.key_row.ensures ∙ (λ z. row (length_part c.loop-i.keys x.n i fits z) ((c.row-u.ensures.1 ∙ ap (λ (f : ℕ). row_of x.us.now f i) c.fields-f.ensures.0) z))) v
 
 pub returns : goal.returns
 returns c =

@@ -19,11 +19,11 @@ put_row-r-requires c = selected_room _ (undecided_row nobody nobody) c.loop-k.in
 
 pub loop-k-preserved : goal.loop-k-preserved
 loop-k-preserved c =
-    let wanted : ℕ → Bool = λ k. is_free c.args.base_theirs.seconds k && is_free c.args.ours_theirs.seconds k in
+    let wanted : ℕ → Bool = λ k. is_free c.args.base_of k && is_free c.args.ours_of k in
     let k = c.loop-k.k in
     let same : c.if-base_of-k.put_row ≡ wanted k = elim c.if-base_of-k.branch [
       | then-base_of-k w ↦ rw (eq-eqb _ 255 w.if-base_of-k.true) w.put_row-is
-      | else-base_of-k w ↦ let e = ne_eqb (get_or c.args.base_theirs.seconds k 0) 255 w.if-base_of-k.false in rw e (w.put_row-is ∙ e)
+      | else-base_of-k w ↦ let e = ne_eqb (get_or c.args.base_of k 0) 255 w.if-base_of-k.false in rw e (w.put_row-is ∙ e)
     ] in
     selected_turn wanted (undecided_row nobody nobody) c.loop-k.invariant (omega arith) c.requires
     (appended_if c.if-base_of-k.put_row (wanted k) (undecided_row nobody nobody k) same c.put_row-r.ensures)

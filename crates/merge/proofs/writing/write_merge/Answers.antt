@@ -64,7 +64,7 @@ pub count_rows-requires : goal.count_rows-requires
 count_rows-requires c =
     let h = c.requires in
     let placed = appended_same (placed_with h undecided) c.write_rows-total.ensures in
-    fitting h (verdict_on (lists h)) (rows_decided undecided (verdict_on (lists h)) (pairings h) _ _ _ placed c.write_verdicts.ensures)
+    (fitting h (verdict_on (lists h)) (rows_decided undecided (verdict_on (lists h)) (pairings h) _ _ _ placed c.write_verdicts.ensures)).1
 
 pub returns : goal.returns
 returns c =

@@ -4,4 +4,4 @@ use Rattle.pairing.specs.Private.{search_row}
 use Rattle.pairing.proofs.search.search_row.Given as goal
 
 abbrev pub invariant-loop-j : goal.invariant-loop-j
-invariant-loop-j l = l.best ≡ search_row l.keys (length l.seconds) l.seconds l.i l.j l.fn.start
+invariant-loop-j l = l.best ≡ search_row l.keys (length l.seconds) l.seconds l.i l.j l.fn.best
