@@ -44,7 +44,7 @@ fn distance_after(
     distance(x, mu, cov)
 }
 
-// The same of dimension 1: the distance of three numbers.
+// The same of dimension 1: the distance of three numbers, which needs no room.
 fn single_distance_after(
     repaired: Result<RegularizationReport, Question>,
     mu: f64,

@@ -16,7 +16,8 @@ use dense::shape::is_side;
 use kernel::question::Question;
 use repair::RegularizationReport;
 
-// What a comparison answers: the squared distance, near or far by the gate, or that there is none.
+// What a comparison answers: the squared distance, near or far by the gate, or that there is none. The three are kinds
+// of the C interface.
 #[derive(Clone, Copy, Debug)]
 pub enum Comparison {
     Near(f64),

@@ -54,6 +54,7 @@ fn is_met(s: &[u8], call: Call) -> bool {
     is_told && replay::are_same(&out[..lo], at_out)
 }
 
+// As in the other programs: a function over the calls and their checks would need a trait as long as this.
 fn main(rt: HostRuntime) -> io::Result<()> {
     let mut tallies = [Tally::default(); 30];
     for block in Blocks::of(rt.reader()) {

@@ -14,7 +14,7 @@ fn tracks_among(i: u8, j: u8, k: u8) -> usize
     usize::from(i != NO_TRACK) + usize::from(j != NO_TRACK) + usize::from(k != NO_TRACK)
 }
 
-// How many of the first `total` rows have n tracks.
+// How many of the first `total` rows have n tracks. One chain; that of merge_list's `with_verdict` asks a row otherwise.
 fn rows_with(rows: &[u8], total: usize, n: usize) -> usize
     requires { 4 * total ≤ length rows.now }
     ensures { result ≡ how_many total (λ x. eqb (tracks_in rows.now x) n) }

@@ -20,7 +20,7 @@ mod writing;
 use inside::merge_fused;
 use kernel::question::Question;
 
-// What stands in a row for no track.
+// What stands in a row for no track: a byte, since C reads a row's bytes.
 pub const NO_TRACK: u8 = pairing::NOBODY;
 
 // How many rows have three, two and one track.

@@ -71,6 +71,7 @@ fn replay_record(record: &[u8], tallies: &mut [Tally; 5]) {
     tallies[call as usize].count(replay::is_same(call.answer(x, y), replay::number(record, 3)));
 }
 
+// As in the other programs: a function over the calls and their checks would need a trait as long as this.
 fn main(rt: HostRuntime) -> io::Result<()> {
     let mut tallies = [Tally::default(); 5];
     for block in Blocks::of(rt.reader()).take(2) {
