@@ -1,4 +1,6 @@
 // The fusion of two tracks that both changed, over the track that they were: `fuse`.
+// Parameters stand in the order of the call. Room is five slices, lent one by one, and what they hold has the name of
+// a fact (`Rooms`, `HasFields`, `Sized`): a struct of them would have each contract tell which of the five it writes.
 #![tactic(auto)]
 
 ghost use Rattle.std.specs.Prelude.{◌≡◌};

@@ -1,5 +1,7 @@
 // Dense linear algebra on f64: flat slices, row by row, with their sides. A call refuses with the first of document
 // 01's questions that is not met, and then no lent memory has changed.
+// A matrix stands beside its sides, in the order of the call: a struct of a matrix and its side was tried, in two
+// forms, and the clauses grew from 358 to 413 characters; products are of rectangles, which it does not fit.
 #![tactic(auto)]
 
 mod cholesky;

@@ -1,4 +1,6 @@
 // Scaled pivoting on f64: row norms, solutions, inverses and determinants of matrices of sides 1 to 16.
+// A matrix stands beside its rows and columns, under the name of a fact (`Elimination`, `TwoRows`): a struct of a
+// matrix and its side was tried in linalg and was longer, and here the rows are longer than the side.
 #![tactic(auto)]
 
 mod choice;

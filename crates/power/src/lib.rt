@@ -1,4 +1,6 @@
 // Power iteration on f64 matrices of sides 1 to 16: the dominant eigenvector, the largest singular value and the condition number.
+// Parameters stand in the order of the call, and that two slices have one length is a clause each: a struct of the
+// two would say it no shorter.
 #![tactic(auto)]
 
 pub mod generic;

@@ -1,4 +1,5 @@
 // The repair of a covariance: eigenvalues below a floor are raised to it, and the matrix is built again from its eigenvectors.
+// Parameters stand in the order of the call for C.
 #![tactic(auto)]
 
 mod clip;
