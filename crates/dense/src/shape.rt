@@ -57,7 +57,8 @@ pub fn are_factors(a: &[f64], b: &[f64], m: usize, k: usize, n: usize, out: &[f6
     is_matrix(a, m, k) && are_matrices(b, k, n, out, m, n)
 }
 
-// Whether x is a vector of n entries, and a an n by n matrix.
+// Whether x is a vector of n entries, and a an n by n matrix. One line of tests, and those of `is_distance` are of
+// another shape.
 pub fn is_form(x: &[f64], a: &[f64], n: usize) -> bool
     requires { n * n ≤ 256 }
     ensures { result ≡ (has_length x.now n && has_length a.now (n * n)) }
@@ -65,7 +66,7 @@ pub fn is_form(x: &[f64], a: &[f64], n: usize) -> bool
     is_vector(x, n) && is_matrix(a, n, n)
 }
 
-// Whether x and y are vectors of n entries, and a is an n by n matrix.
+// Whether x and y are vectors of n entries, and a is an n by n matrix: the line of `is_form` and one test more.
 pub fn is_distance(x: &[f64], y: &[f64], a: &[f64], n: usize) -> bool
     requires { n * n ≤ 256 }
     ensures { result ≡ (has_length x.now n && (has_length y.now n && has_length a.now (n * n))) }

@@ -4,6 +4,7 @@ pub mod Words
 pub mod SameBytes
 pub mod First
 pub mod Lists
+pub mod Arrays
 pub mod Roots
 pub mod Doubles
 pub mod Squares

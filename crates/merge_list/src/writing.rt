@@ -11,7 +11,7 @@ use kernel::question::Question;
 use merge::verdict::{Offsets, Verdict};
 use tracks::record::track_offsets;
 
-// How many of the first `total` rows have a verdict.
+// How many of the first `total` rows have a verdict. One chain; that of merge's `rows_with` asks a row otherwise.
 fn with_verdict(rows: &[u8], total: usize, verdict: Verdict) -> usize
     requires { RowsStand rows.now total }
     ensures { (result ≡ with_verdict (verdict_number verdict) (rows_in rows.now total)) × (result ≤ 96) }

@@ -140,7 +140,7 @@ fn is_met(s: &[u8], kind: Kind) -> bool {
 // As in the other programs: a function over the kinds and their checks would need a trait as long as this.
 fn main(rt: HostRuntime) -> io::Result<()> {
     let mut tallies = [Tally::default(); 3];
-    for block in Blocks::of(rt.reader()) {
+    for block in Blocks::of(rt.reader()).take(usize::MAX) {
         for s in block.records() {
             let kind = Kind::of(number(s, 1));
             tallies[kind as usize].count(is_met(s, kind));

@@ -1,6 +1,5 @@
 // The blocks of an input.
-ghost use Rattle.std.specs.Prelude.{◌≡◌, ◌≤◌, ℕ, List, [], take, MatchOption};
-ghost use Rattle.std.specs.Iterator.{at_most};
+ghost use Rattle.std.specs.Prelude.{◌≡◌, ◌<◌, ◌≤◌, ℕ, List, [], length, take, MatchOption};
 ghost use Rattle.std.specs.Io.KnownBytes.{Consumes};
 
 use crate::records::Records;
@@ -42,12 +41,11 @@ impl Block {
     }
 }
 
-// The blocks that a reader gives, until it ends or a read fails. A proved loop has to end, and nothing says that an
-// input does: so the blocks are counted, down from a number that no run uses up.
+// The blocks that a reader gives, until it ends or a read fails. Nothing says that an input ends, and a proved loop has
+// to: so a program says how many it takes at most.
 #[derive(Drop)]
 pub struct Blocks<R> {
     reader: R,
-    left: u64,
 }
 
 impl<R: Drop> Blocks<R> {
@@ -55,10 +53,7 @@ impl<R: Drop> Blocks<R> {
     pub fn of(reader: R) -> Blocks<R>
         ensures { result.reader ≡ reader }
     {
-        Blocks {
-            reader,
-            left: u64::MAX,
-        }
+        Blocks { reader }
     }
 }
 
@@ -66,12 +61,9 @@ impl<R: Read + Drop> Iterator for Blocks<R> {
     type Item = Block;
 
     ghost next_gives = { λ s r t. MatchOption r (Consumes (R.remaining s.reader) (R.remaining t.reader) [])
-        (λ b. Consumes (R.remaining s.reader) (R.remaining t.reader) b) };
-
-    ghost remaining = { λ s. at_most s.left };
+        (λ b. (0 < length b) × Consumes (R.remaining s.reader) (R.remaining t.reader) b) };
 
     fn next(&mut self) -> Option<Block> {
-        self.left = self.left.checked_sub(1)?;
         let mut bytes = [0; MOST];
         let length = read_full(&mut self.reader, &mut bytes);
         if length == 0 {

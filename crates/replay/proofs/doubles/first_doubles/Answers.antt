@@ -2,7 +2,7 @@
 use Rattle.std.proofs.Common.{◌*◌, from_bits, rules, arith}
 use Rattle.std.specs.Float.{binary64}
 use Rattle.kernel.specs.Bytes.{word}
-use Rattle.replay.proofs.Made.{made_at}
+use Rattle.kernel.proofs.Arrays.{made_at}
 use Rattle.replay.proofs.doubles.first_doubles.Goals as goal
 
 pub returns : goal.returns
