@@ -19,11 +19,11 @@ after_repaired (Err q) o = Err q
 after_repaired (Ok r) o = o
 
 -- the fields of a track of dimension d stand first in v
-pub record HasFields (d : ℕ) (v : List Float) : Type 0 where
+pub record FieldsFirst (d : ℕ) (v : List Float) : Type 0 where
   pub few : d ≤ 16
   pub enough : fields d ≤ length v
 
 -- the same with room for the covariance
 pub record CovarianceRoom (d : ℕ) (v out : List Float) : Type 0 where
-  pub track : HasFields d v
+  pub track : FieldsFirst d v
   pub room : length out ≡ d * d

@@ -4,7 +4,7 @@ ghost use Rattle.dense.specs.Answer.{Leaves};
 ghost use Rattle.dense.specs.Matrix.{has_length};
 ghost use Rattle.tracks.specs.Layout.{fields};
 ghost use Rattle.compare.specs.Fields.{lower_field, covariance_entry, track_covariance, whole_covariance};
-ghost use Rattle.compare.specs.Private.{HasFields};
+ghost use Rattle.compare.specs.Private.{FieldsFirst};
 
 use crate::inside::track_covariance;
 use dense::questions::ask_shape;
@@ -23,7 +23,7 @@ fn lower_field(d: usize, i: usize, j: usize) -> usize
 // Entry (i, j) of the covariance of the track of dimension d whose fields are v.
 #[tactic(auto, using(crate::proofs::Covariance::field_within))]
 pub(crate) fn covariance_entry(v: &[f64], d: usize, i: usize, j: usize) -> f64
-    requires { HasFields d v.now × (i < d) × (j < d) }
+    requires { FieldsFirst d v.now × (i < d) × (j < d) }
     ensures { result ≡ covariance_entry d v.now i j }
 {
     if j <= i {

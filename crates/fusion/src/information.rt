@@ -2,7 +2,7 @@
 // away.
 ghost use Rattle.std.specs.Prelude.{◌≡◌, ◌*◌, length};
 ghost use Rattle.fusion.specs.Fusion.{information_of};
-ghost use Rattle.fusion.specs.Private.{HasFields, Sized, Rooms, information, sums, differences, both_of, left_without, told_by, Gives};
+ghost use Rattle.fusion.specs.Private.{HasFields, Sized, Rooms, information, sums, differences, both_of, left_without, Gives};
 
 use compare::inside::track_covariance;
 use dense::fill::combine;
@@ -44,7 +44,7 @@ fn information(
 }
 
 // Writes what ours and theirs tell, added. The slices p, n and z are room for a covariance and for what theirs tells.
-fn both(
+pub(crate) fn both(
     ours: &[f64],
     theirs: &[f64],
     d: usize,
@@ -65,7 +65,7 @@ fn both(
 }
 
 // Takes away what base tells. The slices p, n and z are room as above.
-fn without_base(
+pub(crate) fn without_base(
     base: &[f64],
     d: usize,
     p: &mut [f64],
@@ -81,25 +81,4 @@ fn without_base(
     subtract(n, m);
     subtract(z, y);
     Ok(())
-}
-
-// Writes what ours and theirs tell together without what base tells, where all three tell something. The slices p, n
-// and z are room as above.
-pub(crate) fn told(
-    base: &[f64],
-    ours: &[f64],
-    theirs: &[f64],
-    d: usize,
-    p: &mut [f64],
-    n: &mut [f64],
-    z: &mut [f64],
-    m: &mut [f64],
-    y: &mut [f64],
-) -> Result<(), Question>
-    requires tracks { HasFields d base.now × HasFields d ours.now × HasFields d theirs.now }
-    requires rooms { Rooms d p.old n.old z.old m.old y.old }
-    ensures { Gives (told_by d base.now ours.now theirs.now) result (information m.new y.new) }
-{
-    both(ours, theirs, d, p, n, z, m, y)?;
-    without_base(base, d, p, n, z, m, y)
 }

@@ -3,7 +3,7 @@ ghost use Rattle.std.specs.Prelude.{◌≡◌, ◌*◌, ◌≤◌};
 ghost use Rattle.fusion.specs.Fusion.{fused};
 ghost use Rattle.fusion.specs.Private.{ToFuse, left_by};
 
-use crate::information::told;
+use crate::information::{both, without_base};
 use crate::track::{estimate, write_finite};
 
 // Writes the fusion of ours and theirs over base, where there is one.
@@ -31,7 +31,8 @@ fn fuse_within(
     let n = &mut n[..size];
     let x = &mut x[..d];
     let p = &mut p[..size];
-    told(base, ours, theirs, d, p, n, x, m, y).is_ok()
+    both(ours, theirs, d, p, n, x, m, y).is_ok()
+        && without_base(base, d, p, n, x, m, y).is_ok()
         && estimate(m, y, d, floor, n, x, p).is_ok()
         && write_finite(x, p, d, out)
 }

@@ -91,7 +91,7 @@ list_taken s rows = takers rows ∷ dimension s.base ∷ records_taken s rows
 -- ---- what is asked, part by part
 
 -- That a list has a dimension.
-pub record Sized (l : List ℕ) : Type 0 where
+pub record HasDimension (l : List ℕ) : Type 0 where
   pub two : 2 ≤ length l
   pub small : dimension l ≤ 9
 
@@ -102,12 +102,12 @@ HasPlace l values i = i * fields (dimension l) + fields (dimension l) ≤ length
 -- That rows stand in a buffer, and that values have the places of base's tracks that are fused.
 pub record ToTake (lists : Lists) (rows : List ℕ) (total : ℕ) : Type 0 where
   pub stand : RowsStand rows total
-  pub sized : Sized lists.base.now
+  pub sized : HasDimension lists.base.now
   pub fused : (r : ℕ) → r < total → verdict_in rows r ≡ fuse → HasPlace lists.base.now lists.values.now (base_in rows r)
 
 -- The same of one row by itself, which is row 0 of its four bytes.
 pub record RowToTake (lists : Lists) (row : List ℕ) : Type 0 where
-  pub sized : Sized lists.base.now
+  pub sized : HasDimension lists.base.now
   pub fused : verdict_in row 0 ≡ fuse → HasPlace lists.base.now lists.values.now (base_in row 0)
 
 -- That they can be taken, and that their list is no longer than the longest one, if it has no more tracks.

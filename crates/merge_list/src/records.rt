@@ -2,7 +2,7 @@
 ghost use Rattle.std.specs.Prelude.{◌+◌, ◌≤◌, length};
 ghost use Rattle.tracks.specs.Record.{track_record};
 ghost use Rattle.tracks.specs.Private.{Writes};
-ghost use Rattle.merge_list.specs.Private.{row_in, rows_in, placed_in, sources, record_taken, records_taken, RecordsFit, Sized, HasPlace, RowToTake, ToTake};
+ghost use Rattle.merge_list.specs.Private.{row_in, rows_in, placed_in, sources, record_taken, records_taken, RecordsFit, HasDimension, HasPlace, RowToTake, ToTake};
 
 use dense::shape::row;
 use merge::verdict::{Offsets, Verdict};
@@ -33,7 +33,7 @@ fn copy_record(list: &[u8], offsets: &[usize], i: u8, out: &mut [u8], at: usize)
 // The same of the record of the fields that stand in values in the place of track i of base. It is written, not copied.
 #[tactic(auto, unfolding(crate::specs::Private::placed_record))]
 fn write_placed(lists: Lists, i: u8, out: &mut [u8], at: usize) -> usize
-    requires { Sized lists.base.now × HasPlace lists.base.now lists.values.now i × (at + length (placed_in lists i) ≤ length out.old) }
+    requires { HasDimension lists.base.now × HasPlace lists.base.now lists.values.now i × (at + length (placed_in lists i) ≤ length out.old) }
     ensures { Writes (placed_in lists.entry i) out.old at result out.new }
 {
     let d = lists.base[1] as usize;

@@ -4,4 +4,5 @@ pub mod Stops
 pub mod Iteration
 pub mod Starts
 pub mod Ratios
+pub mod Solutions
 pub mod OneByOne

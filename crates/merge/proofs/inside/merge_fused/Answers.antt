@@ -38,6 +38,17 @@ module _ {base ours theirs : List ℕ} {offsets : Offsets} {bv ov tv : List Floa
     same_rows : (v : ℕ → ℕ → ℕ → ℕ) → rows_by v p sizes ≡ rows_with_lem (held_three base ours theirs) floor gate v
     same_rows v = rows_placed v paired (sizes_of a)
 
+    -- so are the rows that are written, and the counts are those of the merged verdicts
+    placed : {old new : List ℕ} → let lists = held_three base ours theirs in
+        new ≡ rows_left (rows_by (verdict_on lists) p sizes) old → new ≡ rows_left (rows_with_lem lists floor gate (verdict_on lists)) old
+    placed {old} h = h ∙ ap (λ (z : List Row). rows_left z old) (same_rows _)
+
+    counted : {counts : Counts} → let lists = held_three base ours theirs in
+        counts ≡ counts_of (rows_by (verdict_on lists) p sizes) → counts ≡ counts_of (rows_with_lem lists floor gate (merged_verdict lists floor))
+    counted h =
+        let lists = held_three base ours theirs in
+        h ∙ ap counts_of (same_rows _) ∙ counts_alike (verdict_on lists) (merged_verdict lists floor) (pairings_of lists floor gate) _ _ _
+
 pub returns-in_err-sizes-clause-rows_after : goal.returns-in_err-sizes-clause-rows_after
 returns-in_err-sizes-clause-rows_after c =
     let x = c.args in
@@ -100,23 +111,19 @@ fuse_rows-requires c =
     let x = c.args in
     let a = c.in_ok-sizes.ensures in
     let w = c.write_merge-counts in
-    let lists = held_three x.base.now x.ours.now x.theirs.now in
-    let placed = w.ensures.rows_after ∙ ap (λ (z : List Row). rows_left z x.rows.now) (same_rows a x.floor x.gate c.pair_all-pairings.result c.pair_all-pairings.ensures (verdict_on lists)) in
-    to_fuse a x.floor x.gate c.fields.ensures.0 x.rows.now placed (omega (arith, w.auto.rows, c.if-rows-sizes.false))
+    to_fuse a x.floor x.gate c.fields.ensures.0 x.rows.now (placed a x.floor x.gate _ c.pair_all-pairings.ensures w.ensures.rows_after) (omega (arith, w.auto.rows, c.if-rows-sizes.false))
 
 pub returns-clause-rows_after : goal.returns-clause-rows_after
 unfolding merged_rows
 returns-clause-rows_after c =
     let x = c.args in
     let a = c.in_ok-sizes.ensures in
-    let w = c.write_merge-counts in
-    let lists = held_three x.base.now x.ours.now x.theirs.now in
-    let same = same_rows a x.floor x.gate c.pair_all-pairings.result c.pair_all-pairings.ensures (verdict_on lists) in
-    let placed = w.ensures.rows_after ∙ ap (λ (z : List Row). rows_left z x.rows.now) same in
-    let rows = all_passed a x.floor x.gate c.fields.ensures.0 x.rows.now placed c.fuse_rows.ensures.rows_after in
-    let counts = w.ensures.value ∙ ap counts_of same ∙ counts_alike (verdict_on lists) (merged_verdict lists x.floor) (pairings_of lists x.floor x.gate) _ _ _ in
+    let w = c.write_merge-counts.ensures in
+    let p = c.pair_all-pairings.ensures in
+    let rows = all_passed a x.floor x.gate c.fields.ensures.0 x.rows.now (placed a x.floor x.gate _ p w.rows_after) c.fuse_rows.ensures.rows_after in
+    let counts = counted a x.floor x.gate _ p w.value in
     lists-merged x.base.now x.ours.now x.theirs.now x.floor x.gate x.rows.now (all_accepted x.base.now x.ours.now x.theirs.now a)
-    (asked_rows lists x.floor x.gate x.rows.now (sym c.is_floor_and_gate.ensures ∙ c.if-not-is_floor_and_gate.false) (omega (arith, number a, c.if-rows-sizes.false)) counts rows)
+    (asked_rows (held_three x.base.now x.ours.now x.theirs.now) x.floor x.gate x.rows.now (sym c.is_floor_and_gate.ensures ∙ c.if-not-is_floor_and_gate.false) (omega (arith, number a, c.if-rows-sizes.false)) counts rows)
 
 pub returns-clause-fused_stand : goal.returns-clause-fused_stand
 unfolding merged_rows
@@ -124,17 +131,12 @@ returns-clause-fused_stand c =
     let x = c.args in
     let a = c.in_ok-sizes.ensures in
     let w = c.write_merge-counts in
-    let lists = held_three x.base.now x.ours.now x.theirs.now in
-    let same = same_rows a x.floor x.gate c.pair_all-pairings.result c.pair_all-pairings.ensures (verdict_on lists) in
-    let placed = w.ensures.rows_after ∙ ap (λ (z : List Row). rows_left z x.rows.now) same in
-    let n = c.fields.ensures.0 in
-    let passed = c.fuse_rows.ensures.rows_after in
-    let counts = w.ensures.value ∙ ap counts_of same ∙ counts_alike (verdict_on lists) (merged_verdict lists x.floor) (pairings_of lists x.floor x.gate) _ _ _ in
+    let p = c.pair_all-pairings.ensures in
     let d = demanded x.base.now x.ours.now x.theirs.now x.floor x.gate x.rows.now (returns-clause-rows_after c) in
     let l = located_of a in
-    let total = all_counted lists x.floor x.gate (few-located l.of_base) (few-located l.of_ours) (few-located l.of_theirs) x.rows.now in
+    let total = all_counted (held_three x.base.now x.ours.now x.theirs.now) x.floor x.gate (few-located l.of_base) (few-located l.of_ours) (few-located l.of_theirs) x.rows.now in
     λ told answered q h v.
     let own : w.result ≡ told = cc in
-    slot_stands a x.floor x.gate n x.rows.now placed passed _ c.fuse_rows.ensures.base_values_after q
-    (subst (λ (i : ℕ). q < i) total (subst (λ (z : Counts). q < z.full + z.half + z.single) (sym own ∙ counts) h))
+    slot_stands a x.floor x.gate c.fields.ensures.0 x.rows.now (placed a x.floor x.gate _ p w.ensures.rows_after) c.fuse_rows.ensures.rows_after _ c.fuse_rows.ensures.base_values_after q
+    (subst (λ (i : ℕ). q < i) total (subst (λ (z : Counts). q < z.full + z.half + z.single) (sym own ∙ counted a x.floor x.gate _ p w.ensures.value) h))
     (row_fuses x.base.now x.ours.now x.theirs.now (d told answered) q h v)
