@@ -11,7 +11,7 @@ use tracks::read::ListSize;
 pub(crate) fn refused(question: Question) -> u32
     ensures { result ≡ question_number question }
 {
-    u32::from(question.number())
+    u32::from(u8::from(question))
 }
 
 // The code of an answer whose result has been written.

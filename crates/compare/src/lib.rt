@@ -1,4 +1,6 @@
 // The comparison of two tracks: near, far or no distance.
+// Parameters stand in the order of the call, and two tracks have the name of a fact (`TwoTracks`): a struct of the four
+// slices would be taken apart at each step, which takes some of them.
 #![tactic(auto)]
 
 ghost use Rattle.std.specs.Prelude.{◌≡◌};

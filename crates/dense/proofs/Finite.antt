@@ -1,4 +1,5 @@
--- Laws of questions 3 and 4. `finite_more`: one finite entry more. `finite_never`: an entry that is not finite answers for all. `finite-entry`: each entry is.
+-- Laws of questions 3 and 4. `told_finite`: std's word for a finite double is the kernel's. `finite_more`: one finite entry more. `finite_never`: an entry that is not
+-- finite answers for all. `finite-entry`: each entry is.
 use Prim.Native.Nat.{ℕ, zero, suc, ◌+◌, ◌<◌}
 use native.Mathlib.Omega.{arith}
 use native.Mathlib.Numerals.{add-one}
@@ -6,11 +7,18 @@ use native.Mathlib.Nat.{eq-or-lt_of_le, le_of_suc-le-suc}
 use mathlib.Core.Bool.{Bool, true, false, ◌&&◌, and-false}
 use mathlib.Core.List.{List}
 use mathlib.Core.Logic.{⊎_elim}
-use mathlib.Core.Path.{◌≡◌, ap, ◌∙◌}
+use mathlib.Core.Path.{◌≡◌, refl, ap, ◌∙◌}
 use lib.Ieee.{Float}
+use Rattle.std.specs.Float.{nan, inf, fin, float_is_finite}
 use Rattle.kernel.specs.Number.{finite}
 use Rattle.dense.specs.Matrix.{nth, finite_entries}
 use Rattle.dense.proofs.Tests.{and_left, and_right}
+
+pub told_finite : (x : Float) → float_is_finite x ≡ finite x
+unfolding float_is_finite
+told_finite nan = refl
+told_finite (inf s) = refl
+told_finite (fin s m e) = refl
 
 pub finite_more : (a : List Float) (l : ℕ) → finite_entries a l ≡ true → finite (nth a l) ≡ true → finite_entries a (l + 1) ≡ true
 unfolding finite_entries

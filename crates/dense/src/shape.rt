@@ -74,7 +74,8 @@ pub fn is_distance(x: &[f64], y: &[f64], a: &[f64], n: usize) -> bool
     is_vector(x, n) && is_form(y, a, n)
 }
 
-// Whether a is an n by n matrix, and x and y are vectors of n entries.
+// Whether a is an n by n matrix, and x and y are vectors of n entries: the tests of `is_distance`, in the order that a
+// system's definition has.
 pub fn is_system(a: &[f64], x: &[f64], y: &[f64], n: usize) -> bool
     requires { n * n ≤ 256 }
     ensures { result ≡ (has_length a.now (n * n) && (has_length x.now n && has_length y.now n)) }

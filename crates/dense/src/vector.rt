@@ -17,7 +17,7 @@ pub fn add_scaled(s: f64, x: &[f64], y: &mut [f64])
     combine(|u, v| u + s * v, x, y);
 }
 
-// Takes s times x from y, entry by entry.
+// Takes s times x from y, entry by entry. It differs from `add_scaled` by the closure alone.
 pub fn subtract_scaled(s: f64, x: &[f64], y: &mut [f64])
     requires { length x.now ≡ length y.old }
     ensures { y.new ≡ tabulate (length y.old) (λ j. sub (nth y.old j) (mul s (nth x.now j))) }
@@ -68,10 +68,11 @@ pub fn max_abs(x: &[f64]) -> f64
 }
 
 // Whether x is a number and no infinity.
+#[tactic(auto, using(crate::proofs::Finite::told_finite))]
 pub fn is_finite(x: f64) -> bool
     ensures { result ≡ finite x }
 {
-    x < f64::INFINITY && f64::NEG_INFINITY < x
+    x.is_finite()
 }
 
 // Whether the entries of x are finite.

@@ -18,7 +18,7 @@ fn add(x: &[f64], y: &mut [f64])
     combine(|u, v| u + v, x, y);
 }
 
-// Takes x from y, entry by entry.
+// Takes x from y, entry by entry. It differs from `add` by the closure alone.
 fn subtract(x: &[f64], y: &mut [f64])
     requires { length x.now ≡ length y.old }
     ensures { y.new ≡ differences (length y.old) y.old x.now }

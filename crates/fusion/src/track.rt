@@ -33,6 +33,7 @@ pub(crate) fn estimate(
 }
 
 // Writes the fields of the track with the state x and the covariance p: the state, then the lower triangle row by row.
+// d is x.len(): with length x.now for it the clauses are 38 characters longer, here and in `write_finite`.
 #[tactic(auto, using(crate::proofs::Triangle::row_by_row), unfolding(tracks::specs::Layout::fields))]
 fn write_fields(x: &[f64], p: &[f64], d: usize, out: &mut [f64])
     requires { HasFields d out.old × Sized d p.now x.now }

@@ -45,7 +45,7 @@ pub fn value(x: f64) -> f64
     x
 }
 
-// The number c as a constant: itself.
+// The number c as a constant: itself. As `value` it is a name that C calls.
 pub fn constant(c: f64) -> f64
     ensures { result ≡ constant c }
 {

@@ -28,11 +28,11 @@ pub enum Question {
     MergedCount = 22,
 }
 
-impl Question {
-    // The number of a question in document 01; no question has the number 0.
-    pub fn number(self) -> u8
-        ensures { result ≡ question_number self }
-    {
-        self as u8
+// The number of a question in document 01; no question has the number 0.
+impl From<Question> for u8 {
+    ghost from_gives = { λ question n. n ≡ question_number question };
+
+    fn from(question: Question) -> u8 {
+        question as u8
     }
 }

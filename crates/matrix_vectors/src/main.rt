@@ -48,7 +48,7 @@ fn is_met(s: &[u8], call: Call) -> bool {
     let mut out = [BEFORE; ENTRIES];
     let is_told = match answer::answer(call, arguments, &mut out[..lo]) {
         Some(Ok(())) => number(s, 10) == 0,
-        Some(Err(question)) => number(s, 10) == question.number() as u64,
+        Some(Err(question)) => number(s, 10) == u64::from(u8::from(question)),
         None => false,
     };
     is_told && replay::are_same(&out[..lo], at_out)

@@ -41,14 +41,14 @@ fn verdict_after(
     requires { RowToFuse d j k base.old ours_values.now theirs_values.now }
     ensures { (result, base.new) ≡ after_fusion v j k (fusion_of d floor base.old ours_values.now j theirs_values.now k) base.old }
 {
-    if v != Verdict::Conflict.number() || j == NO_TRACK || k == NO_TRACK {
+    if v != u8::from(Verdict::Conflict) || j == NO_TRACK || k == NO_TRACK {
         return v;
     }
     let f = fields(d);
     let o = row(ours_values, f, j as usize);
     let t = row(theirs_values, f, k as usize);
     if fuse_over(base, o, t, d, floor) {
-        return Verdict::Fuse.number();
+        return u8::from(Verdict::Fuse);
     }
     v
 }

@@ -22,7 +22,7 @@ pub(crate) struct Terms {
     pub(crate) gate: f64,
 }
 
-// What marks a pair that is no candidate.
+// What marks a pair that is no candidate: a number, since a table of Options would take twice the memory.
 fn no_key() -> f64
     ensures { result ≡ nan }
 {

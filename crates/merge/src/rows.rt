@@ -17,7 +17,7 @@ fn put_row(wanted: bool, i: u8, j: u8, k: u8, r: usize, rows: &mut [u8]) -> usiz
     if !wanted {
         return r;
     }
-    rows[4 * r..4 * r + 4].copy_from_slice(&[i, j, k, Verdict::Keep.number()]);
+    rows[4 * r..4 * r + 4].copy_from_slice(&[i, j, k, u8::from(Verdict::Keep)]);
     r + 1
 }
 

@@ -1,5 +1,5 @@
 // The verdict on a row, by the records of its tracks.
-ghost use Rattle.std.specs.Prelude.{◌≡◌, ◌<◌, cond, MatchOption};
+ghost use Rattle.std.specs.Prelude.{◌≡◌, ◌<◌, cond, MatchResult};
 ghost use Rattle.kernel.specs.Lists.{over, tabulate};
 ghost use Rattle.merge.specs.Rows.{verdict, Equal, deleted, conflict};
 ghost use Rattle.merge.specs.Fused.{fuse};
@@ -20,26 +20,34 @@ pub enum Verdict {
     Fuse = 5,
 }
 
-impl Verdict {
-    // The number of a verdict in a row.
-    pub fn number(self) -> u8
-        ensures { result ≡ verdict_number self }
-    {
-        self as u8
-    }
+// The number of a verdict in a row.
+impl From<Verdict> for u8 {
+    ghost from_gives = { λ verdict n. n ≡ verdict_number verdict };
 
-    // The verdict with a number, or None for a number above that of the last.
-    pub fn of(number: u8) -> Option<Verdict>
-        ensures { MatchOption result (fuse < number) (λ v. verdict_number v ≡ number) }
-    {
+    fn from(verdict: Verdict) -> u8 {
+        verdict as u8
+    }
+}
+
+// That a number is above that of the last verdict.
+#[derive(Clone, Copy, Debug, PartialEq, Eq)]
+pub struct NoVerdict;
+
+// The verdict with a number.
+impl TryFrom<u8> for Verdict {
+    type Error = NoVerdict;
+
+    ghost try_from_gives = { λ n r. MatchResult r (λ v. verdict_number v ≡ n) (λ e. fuse < n) };
+
+    fn try_from(number: u8) -> Result<Verdict, NoVerdict> {
         match number {
-            0 => Some(Verdict::Keep),
-            1 => Some(Verdict::TakeOurs),
-            2 => Some(Verdict::TakeTheirs),
-            3 => Some(Verdict::Deleted),
-            4 => Some(Verdict::Conflict),
-            5 => Some(Verdict::Fuse),
-            _ => None,
+            0 => Ok(Verdict::Keep),
+            1 => Ok(Verdict::TakeOurs),
+            2 => Ok(Verdict::TakeTheirs),
+            3 => Ok(Verdict::Deleted),
+            4 => Ok(Verdict::Conflict),
+            5 => Ok(Verdict::Fuse),
+            _ => Err(NoVerdict),
         }
     }
 }
@@ -144,6 +152,6 @@ pub(crate) fn write_verdicts(lists: Lists, total: usize, rows: &mut [u8])
             ours: rows[4 * r + 1],
             theirs: rows[4 * r + 2],
         };
-        rows[4 * r + 3] = verdict_on(lists, row).number();
+        rows[4 * r + 3] = u8::from(verdict_on(lists, row));
     }
 }

@@ -41,7 +41,7 @@ fn place_in(list: &[u8], other: &[u8], i: usize) -> Option<Part>
 pub fn winning(ours: &[u8], theirs: &[u8], row: [u8; 4]) -> Option<WinningPart>
     ensures { result ≡ winning ours.now theirs.now row }
 {
-    match Verdict::of(row[3])? {
+    match Verdict::try_from(row[3]).ok()? {
         Verdict::TakeOurs => place_in(ours, theirs, row[1] as usize).map(WinningPart::Ours),
         Verdict::TakeTheirs => place_in(theirs, ours, row[2] as usize).map(WinningPart::Theirs),
         Verdict::Keep | Verdict::Deleted | Verdict::Conflict | Verdict::Fuse => None,

@@ -47,12 +47,12 @@ fn write_taken(lists: Lists, offsets: &Offsets, row: [u8; 4], out: &mut [u8], at
     requires fits { at + length (record_taken (sources lists offsets.now) (row_in row 0)) ≤ length out.old }
     ensures { Writes (record_taken (sources lists.entry offsets.now) (row_in row 0)) out.old at result out.new }
 {
-    match Verdict::of(row[3]) {
-        Some(Verdict::Keep) => copy_record(lists.base, &offsets.base, row[0], out, at),
-        Some(Verdict::TakeOurs) => copy_record(lists.ours, &offsets.ours, row[1], out, at),
-        Some(Verdict::TakeTheirs) => copy_record(lists.theirs, &offsets.theirs, row[2], out, at),
-        Some(Verdict::Fuse) => write_placed(lists, row[0], out, at),
-        Some(Verdict::Deleted | Verdict::Conflict) | None => at,
+    match Verdict::try_from(row[3]) {
+        Ok(Verdict::Keep) => copy_record(lists.base, &offsets.base, row[0], out, at),
+        Ok(Verdict::TakeOurs) => copy_record(lists.ours, &offsets.ours, row[1], out, at),
+        Ok(Verdict::TakeTheirs) => copy_record(lists.theirs, &offsets.theirs, row[2], out, at),
+        Ok(Verdict::Fuse) => write_placed(lists, row[0], out, at),
+        Ok(Verdict::Deleted | Verdict::Conflict) | Err(_) => at,
     }
 }
 

@@ -19,7 +19,7 @@ fn with_verdict(rows: &[u8], total: usize, verdict: Verdict) -> usize
     let (rows, _) = rows.as_chunks::<4>();
     rows[..total]
         .iter()
-        .filter(|row| row[3] == verdict.number())
+        .filter(|row| row[3] == u8::from(verdict))
         .count()
 }
 

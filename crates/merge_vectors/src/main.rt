@@ -33,7 +33,7 @@ fn is_told(answer: Result<Counts, Question>, s: &[u8]) -> bool {
                 && counts.half as u64 == number(s, 10)
                 && counts.single as u64 == number(s, 11)
         }
-        Err(question) => number(s, 8) == question.number() as u64,
+        Err(question) => number(s, 8) == u64::from(u8::from(question)),
     }
 }
 

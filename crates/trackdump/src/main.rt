@@ -81,7 +81,7 @@ fn show(rt: &impl Print, list: &[u8], shown: Shown) -> io::Result<()> {
     let mut values = [0.0; VALUES];
     match read::read_list(list, &mut values) {
         Ok(size) => print_list(rt, &values, size, shown),
-        Err(question) => println!(rt; "no {}: {}", question.number(), InWords(question)),
+        Err(question) => println!(rt; "no {}: {}", u8::from(question), InWords(question)),
     }
 }
 

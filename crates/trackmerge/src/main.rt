@@ -59,6 +59,6 @@ fn main(rt: HostRuntime) -> io::Result<()> {
             print_rows(&rt, &rows, counts.full + counts.half + counts.single)?;
             println!(rt; "{} {} {}", counts.full, counts.half, counts.single)
         }
-        Err(question) => println!(rt; "no {}", question.number()),
+        Err(question) => println!(rt; "no {}", u8::from(question)),
     }
 }

@@ -45,7 +45,7 @@ fn reads(s: &[u8]) -> bool {
                 && size.count as u64 == replay::number(s, 5)
                 && size.dimension as u64 == replay::number(s, 6)
         }
-        Err(question) => replay::number(s, 4) == question.number() as u64,
+        Err(question) => replay::number(s, 4) == u64::from(u8::from(question)),
     };
     is_told && replay::are_same(values, left)
 }
@@ -73,7 +73,7 @@ fn writes(s: &[u8]) -> bool {
     let dimension = replay::number(s, 3) as usize;
     let is_told = match write::write_list(count, dimension, &values[..n], out) {
         Ok(length) => replay::number(s, 6) == 0 && length as u64 == replay::number(s, 7),
-        Err(question) => replay::number(s, 6) == question.number() as u64,
+        Err(question) => replay::number(s, 6) == u64::from(u8::from(question)),
     };
     is_told && same_bytes(left, out)
 }

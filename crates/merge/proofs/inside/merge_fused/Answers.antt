@@ -39,9 +39,9 @@ module _ {base ours theirs : List ℕ} {offsets : Offsets} {bv ov tv : List Floa
     same_rows v = rows_placed v paired (sizes_of a)
 
     -- so are the rows that are written, and the counts are those of the merged verdicts
-    placed : {old new : List ℕ} → let lists = held_three base ours theirs in
+    placed : (old : List ℕ) {new : List ℕ} → let lists = held_three base ours theirs in
         new ≡ rows_left (rows_by (verdict_on lists) p sizes) old → new ≡ rows_left (rows_with_lem lists floor gate (verdict_on lists)) old
-    placed {old} h = h ∙ ap (λ (z : List Row). rows_left z old) (same_rows _)
+    placed old h = h ∙ ap (λ (z : List Row). rows_left z old) (same_rows _)
 
     counted : {counts : Counts} → let lists = held_three base ours theirs in
         counts ≡ counts_of (rows_by (verdict_on lists) p sizes) → counts ≡ counts_of (rows_with_lem lists floor gate (merged_verdict lists floor))
@@ -111,7 +111,7 @@ fuse_rows-requires c =
     let x = c.args in
     let a = c.in_ok-sizes.ensures in
     let w = c.write_merge-counts in
-    to_fuse a x.floor x.gate c.fields.ensures.0 x.rows.now (placed a x.floor x.gate _ c.pair_all-pairings.ensures w.ensures.rows_after) (omega (arith, w.auto.rows, c.if-rows-sizes.false))
+    to_fuse a x.floor x.gate c.fields.ensures.0 x.rows.now (placed a x.floor x.gate _ c.pair_all-pairings.ensures x.rows.now w.ensures.rows_after) (omega (arith, w.auto.rows, c.if-rows-sizes.false))
 
 pub returns-clause-rows_after : goal.returns-clause-rows_after
 unfolding merged_rows
@@ -120,7 +120,7 @@ returns-clause-rows_after c =
     let a = c.in_ok-sizes.ensures in
     let w = c.write_merge-counts.ensures in
     let p = c.pair_all-pairings.ensures in
-    let rows = all_passed a x.floor x.gate c.fields.ensures.0 x.rows.now (placed a x.floor x.gate _ p w.rows_after) c.fuse_rows.ensures.rows_after in
+    let rows = all_passed a x.floor x.gate c.fields.ensures.0 x.rows.now (placed a x.floor x.gate _ p x.rows.now w.rows_after) c.fuse_rows.ensures.rows_after in
     let counts = counted a x.floor x.gate _ p w.value in
     lists-merged x.base.now x.ours.now x.theirs.now x.floor x.gate x.rows.now (all_accepted x.base.now x.ours.now x.theirs.now a)
     (asked_rows (held_three x.base.now x.ours.now x.theirs.now) x.floor x.gate x.rows.now (sym c.is_floor_and_gate.ensures ∙ c.if-not-is_floor_and_gate.false) (omega (arith, number a, c.if-rows-sizes.false)) counts rows)
@@ -137,6 +137,6 @@ returns-clause-fused_stand c =
     let total = all_counted (held_three x.base.now x.ours.now x.theirs.now) x.floor x.gate (few-located l.of_base) (few-located l.of_ours) (few-located l.of_theirs) x.rows.now in
     λ told answered q h v.
     let own : w.result ≡ told = cc in
-    slot_stands a x.floor x.gate c.fields.ensures.0 x.rows.now (placed a x.floor x.gate _ p w.ensures.rows_after) c.fuse_rows.ensures.rows_after _ c.fuse_rows.ensures.base_values_after q
+    slot_stands a x.floor x.gate c.fields.ensures.0 x.rows.now (placed a x.floor x.gate _ p x.rows.now w.ensures.rows_after) c.fuse_rows.ensures.rows_after _ c.fuse_rows.ensures.base_values_after q
     (subst (λ (i : ℕ). q < i) total (subst (λ (z : Counts). q < z.full + z.half + z.single) (sym own ∙ counted a x.floor x.gate _ p w.ensures.value) h))
     (row_fuses x.base.now x.ours.now x.theirs.now (d told answered) q h v)

@@ -15,6 +15,6 @@ returns-then-not-wanted c =
 pub returns : goal.returns
 returns c =
     let x = c.args in
-    let bytes = c.copy_from_slice.ensures.after ∙ ap (λ (v : ℕ). x.i ∷ x.j ∷ x.k ∷ v ∷ []) c.number.ensures in
+    let bytes = c.copy_from_slice.ensures.after ∙ ap (λ (v : ℕ). x.i ∷ x.j ∷ x.k ∷ v ∷ []) c.from.ensures in
     appended_one x.wanted (undecided_row x.i x.j x.k) c.if-not-wanted.false refl
     (ap (put_mid (4 * x.r) (4 * x.r + 4 - 4 * x.r) x.rows.now) bytes ∙ put_mid_over x.rows.now _ (4 * x.r) _ (omega arith))

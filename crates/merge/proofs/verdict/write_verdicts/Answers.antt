@@ -33,6 +33,6 @@ loop-r-preserved c =
     let first = still (4 * i.r) (omega arith) in
     let second = still (4 * i.r + 1) (omega arith) in
     let third = still (4 * i.r + 2) (omega arith) in
-    let decided = c.number.ensures ∙ c.verdict_on.ensures ∙ (λ z. verdict_held lists (first z) (second z) (third z)) in
+    let decided = c.from.ensures ∙ c.verdict_on.ensures ∙ (λ z. verdict_held lists (first z) (second z) (third z)) in
     let put = verdict_put i.rows (4 * i.r) first second third decided (omega (arith, i.invariant.long, c.requires.room)) in
     tabulated_turn (decided_row lists _) i.invariant (omega arith) c.requires.room (appended_one true (decided_row lists _ i.r) refl refl put)
