@@ -17,7 +17,7 @@ pub(crate) fn reduce_row(x: &[f64], k: usize, i: usize, y: &mut [f64])
     ensures { y.new ≡ tabulate (length x.now) (cleared_entry (nth x.now) (nth y.old) k i) }
 {
     if i == k {
-        fill(|j| x[j], y); // at these orders a loop takes less time than a copy by `copy_from_slice`
+        y.copy_from_slice(x);
         return;
     }
     let factor = y[k];
