@@ -9,7 +9,6 @@ ghost use Rattle.pivoting.specs.Private.{TwoRows, Clearing, PivotRow, Eliminatio
 use crate::choice::pivot_row;
 use crate::norms::{row_norms, some_scale};
 use crate::rows::copy_row;
-use dense::fill::fill;
 use dense::shape::{entry, row};
 use dense::vector::subtract_scaled;
 
@@ -29,7 +28,7 @@ fn pivot_or_below(x: &[f64], k: usize, i: usize, y: &mut [f64])
     ensures { y.new ≡ tabulate (length x.now) (pivot_or_below (nth x.now) (nth y.old) k i) }
 {
     if i == k {
-        fill(|j| x[j], y); // at these orders a loop takes less time than a copy by `copy_from_slice`
+        y.copy_from_slice(x);
         return;
     }
     below_pivot(x, k, y);
