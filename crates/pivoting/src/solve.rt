@@ -36,16 +36,15 @@ fn joined_entry(a: &[f64], n: usize, i: usize, j: usize) -> f64
 }
 
 // Questions 5 and 6 of m with r right sides, and s, the norms of its rows, and then what the right sides become into
-// out. x is room for a row. Its length is w: where w is read from x, `mat_solve` takes up to 1.3 % more instructions.
+// out. x is room for a row.
 fn eliminate(
     m: &mut [f64],
     s: &mut [f64],
     x: &mut [f64],
     r: usize,
-    w: usize,
     out: &mut [f64],
 ) -> Result<(), Question>
-    requires { let n = length s.old in (w ≡ n + r) × (length x.old ≡ w) × Elimination m.old s.old x.old × (length out.old ≡ n * r) }
+    requires { let n = length s.old in (length x.old ≡ n + r) × Elimination m.old s.old x.old × (length out.old ≡ n * r) }
     ensures { Leaves (solved_from (length s.old) r (stage m.old s.old)) out.old result out.new }
 {
     let n = s.len();
@@ -53,6 +52,7 @@ fn eliminate(
         return Err(Question::RowNorm);
     }
     reduce(m, s, x)?;
+    let w = x.len();
     fill_matrix(|i, j| entry(m, w, i, n + j), n, r, out);
     Ok(())
 }
@@ -82,7 +82,7 @@ fn solve_within<F: Fn(usize, usize) -> f64, const N: usize, const W: usize, cons
     let s = &mut s[..n];
     row_norms(a, s);
     fill_matrix(f, n, w, m);
-    eliminate(m, s, &mut x[..w], r, w, out)
+    eliminate(m, s, &mut x[..w], r, out)
 }
 
 // The same with the room that the order needs.
