@@ -13,7 +13,8 @@ use Rattle.kernel.specs.Answer.{Outcome, and_then}
 use Rattle.kernel.specs.Lists.{tabulate}
 use Rattle.kernel.specs.Number.{add}
 use Rattle.dense.specs.Matrix.{nth, matrix, is_side, has_length}
-use Rattle.dense.proofs.Tests.{and_left, and_right, long-length, two-long}
+use Rattle.std.proofs.lemmas.Bool.{and_parts}
+use Rattle.dense.proofs.Tests.{long-length, three-long}
 use Rattle.eigen.proofs.Cases.Single.{single-list}
 use Rattle.pivoting.specs.Solve.{distance}
 use Rattle.repair.specs.declared.RegularizationReport.{RegularizationReport}
@@ -29,14 +30,14 @@ use Rattle.std.specs.Prelude.{Ok, Err}
 module _ (mu x p-i p-j : List Float) (n : ℕ) where
   pub two-tracks : is_side n ≡ true → (has_length mu n && (has_length x n && (has_length p-i (n * n) && has_length p-j (n * n)))) ≡ true → TwoTracks mu x p-i p-j n
   two-tracks s e =
-      let rest = and_right (has_length mu n) _ e in
-      let squares = two-long p-i p-j (n * n) (n * n) (and_right (has_length x n) _ rest) in
+      let both = and_parts (has_length mu n) _ e in
+      let rest = three-long x p-i p-j n (n * n) (n * n) both.1 in
       record {
         sided = s;
-        state-i = long-length mu n (and_left (has_length mu n) _ e);
-        state-j = long-length x n (and_left (has_length x n) _ rest);
-        covariance-i = squares.0;
-        covariance-j = squares.1;
+        state-i = long-length mu n both.0;
+        state-j = rest.0;
+        covariance-i = rest.1;
+        covariance-j = rest.2;
       }
 
   pub comparing_met : (floor gate : Float) → is_side n ≡ true → (has_length mu n && (has_length x n && (has_length p-i (n * n) && has_length p-j (n * n)))) ≡ true → floor_and_gate floor gate ≡ true

@@ -12,7 +12,7 @@ use lib.Ieee.{Float}
 use Rattle.std.specs.Float.{nan, inf, fin, float_is_finite}
 use Rattle.kernel.specs.Number.{finite}
 use Rattle.dense.specs.Matrix.{nth, finite_entries}
-use Rattle.dense.proofs.Tests.{and_left, and_right}
+use Rattle.std.proofs.lemmas.Bool.{and_parts}
 
 pub told_finite : (x : Float) → float_is_finite x ≡ finite x
 unfolding float_is_finite
@@ -38,6 +38,6 @@ unfolding finite_entries
 finite-entry a zero j e h = absurd (omega arith)
 finite-entry a (suc n) j e h =
     ⊎_elim
-    (λ (s : j ≡ n). ap (λ (k : ℕ). finite (nth a k)) s ∙ and_right (finite_entries a n) (finite (nth a n)) e)
-    (λ (s : j < n). finite-entry a n j (and_left (finite_entries a n) (finite (nth a n)) e) s)
+    (λ (s : j ≡ n). ap (λ (k : ℕ). finite (nth a k)) s ∙ (and_parts (finite_entries a n) (finite (nth a n)) e).1)
+    (λ (s : j < n). finite-entry a n j (and_parts (finite_entries a n) (finite (nth a n)) e).0 s)
     (eq-or-lt_of_le (le_of_suc-le-suc h))

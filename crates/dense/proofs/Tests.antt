@@ -11,7 +11,7 @@ use borrow.Author.Tests.{leb-true, eqb-true, eq-eqb}
 use lib.Dec.{leb}
 use lib.Ieee.{Float}
 use lib.ListN.{length}
-use Rattle.kernel.proofs.Answers.{never}
+use Rattle.std.proofs.lemmas.Bool.{and_parts}
 use Rattle.dense.specs.Matrix.{is_side, has_length}
 
 pub met : {r b : Bool} → r ≡ b → r ≡ true → b ≡ true
@@ -28,14 +28,6 @@ and_no b e t = rw (unmet e t)
 pub and_yes : {r a s b : Bool} → r ≡ a → r ≡ true → s ≡ b → s ≡ (a && b)
 and_yes e t f = rw (met e t) f
 
-pub and_left : (a b : Bool) → (a && b) ≡ true → a ≡ true
-and_left true b e = refl
-and_left false b e = e
-
-pub and_right : (a b : Bool) → (a && b) ≡ true → b ≡ true
-and_right true b e = e
-and_right false b e = never e
-
 pub and_exchanged : (a b c : Bool) → (a && (b && c)) ≡ (b && (a && c))
 and_exchanged true true c = refl
 and_exchanged true false c = refl
@@ -46,19 +38,20 @@ and_exchanged false false c = refl
 
 pub side_low : (n : ℕ) → is_side n ≡ true → 1 ≤ n
 unfolding is_side
-side_low n e = leb-true 1 n (and_left (leb 1 n) (leb n 16) e)
+side_low n e = leb-true 1 n (and_parts (leb 1 n) (leb n 16) e).0
 
 pub side_high : (n : ℕ) → is_side n ≡ true → n ≤ 16
 unfolding is_side
-side_high n e = leb-true n 16 (and_right (leb 1 n) (leb n 16) e)
+side_high n e = leb-true n 16 (and_parts (leb 1 n) (leb n 16) e).1
 
 pub two-sides : (m n : ℕ) → (is_side m && is_side n) ≡ true → (is_side m ≡ true) × (is_side n ≡ true)
-two-sides m n e = (and_left (is_side m) (is_side n) e, and_right (is_side m) (is_side n) e)
+two-sides m n e = and_parts (is_side m) (is_side n) e
 
 pub three-sides : (m k n : ℕ) → (is_side m && (is_side k && is_side n)) ≡ true → (is_side m ≡ true) × (is_side k ≡ true) × (is_side n ≡ true)
 three-sides m k n e =
-    let rest = two-sides k n (and_right (is_side m) (is_side k && is_side n) e) in
-    (and_left (is_side m) (is_side k && is_side n) e, rest.0, rest.1)
+    let both = and_parts (is_side m) (is_side k && is_side n) e in
+    let rest = two-sides k n both.1 in
+    (both.0, rest.0, rest.1)
 
 -- a matrix with such sides has at most 256 entries
 pub area : (m n : ℕ) → is_side m ≡ true → is_side n ≡ true → m * n ≤ 256
@@ -84,12 +77,15 @@ unfolding has_length
 long_of a n e = eq-eqb (length a) n e
 
 pub two-long : (a b : List Float) (m n : ℕ) → (has_length a m && has_length b n) ≡ true → (length a ≡ m) × (length b ≡ n)
-two-long a b m n e = (long-length a m (and_left (has_length a m) (has_length b n) e), long-length b n (and_right (has_length a m) (has_length b n) e))
+two-long a b m n e =
+    let both = and_parts (has_length a m) (has_length b n) e in
+    (long-length a m both.0, long-length b n both.1)
 
 pub three-long : (a b c : List Float) (m n o : ℕ) → (has_length a m && (has_length b n && has_length c o)) ≡ true → (length a ≡ m) × (length b ≡ n) × (length c ≡ o)
 three-long a b c m n o e =
-    let rest = two-long b c n o (and_right (has_length a m) (has_length b n && has_length c o) e) in
-    (long-length a m (and_left (has_length a m) (has_length b n && has_length c o) e), rest.0, rest.1)
+    let both = and_parts (has_length a m) (has_length b n && has_length c o) e in
+    let rest = two-long b c n o both.1 in
+    (long-length a m both.0, rest.0, rest.1)
 
 -- two n by n matrices
 pub two_squares : (n : ℕ) → is_side n ≡ true → (n * n ≤ 256) × (n * n ≤ 256)

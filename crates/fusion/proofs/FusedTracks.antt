@@ -17,7 +17,7 @@ use Rattle.kernel.proofs.Lists.{length-tabulate}
 use Rattle.dense.specs.Matrix.{sum_from, nth, at, finite_entries}
 use Rattle.dense.proofs.Finite.{finite-entry}
 use Rattle.dense.proofs.Laws.{cell, nth-tabulate, length-matrix, at-matrix}
-use Rattle.dense.proofs.Tests.{and_left, and_right}
+use Rattle.std.proofs.lemmas.Bool.{and_parts}
 use Rattle.tracks.specs.Calls.{doubles, patterns}
 use Rattle.tracks.specs.Layout.{fields}
 use Rattle.tracks.proofs.Numbers.Values.{doubles-patterns}
@@ -72,10 +72,9 @@ unfolding is_finite
 fused-finite d floor base ours theirs {v} h k l =
     let t = fused_made d floor base ours theirs h in
     let e = t.of in
-    let x = and_left (finite_entries e.state d) (finite_entries e.covariance (d * d)) t.finite in
-    let p = and_right (finite_entries e.state d) (finite_entries e.covariance (d * d)) t.finite in
+    let both = and_parts (finite_entries e.state d) (finite_entries e.covariance (d * d)) t.finite in
     subst (λ (w : List Float). finite (nth w k) ≡ true) t.written
-    (fields_every (λ y. finite y ≡ true) d e (state-long d e t.made) (λ q b. finite-entry e.state d q x b) (λ i j a b. finite-entry e.covariance (d * d) (i * d + j) p (cell d d a b)) k
+    (fields_every (λ y. finite y ≡ true) d e (state-long d e t.made) (λ q b. finite-entry e.state d q both.0 b) (λ i j a b. finite-entry e.covariance (d * d) (i * d + j) both.1 (cell d d a b)) k
     (omega (arith, fields-long d e (state-long d e t.made))))
 
 -- ---- every field is a double

@@ -70,9 +70,11 @@ impl Call {
         Call::ConditionNumber,
         Call::TikhonovWithReport,
     ];
+}
 
-    // The call with a number of a record.
-    pub(crate) fn of(number: u64) -> Call {
+// Each number has a call, the one at its place from the first on again: none is refused.
+impl From<u64> for Call {
+    fn from(number: u64) -> Call {
         Call::ALL[(number % 30) as usize]
     }
 }

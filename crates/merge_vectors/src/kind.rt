@@ -12,14 +12,12 @@ pub(crate) enum Kind {
 impl Kind {
     // In the order of their numbers in a record.
     pub(crate) const ALL: [Kind; 3] = [Kind::Merge, Kind::Winner, Kind::MergedList];
+}
 
-    // The kind with a number of a record.
-    pub(crate) fn of(number: u64) -> Kind {
-        match number % 3 {
-            0 => Kind::Merge,
-            1 => Kind::Winner,
-            _ => Kind::MergedList,
-        }
+// Each number has a kind, the one at its place from the first on again: none is refused.
+impl From<u64> for Kind {
+    fn from(number: u64) -> Kind {
+        Kind::ALL[(number % 3) as usize]
     }
 }
 

@@ -29,17 +29,7 @@ impl Call {
         Call::Constant,
     ];
 
-    // The call with a number of a record.
-    fn of(number: u64) -> Call {
-        match number % 5 {
-            0 => Call::Sqrt,
-            1 => Call::Abs,
-            2 => Call::Max,
-            3 => Call::Value,
-            _ => Call::Constant,
-        }
-    }
-
+    // One match, as in a table of functions those of one number would have to take two, as `max` does.
     fn answer(self, x: f64, y: f64) -> f64 {
         match self {
             Call::Sqrt => number::sqrt(x),
@@ -48,6 +38,13 @@ impl Call {
             Call::Value => number::value(x),
             Call::Constant => number::constant(x),
         }
+    }
+}
+
+// Each number has a call, the one at its place from the first on again: none is refused.
+impl From<u64> for Call {
+    fn from(number: u64) -> Call {
+        Call::ALL[(number % 5) as usize]
     }
 }
 
@@ -65,7 +62,7 @@ impl Display for Call {
 
 // Counts a record under its call.
 fn replay_record(record: &[u8], tallies: &mut [Tally; 5]) {
-    let call = Call::of(replay::number(record, 0));
+    let call = Call::from(replay::number(record, 0));
     let x = replay::double(replay::number(record, 1));
     let y = replay::double(replay::number(record, 2));
     tallies[call as usize].count(replay::is_same(call.answer(x, y), replay::number(record, 3)));

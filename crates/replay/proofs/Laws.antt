@@ -3,6 +3,7 @@ use Rattle.std.proofs.Common.{◌≡◌, ℕ, ◌%◌, ◌<◌, ◌≤◌, true,
 use lib.Ieee.{Float, nan, inf, fin, binary64, is_nan, nan_bits, ne, of_bits, to_bits}
 use lib.Ieee.Bits.{nan_bits_is, nan_bits_above}
 use lib.Ieee.Compare.{differs_from_itself}
+use Rattle.kernel.proofs.Doubles.Patterns.{equal_number}
 use Rattle.replay.specs.Replay.{same}
 
 -- below the sign, the patterns above that of +infinity
@@ -26,12 +27,6 @@ pub same_nan : (x : Float) (p : ℕ) → ne x x ≡ true → ltb 0x7FF0_0000_000
 unfolding same is_nan
 same_nan x p h = sym (nan_bits_above binary64 p) ∙ rw (differs_from_itself x (subst T (sym h) tt)) refl
 
-pub equals_itself : (x : Float) → ne x x ≡ false → is_nan x ≡ false
-unfolding ne is_nan
-equals_itself nan h = absurd (subst T h tt)
-equals_itself (inf s) h = refl
-equals_itself (fin s m e) h = refl
-
 pub same_number : (x : Float) (p : ℕ) → ne x x ≡ false → eqb (to_bits binary64 x) p ≡ same x p
 unfolding same
-same_number x p h = rw (equals_itself x h) refl
+same_number x p h = rw (equal_number x h) refl

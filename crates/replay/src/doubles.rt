@@ -27,7 +27,7 @@ pub fn first_doubles<const N: usize>(s: &[u8]) -> [f64; N]
 }
 
 // Whether x is the double with the bit pattern p: any NaN is any NaN.
-#[tactic(auto, using(crate::proofs::Laws::same_nan, crate::proofs::Laws::same_number, crate::proofs::Laws::equals_itself))]
+#[tactic(auto, using(crate::proofs::Laws::same_nan, crate::proofs::Laws::same_number, kernel::proofs::Doubles::Patterns::equal_number))]
 pub fn is_same(x: f64, p: u64) -> bool
     ensures { result ≡ same x p }
 {

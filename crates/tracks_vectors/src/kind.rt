@@ -13,15 +13,12 @@ pub(crate) enum Kind {
 impl Kind {
     // In the order of their numbers in a record.
     pub(crate) const ALL: [Kind; 4] = [Kind::Read, Kind::Written, Kind::HandedOut, Kind::Compared];
+}
 
-    // The kind with a number of a record.
-    pub(crate) fn of(number: u64) -> Kind {
-        match number % 4 {
-            0 => Kind::Read,
-            1 => Kind::Written,
-            2 => Kind::HandedOut,
-            _ => Kind::Compared,
-        }
+// Each number has a kind, the one at its place from the first on again: none is refused.
+impl From<u64> for Kind {
+    fn from(number: u64) -> Kind {
+        Kind::ALL[(number % 4) as usize]
     }
 }
 

@@ -8,6 +8,7 @@ use mathlib.Core.List.{List}
 use lib.Dec.{leb}
 use lib.Ieee.{Float}
 use borrow.Author.Tests.{leb-true}
+use Rattle.std.proofs.lemmas.Bool.{and_parts}
 use Rattle.dense.specs.Matrix.{row_of}
 use Rattle.tracks.specs.Layout.{fields, dimension_met}
 use Rattle.tracks.proofs.Reading.Accepted.{contents_met, dimension-small}
@@ -45,11 +46,7 @@ module _ {l offsets : List ℕ} {values : List Float} {n : ℕ} (r : Read l offs
 -- ---- three lists
 
 dimension-some : (d : ℕ) → dimension_met d ≡ true → 1 ≤ d
-dimension-some d h = leb-true 1 d (and_left (leb 1 d) (leb d 9) h)
-  where
-    and_left : (a b : Bool) → a && b ≡ true → a ≡ true
-    and_left true b e = refl
-    and_left false b e = e
+dimension-some d h = leb-true 1 d (and_parts (leb 1 d) (leb d 9) h).0
 
 module _ {base ours theirs : List ℕ} {offsets : Offsets} {base-values ours-values theirs-values : List Float} {sizes : Sizes}
     (a : AllRead base ours theirs offsets base-values ours-values theirs-values sizes) where

@@ -8,9 +8,10 @@ use mathlib.Core.Logic.{⊎_elim}
 use lib.Arith.{mod-mul}
 use lib.Pow.{pow-add, pow_pos}
 use mathlib.Core.Path.{◌≡◌, refl, sym, ap, ◌∙◌}
-use mathlib.Core.Bool.{Bool, true, false, not, ◌&&◌, cond}
+use mathlib.Core.Bool.{Bool, true, false, not, cond}
 use borrow.Author.Tests.{eqb-true, eqb-false, eq-eqb}
 use lib.Dec.{eqb}
+use Rattle.std.proofs.lemmas.Bool.{and_right as no_right}
 use Rattle.tracks.specs.Layout.{none}
 use Rattle.tracks.specs.Write.{packed}
 
@@ -113,13 +114,9 @@ unfolding none
 none_not test k zero h e = absurd (omega arith)
 none_not test k (suc n) h e =
     ⊎_elim
-    (λ (q : k ≡ n). no_right (none test n) (ap (λ (i : ℕ). not (test i)) (sym q) ∙ ap not e))
+    (λ (q : k ≡ n). no_right (none test n) _ (ap (λ (i : ℕ). not (test i)) (sym q) ∙ ap not e))
     (λ (l : k < n). rw (none_not test k n l e) refl)
     (eq-or-lt_of_le (le_of_suc-le-suc h))
-  where
-    no_right : (a : Bool) {b : Bool} → b ≡ false → a && b ≡ false
-    no_right true q = q
-    no_right false q = refl
 
 -- each test fails
 pub none_each : (test : ℕ → Bool) (n : ℕ) → none test n ≡ true → (i : ℕ) → i < n → test i ≡ false

@@ -5,7 +5,7 @@ use Prim.Native.Nat.{ℕ, zero, suc, ◌+◌, ◌*◌, ◌/◌, ◌%◌, ◌^◌
 use native.Mathlib.Omega.{arith}
 use native.Mathlib.Nat.{zero-mul, suc-mul, le_of_suc-le-suc, add_comm}
 use mathlib.Core.Path.{◌≡◌, refl, sym, ap, ◌∙◌, subst}
-use mathlib.Core.Bool.{Bool, true, false, not, ◌&&◌, cond}
+use mathlib.Core.Bool.{Bool, true, false, not, cond}
 use mathlib.Core.List.{List, [], ◌∷◌, ◌++◌, flat_map}
 use lib.Dec.{T, eqb, leb}
 use borrow.Author.Tests.{ltb-false}
@@ -17,6 +17,7 @@ use lib.Ieee.Bits.{of_bits-to_bits, of_bits-fits, to_bits-of_bits, to_bits-lt, n
 use lib.Ieee.Fits.{nan-fits}
 use Rattle.std.specs.Prelude.{MatchBool}
 use Rattle.std.specs.List.{AllWithin, HoldsAt}
+use Rattle.std.proofs.lemmas.Bool.{and_parts, and_right as no_right}
 use Rattle.kernel.specs.Number.{finite}
 use Rattle.tracks.specs.Layout.{finite_bits}
 use Rattle.tracks.specs.Read.{Track, track_of}
@@ -52,16 +53,12 @@ nan_bits x e = ap (to_bits binary64) (differs_from_itself x (rw e tt))
 pub patterns-part : (v : List Float) (i f : ℕ) → patterns (take f (drop i v)) ≡ take f (drop i (patterns v))
 patterns-part v i f = map-take (to_bits binary64) f (drop i v) ∙ ap (take f) (map-drop (to_bits binary64) i v)
 
-and_both : (a b : Bool) → a && b ≡ true → (a ≡ true) × (b ≡ true)
-and_both true b e = (refl, e)
-and_both false b e = let z : ◌≡◌ {A = ℕ} 0 1 = cc in absurd (omega arith)
-
 -- the bits of finite doubles come back
 pub patterns-doubles : (v : List ℕ) → all_finite v ≡ true → Words v → patterns (doubles v) ≡ v
 unfolding all_finite
 patterns-doubles [] e w = refl
 patterns-doubles (x ∷ v) e w =
-    let b = and_both (finite_bits x) (all_finite v) e in
+    let b = and_parts (finite_bits x) (all_finite v) e in
     let n : T (not (is_nan (of_bits binary64 x))) = subst (λ (c : Bool). T (not c)) (nan_bits_is binary64 x) (finite_no_nan x b.0) in
     rw (to_bits-of_bits binary64 x (w 0) n, patterns-doubles v b.1 (λ i. w (suc i))) refl
 
@@ -86,7 +83,7 @@ patterns_words (x ∷ v) h (suc i) = patterns_words v (λ j. h (suc j)) i
 pub all_append : (u v : List ℕ) → all_finite u ≡ true → all_finite v ≡ true → all_finite (u ++ v) ≡ true
 unfolding all_finite
 all_append [] v p q = q
-all_append (x ∷ u) v p q = let b = and_both (finite_bits x) (all_finite u) p in rw (b.0, all_append u v b.1 q) refl
+all_append (x ∷ u) v p q = let b = and_parts (finite_bits x) (all_finite u) p in rw (b.0, all_append u v b.1 q) refl
 
 pub all_more : (v : List ℕ) (x : ℕ) → all_finite v ≡ true → finite_bits x ≡ true → all_finite (v ++ (x ∷ [])) ≡ true
 unfolding all_finite
@@ -96,11 +93,7 @@ pub all_not : (v : List ℕ) (i : ℕ) → i < length v → finite_bits (get_or 
 unfolding all_finite
 all_not [] i h e = absurd (omega arith)
 all_not (y ∷ v) zero h e = rw e refl
-all_not (y ∷ v) (suc i) h e = later (finite_bits y) (all_not v i (le_of_suc-le-suc h) e)
-  where
-    later : (b : Bool) {d : Bool} → d ≡ false → b && d ≡ false
-    later true p = p
-    later false p = refl
+all_not (y ∷ v) (suc i) h e = no_right (finite_bits y) _ (all_not v i (le_of_suc-le-suc h) e)
 
 -- a value that is not finite answers for all
 pub finite_never : (v : List Float) (i : ℕ) → i < length v → finite_bits (to_bits binary64 (get_or v i nan)) ≡ false → all_finite (patterns v) ≡ false
@@ -165,13 +158,13 @@ pub all_take : (n : ℕ) (v : List ℕ) → all_finite v ≡ true → all_finite
 unfolding all_finite
 all_take zero v p = refl
 all_take (suc n) [] p = refl
-all_take (suc n) (x ∷ v) p = let b = and_both (finite_bits x) (all_finite v) p in rw (b.0, all_take n v b.1) refl
+all_take (suc n) (x ∷ v) p = let b = and_parts (finite_bits x) (all_finite v) p in rw (b.0, all_take n v b.1) refl
 
 pub all_drop : (n : ℕ) (v : List ℕ) → all_finite v ≡ true → all_finite (drop n v) ≡ true
 unfolding all_finite
 all_drop zero v p = p
 all_drop (suc n) [] p = refl
-all_drop (suc n) (x ∷ v) p = all_drop n v (and_both (finite_bits x) (all_finite v) p).1
+all_drop (suc n) (x ∷ v) p = all_drop n v (and_parts (finite_bits x) (all_finite v) p).1
 
 pub words_append : (u v : List ℕ) → Words u → Words v → Words (u ++ v)
 words_append [] v p q i = q i

@@ -4,13 +4,14 @@ use Prim.Native.Nat.{ℕ, ◌+◌, ◌*◌, ◌%◌, ◌^◌, ◌<◌, ◌≤◌
 use native.Mathlib.Omega.{arith}
 use mathlib.Core.Path.{◌≡◌, refl, sym, ap, ◌∙◌, subst}
 use mathlib.Core.Logic.{◌⊎◌, inl, inr, ⊎_elim}
-use mathlib.Core.Bool.{Bool, true, false, not, ◌&&◌}
+use mathlib.Core.Bool.{Bool, true, false, not}
 use mathlib.Core.List.{List}
 use lib.Dec.{T, leb, eqb}
 use lib.Ieee.{binary64, nan_bits}
 use lib.Ieee.Bits.{nan_bits_above}
 use lib.ListN.{length}
 use borrow.Author.Tests.{leb-true, eqb-true, not-true, ltb-true, le-ltb, le-leb, lt-leb, eq-eqb, ne_eqb}
+use Rattle.std.proofs.lemmas.Bool.{and_parts}
 use Rattle.kernel.specs.Answer.{Outcome, and_then}
 use Rattle.tracks.specs.Layout.{fields, map_bits, stands, spare, finite_bits, count_met, dimension_met}
 use Rattle.kernel.specs.Bytes.{word}
@@ -135,11 +136,7 @@ tracked_length l = items-length (λ _. track l (dimension l)) 2 (count l)
 
 -- a dimension that is accepted is at most 9
 pub dimension-small : (d : ℕ) → dimension_met d ≡ true → d ≤ 9
-dimension-small d h = leb-true d 9 (and_right (leb 1 d) (leb d 9) h)
-  where
-    and_right : (a b : Bool) → a && b ≡ true → b ≡ true
-    and_right true b e = e
-    and_right false b e = let z : ◌≡◌ {A = ℕ} 0 1 = cc in absurd (omega arith)
+dimension-small d h = leb-true d 9 (and_parts (leb 1 d) (leb d 9) h).1
 
 -- a count that is accepted is at most 32
 pub few_tracks : (n : ℕ) → count_met n ≡ true → n ≤ 32
