@@ -1,22 +1,19 @@
 // The rows by the partners of the three pairings, group by group: base tracks, then ours without base, then the remaining theirs. Their
 // verdicts are decided when all of them stand.
-ghost use Rattle.std.specs.Prelude.{◌≡◌, ◌+◌, ◌*◌, ◌≤◌, length};
+ghost use Rattle.std.specs.Prelude.{◌≡◌, ◌+◌, ◌*◌, ◌≤◌, [], ◌∷◌, length};
 ghost use Rattle.kernel.specs.Lists.{over};
-ghost use Rattle.merge.specs.Private.{undecided, undecided_row, rows_by, rows_bytes, base_group, ours_group, theirs_group, only_if, Appended, RowsRoom, AllRowsRoom};
+ghost use Rattle.merge.specs.Private.{undecided, undecided_row, rows_by, rows_bytes, base_group, ours_group, theirs_group, Appended, RowsRoom, AllRowsRoom};
 
 use crate::NO_TRACK;
 use crate::pairings::Pairings;
 use crate::questions::Sizes;
 use crate::verdict::Verdict;
 
-// Writes row r of three indices, its verdict not yet decided, where it is wanted, and gives the row after it.
-fn put_row(wanted: bool, i: u8, j: u8, k: u8, r: usize, rows: &mut [u8]) -> usize
+// Writes row r of three indices, its verdict not yet decided, and gives the row after it.
+fn put_row(i: u8, j: u8, k: u8, r: usize, rows: &mut [u8]) -> usize
     requires { (r ≤ 96) × (4 * r + 4 ≤ length rows.old) }
-    ensures { Appended (only_if wanted (undecided_row i j k)) r rows.old result rows.new }
+    ensures { Appended (undecided_row i j k ∷ []) r rows.old result rows.new }
 {
-    if !wanted {
-        return r;
-    }
     rows[4 * r..4 * r + 4].copy_from_slice(&[i, j, k, u8::from(Verdict::Keep)]);
     r + 1
 }
@@ -29,7 +26,7 @@ fn base_rows(ours_of: [u8; 32], theirs_of: [u8; 32], m: usize, rows: &mut [u8])
     // The index stands in the row, is the row's place and is read at in two tables: by `zip`, `take` and `enumerate`
     // on the tables it is no shorter, and the proof must tell what they yield.
     for i in 0..m {
-        put_row(true, i as u8, ours_of[i], theirs_of[i], i, rows);
+        put_row(i as u8, ours_of[i], theirs_of[i], i, rows);
     }
 }
 
@@ -42,14 +39,9 @@ fn ours_rows(base_of: [u8; 32], theirs_of: [u8; 32], n: usize, at: usize, rows: 
     let mut r = at;
     // As in `base_rows`; and each row goes after those that were wanted before.
     for j in 0..n {
-        r = put_row(
-            base_of[j] == NO_TRACK,
-            NO_TRACK,
-            j as u8,
-            theirs_of[j],
-            r,
-            rows,
-        );
+        if base_of[j] == NO_TRACK {
+            r = put_row(NO_TRACK, j as u8, theirs_of[j], r, rows);
+        }
     }
     r
 }
@@ -63,14 +55,9 @@ fn theirs_rows(base_of: [u8; 32], ours_of: [u8; 32], l: usize, at: usize, rows: 
     let mut r = at;
     // As in `ours_rows`.
     for k in 0..l {
-        r = put_row(
-            base_of[k] == NO_TRACK && ours_of[k] == NO_TRACK,
-            NO_TRACK,
-            NO_TRACK,
-            k as u8,
-            r,
-            rows,
-        );
+        if base_of[k] == NO_TRACK && ours_of[k] == NO_TRACK {
+            r = put_row(NO_TRACK, NO_TRACK, k as u8, r, rows);
+        }
     }
     r
 }

@@ -1,6 +1,6 @@
 -- Rows that are written one after the other: `appended_more` joins two runs of rows, `appended_length` says that the buffer keeps its length. `Growing` is what a loop that writes them
--- has done before turn k: `no_turn` begins it, `tabulated_turn` and `selected_turn` are its turns, `every_turn` ends it. `verdict_put`: a verdict beside its row's indices.
--- `verdict_there`: a verdict looks only at records that are there.
+-- has done before turn k: `no_turn` begins it, `tabulated_turn` is a turn, and `selected_put` and `selected_passed` are one where a row is wanted and where it is not; `every_turn` ends
+-- it. `verdict_put`: a verdict beside its row's indices. `verdict_there`: a verdict looks only at records that are there.
 use Prim.Native.Nat.{ℕ, suc, ◌+◌, ◌*◌, ◌<◌, ◌≤◌}
 use native.Mathlib.Nat.{add-zero, le_antisymm}
 use native.Mathlib.Numerals.{add-one}
@@ -44,17 +44,10 @@ appended_none at old = record { next = sym (add-zero at); bytes = sym (over_none
 pub appended_same : {rows others : List Row} {at r : ℕ} {old new : List ℕ} → rows ≡ others → Appended rows at old r new → Appended others at old r new
 appended_same {rows} {others} {at} {r} {old} {new} e a = subst (λ (g : List Row). Appended g at old r new) e a
 
--- a row that is not wanted, and one that is
-pub appended_not : (wanted : Bool) (w : Row) (at : ℕ) (old : List ℕ) → wanted ≡ false → Appended (only_if wanted w) at old at old
-appended_not wanted w at old e = subst (λ (x : Bool). Appended (only_if x w) at old at old) (sym e) (appended_none at old)
-
-pub appended_one : (wanted : Bool) (w : Row) {at r : ℕ} {old new : List ℕ} → wanted ≡ true → r ≡ at + 1 → new ≡ over old (4 * at) (row_bytes w) → Appended (only_if wanted w) at old r new
+-- one row
+pub appended_one : (w : Row) {at r : ℕ} {old new : List ℕ} → r ≡ at + 1 → new ≡ over old (4 * at) (row_bytes w) → Appended (w ∷ []) at old r new
 unfolding flat_map
-appended_one wanted w {at} {r} {old} {new} e p q = subst (λ (x : Bool). Appended (only_if x w) at old r new) (sym e) (record { next = p; bytes = q })
-
--- the same test by another name
-pub appended_if : (a b : Bool) (w : Row) {at r : ℕ} {old new : List ℕ} → a ≡ b → Appended (only_if a w) at old r new → Appended (only_if b w) at old r new
-appended_if a b w {at} {r} {old} {new} e p = subst (λ (x : Bool). Appended (only_if x w) at old r new) e p
+appended_one w p q = record { next = p; bytes = q }
 
 -- a verdict that is put beside its row's indices
 next_element : (l : List ℕ) (a b : ℕ) → b ≡ suc a → a < length l → drop a l ≡ get_or l a 0 ∷ drop b l
@@ -118,11 +111,20 @@ module _ (test : ℕ → Bool) (f : ℕ → Row) where
   pub selected_room : {n at k r : ℕ} {old new : List ℕ} → Growing (λ i. selected i test f) n at old k r new → k < n → RowsRoom n at old → (r ≤ 96) × (4 * r + 4 ≤ length new)
   selected_room {k = k} w h room = let few = selected-few k test f in (omega (arith, w.rows.next), omega (arith, w.rows.next))
 
-  pub selected_turn : {n at k r x : ℕ} {old new newer : List ℕ} → Growing (λ i. selected i test f) n at old k r new → k < n → RowsRoom n at old → Appended (only_if (test k) (f k)) r new x newer
+  selected_turn : {n at k r x : ℕ} {old new newer : List ℕ} → Growing (λ i. selected i test f) n at old k r new → k < n → RowsRoom n at old → Appended (only_if (test k) (f k)) r new x newer
       → Growing (λ i. selected i test f) n at old (k + 1) x newer
   selected_turn {k = k} w h room b =
       let next = appended_same (selected_more k) (appended_more (selected k test f) (only_if (test k) (f k)) w.rows (omega (arith, selected-few k test f)) b) in
       record { turns = omega arith; long = selected-length (k + 1) next (omega arith); rows = next }
+
+  -- a turn whose row is wanted, and one whose row is not
+  pub selected_put : {n at k r x : ℕ} {old new newer : List ℕ} → Growing (λ i. selected i test f) n at old k r new → k < n → RowsRoom n at old → test k ≡ true
+      → Appended (f k ∷ []) r new x newer → Growing (λ i. selected i test f) n at old (k + 1) x newer
+  selected_put {k = k} {r = r} {x = x} {new = new} {newer = newer} w h room e b = selected_turn w h room (subst (λ (t : Bool). Appended (only_if t (f k)) r new x newer) (sym e) b)
+
+  pub selected_passed : {n at k r : ℕ} {old new : List ℕ} → Growing (λ i. selected i test f) n at old k r new → k < n → RowsRoom n at old → test k ≡ false
+      → Growing (λ i. selected i test f) n at old (k + 1) r new
+  selected_passed {k = k} {r = r} {new = new} w h room e = selected_turn w h room (subst (λ (t : Bool). Appended (only_if t (f k)) r new r new) (sym e) (appended_none r new))
 
 pub verdict_there : (b o t : Bool) (e : Equal)
     → verdict b o t (record { ours_base = o && (b && e.ours_base); theirs_base = t && (b && e.theirs_base); ours_theirs = o && (t && e.ours_theirs) }) ≡ verdict b o t e

@@ -73,7 +73,7 @@ loop-i-preserved c =
     let left = ap (λ (z : ℕ × List Float). z.1) p in
     let long = sym (ap length left) ∙ c.verdict_after-v.auto.base ∙ row-lent w.values h in
     record {
-      rows = tabulated_turn passed w.rows h room (appended_one true (passed i) refl refl put);
+      rows = tabulated_turn passed w.rows h room (appended_one (passed i) refl put);
       values = row_written w.values h (left ∙ own_entries _ _ long);
     }
 

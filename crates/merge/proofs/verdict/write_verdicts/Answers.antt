@@ -1,5 +1,5 @@
 -- In each turn one more row has its verdict; its indices stand as they stood.
-use Rattle.std.proofs.Common.{◌+◌, ◌*◌, true, refl, arith}
+use Rattle.std.proofs.Common.{◌+◌, ◌*◌, refl, arith}
 use mathlib.Core.Path.{◌∙◌, sym, subst}
 use Rattle.kernel.specs.Lists.{tabulate}
 use Rattle.merge.specs.Private.{Index, verdict_held, decided_row}
@@ -35,4 +35,4 @@ loop-r-preserved c =
     let third = still (4 * i.r + 2) (omega arith) in
     let decided = c.from.ensures ∙ c.verdict_on.ensures ∙ (λ z. verdict_held lists (first z) (second z) (third z)) in
     let put = verdict_put i.rows (4 * i.r) first second third decided (omega (arith, i.invariant.long, c.requires.room)) in
-    tabulated_turn (decided_row lists _) i.invariant (omega arith) c.requires.room (appended_one true (decided_row lists _ i.r) refl refl put)
+    tabulated_turn (decided_row lists _) i.invariant (omega arith) c.requires.room (appended_one (decided_row lists _ i.r) refl put)
