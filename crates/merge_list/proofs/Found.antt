@@ -5,10 +5,11 @@ use Prim.Native.Nat.{ℕ, ◌+◌, ◌*◌, ◌<◌, ◌≤◌}
 use native.Mathlib.Omega.{arith}
 use mathlib.Core.Path.{◌≡◌, refl, sym, ap, subst, subst₂, ◌∙◌}
 use mathlib.Core.Logic.{inl, inr}
-use mathlib.Core.Bool.{Bool, true, false, not, ◌&&◌, cond}
+use mathlib.Core.Bool.{Bool, true, false, not, cond}
 use mathlib.Core.List.{List, ◌++◌, flat_map}
 use lib.Dec.{eqb, leb}
 use Rattle.std.specs.Prelude.{min}
+use Rattle.std.proofs.lemmas.Bool.{and_parts}
 use lib.Ieee.{Float}
 use lib.ListN.{length, get_or, take, length-append, get_or-append}
 use lib.Seq.{take-append-le}
@@ -113,12 +114,8 @@ one_dimension_lem : (lists : ThreeLists) → one_dimension lists ≡ true → (l
 one_dimension_lem lists e =
     let x = eqb lists.base.dimension lists.ours.dimension in
     let y = eqb lists.base.dimension lists.theirs.dimension in
-    let h = both x y e in
+    let h = and_parts x y e in
     (eqb-true lists.base.dimension lists.ours.dimension h.0, eqb-true lists.base.dimension lists.theirs.dimension h.1)
-  where
-    both : (x y : Bool) → x && y ≡ true → (x ≡ true) × (y ≡ true)
-    both true y e = (refl, e)
-    both false y e = never e
 
 module _ {base ours theirs : List ℕ} {floor gate : Float} {old new : List ℕ} {counts : Counts} (rest : List ℕ)
     (e : ◌≡◌ {A = Outcome Counts × List ℕ} (Ok counts, new) (after_merge (merging base ours theirs floor gate (length old)) old))
