@@ -29,7 +29,7 @@ impl Call {
         Call::Constant,
     ];
 
-    // One match, as in a table of functions those of one number would have to take two, as `max` does.
+    // A match, since in a table of functions those of one number would have to take two, as `max` does.
     fn answer(self, x: f64, y: f64) -> f64 {
         match self {
             Call::Sqrt => number::sqrt(x),
