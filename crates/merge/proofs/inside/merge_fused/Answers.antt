@@ -123,7 +123,8 @@ returns-clause-rows_after c =
     let rows = all_passed a x.floor x.gate c.fields.ensures.0 x.rows.now (placed a x.floor x.gate _ p x.rows.now w.rows_after) c.fuse_rows.ensures.rows_after in
     let counts = counted a x.floor x.gate _ p w.value in
     lists-merged x.base.now x.ours.now x.theirs.now x.floor x.gate x.rows.now (all_accepted x.base.now x.ours.now x.theirs.now a)
-    (asked_rows (held_three x.base.now x.ours.now x.theirs.now) x.floor x.gate x.rows.now (sym c.is_floor_and_gate.ensures ∙ c.if-not-is_floor_and_gate.false) (omega (arith, number a, c.if-rows-sizes.false)) counts rows)
+    (asked_rows (held_three x.base.now x.ours.now x.theirs.now) x.floor x.gate x.rows.now (sym c.is_floor_and_gate.ensures ∙ c.if-not-is_floor_and_gate.false)
+    (omega (arith, number a, c.if-rows-sizes.false)) counts rows)
 
 pub returns-clause-fused_stand : goal.returns-clause-fused_stand
 unfolding merged_rows
