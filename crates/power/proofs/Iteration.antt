@@ -68,9 +68,9 @@ pub record Before (a : List Float) (n max : ℕ) (tol : Float) (v : List Float) 
   pub product : w ≡ times a u n n
 
 module _ {a : List Float} {n max : ℕ} {tol : Float} {v : List Float} where
-  pub begun : {w : List Float} → length v ≡ n → length w ≡ n → w ≡ times a v n n → Before a n max tol v 0 v w
+  pub begun : {w : List Float} → length v ≡ n → w ≡ times a v n n → Before a n max tol v 0 v w
   unfolding after_rounds
-  begun l m p = record { at = stands-first refl; vector = l; room = m; product = p }
+  begun l p = record { at = stands-first refl; vector = l; room = length-times a n v p; product = p }
 
   module _ {k : ℕ} {u w : List Float} (b : Before a n max tol v k u w) where
     -- what the test of the norm says

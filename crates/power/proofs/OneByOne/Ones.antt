@@ -92,7 +92,7 @@ even_one = refl
 pub vanished_ratio : (g : List Float) → vanishes g 1 (one ∷ []) ≡ true → ratio_of g 1 (dominant g 1 max_rounds rel_tol) ≡ infinity
 unfolding dominant
 vanished_ratio g h =
-    let start : power.Before g 1 max_rounds rel_tol (one ∷ []) 0 (one ∷ []) (times g (one ∷ []) 1 1) = power.begun refl refl refl in
+    let start : power.Before g 1 max_rounds rel_tol (one ∷ []) 0 (one ∷ []) (times g (one ∷ []) 1 1) = power.begun refl refl in
     ap (λ (v : List Float). ratio_of g 1 (iterated g 1 max_rounds rel_tol v)) even_one
     ∙ ap (ratio_of g 1) (sym (power.ends_vanished start (omega arith) h))
     ∙ zero-ratio g (one ∷ [])

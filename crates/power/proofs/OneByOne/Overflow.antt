@@ -98,7 +98,7 @@ module _ (s : Float) (f : T (fits binary64 s)) (h : T (positive s)) (over : mul 
   pub over-ratio : ratio_of g 1 (dominant g 1 max_rounds rel_tol) ≡ infinity
   unfolding dominant
   over-ratio =
-      let start : power.Before g 1 max_rounds rel_tol first 0 first (times g first 1 1) = power.begun refl refl refl in
+      let start : power.Before g 1 max_rounds rel_tol first 0 first (times g first 1 1) = power.begun refl refl in
       let after : power.Before g 1 max_rounds rel_tol first 1 second (times g second 1 1) =
       power.goes_on start (omega arith) stands (record { converged = refl; vector = sym stepped; product = refl }) open_round
       in

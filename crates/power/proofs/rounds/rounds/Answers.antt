@@ -5,7 +5,7 @@ use Rattle.power.proofs.Iteration.{begun, vanish_test, goes_on, ends_vanished, e
 use Rattle.power.proofs.rounds.rounds.Goals as goal
 
 pub loop-k-init : goal.loop-k-init
-loop-k-init c = let pre = c.requires in begun pre.vector pre.room pre.product
+loop-k-init c = let pre = c.requires in begun pre.vector pre.product
 
 pub returns-then-size : goal.returns-then-size
 returns-then-size c =
