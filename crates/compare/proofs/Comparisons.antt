@@ -1,8 +1,6 @@
 -- `two-tracks` says what questions 1 and 2 tell of two tracks, `comparing_met` that where 18 is met too the call answers their comparison, and `tracks-compared` the same for a caller
 -- that knows the lengths. `with_report`: what is made of a repair's answer. Dimension 1: `single-tracks`, `single-joint`.
-use Prim.Native.Nat.{ℕ, ◌*◌, ◌≤◌}
-use native.Mathlib.Nat.{mul-le-mul}
-use native.Mathlib.Omega.{arith}
+use Prim.Native.Nat.{ℕ, ◌*◌}
 use mathlib.Core.Bool.{true, ◌&&◌}
 use mathlib.Core.List.{List, [], ◌∷◌}
 use mathlib.Core.Path.{◌≡◌, sym, ap}
@@ -83,8 +81,3 @@ pub single-joint : (p q floor : Float)
     (after_repair (joint_repair (p ∷ []) (q ∷ []) 1 floor) (single_rebuilt floor (add p q) ∷ []))
 unfolding joint_repair joint_covariance matrix tabulate
 single-joint p q floor = single-left (add p q) floor
-
--- ---- room
-
-pub small_square : (n : ℕ) → n ≤ 4 → n * n ≤ 16
-small_square n h = omega (arith, mul-le-mul h h)

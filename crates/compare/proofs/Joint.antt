@@ -15,7 +15,7 @@ use Rattle.compare.specs.Distance.{joint_covariance, joint_repair}
 
 pub joint_sums : (p q : List Float) (n : ℕ) → tabulate (n * n) (λ k. add (nth p k) (nth q k)) ≡ joint_covariance p q n
 unfolding joint_covariance
-joint_sums p q n = matrix_by_entries n n _ _ (length-tabulate (n * n) _) (λ i j h k. nth-tabulate (n * n) _ _ (cell n n h k))
+joint_sums p q n = matrix_by_entries n n _ _ (length-tabulate (n * n) _) (λ i j h k. nth-tabulate (n * n) _ _ (cell h k))
 
 pub joint-symmetric : (p q : List Float) (n : ℕ) → joint_covariance p q n ≡ joint_covariance q p n
 unfolding joint_covariance

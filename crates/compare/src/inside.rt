@@ -114,7 +114,7 @@ fn single(mu: f64, x: f64, p: f64, q: f64, terms: FloorAndGate) -> ComparisonRep
 }
 
 // The same with the room that the dimension needs.
-#[tactic(auto, using(dense::proofs::Tests::square_area, crate::proofs::Comparisons::small_square))]
+#[tactic(auto, using(dense::proofs::Tests::square_area, dense::proofs::Matrices::small_size))]
 pub fn compare_tracks(
     mu: &[f64],
     x: &[f64],

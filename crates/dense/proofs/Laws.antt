@@ -1,9 +1,9 @@
--- Laws of sums, of vectors and matrices made by a rule, and of slices that are filled in order; all over the order. `cell`: where a cell
+-- Laws of sums, of vectors and matrices made by a rule, and of slices that are filled in order; all over the order. `cell` and `inside`: where a cell
 -- lies. `sum_more`: one term more; `sum_ext`: equal terms. `at-matrix` and `matrix_by_entries`: a matrix and its entries. `filled_none`, `filled_more` and
 -- `filled_all`, and `rows_none`, `rows_more` and `rows_all`: a slice that is filled entry by entry and row by row.
 use Prim.Native.Nat.{ℕ, zero, suc, ◌+◌, ◌*◌, ◌-◌, ◌/◌, ◌%◌, ◌<◌, ◌≤◌}
 use native.Mathlib.Omega.{arith}
-use native.Mathlib.Nat.{mul-le-mul_right, suc-mul, zero-mul, le_refl, le_antisymm, eq-or-lt_of_le, le_of_suc-le-suc, ne_of_lt}
+use native.Mathlib.Nat.{suc-mul, zero-mul, le_refl, le_antisymm, eq-or-lt_of_le, le_of_suc-le-suc, ne_of_lt}
 use native.Mathlib.Nat.{add-sub_cancel_left, mul-zero, div-lt_iff_lt-mul, zero-lt-suc, mod-lt, div-add-mod'}
 use native.Mathlib.Numerals.{add-one}
 use mathlib.Core.Path.{◌≡◌, refl, sym, ap, ◌∙◌, subst}
@@ -13,6 +13,7 @@ use lib.ListN.{length, set, take, drop, length-append, length-set, length-drop, 
 use lib.Seq.{get_or-set_same, get_or-set_other, ext_get_or, get_or-append-add, get_or-take, get_or-drop, length-take-le, take_all, take_at}
 use borrow.Rule.Slice.PartMut.{mid_of, post_of, put_mid, same_len_mid}
 use lib.Ieee.{Float, nan}
+pub use lib.Arith.{digits_lt as cell}
 use Rattle.kernel.specs.Number.{add, mul}
 use Rattle.kernel.specs.Constants.{nought}
 use Rattle.dense.specs.Matrix.{sum_from, nth, at, row_of, matrix}
@@ -22,13 +23,9 @@ use Rattle.dense.proofs.Filled.{Filled, FilledRows}
 
 -- ---- places
 
--- a cell of the first m rows lies before the end of row m - 1
-pub cell : (m n : ℕ) {i j : ℕ} → i < m → j < n → i * n + j < m * n
-cell m n {i} {j} hi hj = omega (arith, mul-le-mul_right n hi, suc-mul i n)
-
 -- a cell of an n by n matrix lies in its slice, of so many entries
 pub inside : (n : ℕ) {i j size : ℕ} → size ≡ n * n → i < n → j < n → i * n + j < size
-inside n e h k = omega (arith, cell n n h k)
+inside n e h k = omega (arith, cell h k)
 
 -- ---- sums
 
@@ -71,7 +68,7 @@ at-matrix (suc m) n f i j h k =
     ∙ get_or-append-add (matrix m n f) (tabulate n (f m)) j nan
     ∙ nth-tabulate n (f m) j k
     ∙ ap (λ (x : ℕ). f x j) (sym e))
-    (λ (l : i < m). get_or-append (matrix m n f) (tabulate n (f m)) nan (i * n + j) (omega (arith, cell m n {i = i} {j = j} l k, length-matrix m n f)) ∙ at-matrix m n f i j l k)
+    (λ (l : i < m). get_or-append (matrix m n f) (tabulate n (f m)) nan (i * n + j) (omega (arith, cell l k, length-matrix m n f)) ∙ at-matrix m n f i j l k)
     (eq-or-lt_of_le (le_of_suc-le-suc h))
   where
     place : i ≡ m → i * n + j ≡ length (matrix m n f) + j

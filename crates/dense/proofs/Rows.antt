@@ -32,7 +32,7 @@ pub rows_there : {f : ℕ → ℕ → Float} {m n i : ℕ} {l : List Float} → 
 rows_there {f} {m} {n} {i} {l} e h k w = record { turns = h; room = e; rows = record { size = refl; done = done }; rest = refl }
   where
     done : take (i * n) l ≡ matrix i n f
-    done = matrix_by_entries i n f (take (i * n) l) (length-take-le (i * n) l k) (λ a j p q. get_or-take (i * n) l (a * n + j) nan (cell i n p q) ∙ w a j p q)
+    done = matrix_by_entries i n f (take (i * n) l) (length-take-le (i * n) l k) (λ a j p q. get_or-take (i * n) l (a * n + j) nan (cell p q) ∙ w a j p q)
 
 -- there is room for row i
 abbrev pub RowFits : {f : ℕ → ℕ → Float} {m n : ℕ} {old : List Float} {i : ℕ} {l : List Float} → RowByRow f m n old i l → Type 0

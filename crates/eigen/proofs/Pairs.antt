@@ -1,7 +1,5 @@
 -- What a swept state answers: `pairs-refused` and `pairs_made`, from what the code's functions give; from the start, `swept-from` and `answered-by`.
-use Prim.Native.Nat.{ℕ, ◌*◌, ◌≤◌}
-use native.Mathlib.Omega.{arith}
-use native.Mathlib.Nat.{mul-le-mul_right}
+use Prim.Native.Nat.{ℕ}
 use native.Mathlib.Decide.{ℕ_discrete}
 use mathlib.Core.Bool.{Bool, true, false}
 use mathlib.Core.List.{List}
@@ -55,14 +53,6 @@ module _ (n : ℕ) (m v values vectors : List Float) where
       rw (← p, q', ← o', f', g ∙ columns l (ordering e n o').below)
 
 -- ---- from the start
-
--- a matrix of an order up to 4 has at most 16 entries
-pub small_size : (n : ℕ) → n ≤ 4 → n * n ≤ 16
-small_size n h = omega (arith, mul-le-mul_right n h)
-
--- and one of an order up to 16 at most 256
-pub full_size : (n : ℕ) → n ≤ 16 → n * n ≤ 256
-full_size n h = omega (arith, mul-le-mul_right n h)
 
 -- the unit vectors are the same as rows and as columns
 unit-rows : (n : ℕ) → matrix n n (λ i j. at (identity n) n j i) ≡ identity n

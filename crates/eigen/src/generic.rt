@@ -71,7 +71,7 @@ fn eigenpairs_within<const SIZE: usize>(
 
 // The eigenpairs of a, n by n, from question 4 on, with the room that the order needs.
 // The parameters of the call, in its order; with length values.old for n the clauses are 52 characters longer.
-#[tactic(auto, using(crate::proofs::Pairs::small_size, crate::proofs::Pairs::full_size))]
+#[tactic(auto, using(dense::proofs::Matrices::small_size, dense::proofs::Matrices::full_size))]
 fn eigenpairs(a: &[f64], n: usize, values: &mut [f64], vectors: &mut [f64]) -> Result<(), Question>
     requires { (n ≤ 16) × Lent n a.now values.old vectors.old }
     ensures { (result, values.new, vectors.new) ≡ after_pairs (eigenpairs a.now n) values.old vectors.old }

@@ -74,7 +74,7 @@ fused-finite d floor base ours theirs {v} h k l =
     let e = t.of in
     let both = and_parts (finite_entries e.state d) (finite_entries e.covariance (d * d)) t.finite in
     subst (λ (w : List Float). finite (nth w k) ≡ true) t.written
-    (fields_every (λ y. finite y ≡ true) d e (state-long d e t.made) (λ q b. finite-entry e.state d q both.0 b) (λ i j a b. finite-entry e.covariance (d * d) (i * d + j) both.1 (cell d d a b)) k
+    (fields_every (λ y. finite y ≡ true) d e (state-long d e t.made) (λ q b. finite-entry e.state d q both.0 b) (λ i j a b. finite-entry e.covariance (d * d) (i * d + j) both.1 (cell a b)) k
     (omega (arith, fields-long d e (state-long d e t.made))))
 
 -- ---- every field is a double

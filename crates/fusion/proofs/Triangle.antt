@@ -9,8 +9,9 @@ use mathlib.Core.List.{List, ◌++◌, append_assoc, append-nil}
 use mathlib.Core.Path.{◌≡◌, refl, sym, ap, ◌∙◌}
 use lib.Ieee.{Float}
 use lib.ListN.{length, take, drop, length-append, length-drop}
-use lib.Seq.{length-take-le, take_at, take_all}
-use borrow.Rule.Slice.PartMut.{mid_of, post_of, put_mid, same_len_mid, mid_len}
+use lib.Seq.{length-take-le, take_all}
+use borrow.Rule.Slice.PartMut.{mid_of, put_mid, same_len_mid, mid_len}
+use Rattle.std.proofs.lemmas.Slice.{take-put_mid}
 use Rattle.kernel.specs.Lists.{tabulate}
 use Rattle.kernel.proofs.Lists.{length-tabulate, row_within}
 use Rattle.dense.specs.Matrix.{at}
@@ -65,12 +66,6 @@ triangle_row : (d : ℕ) (p : List Float) (i : ℕ) → length p ≡ d * d → i
 triangle_row d p i e h =
     by_entries (i + 1) (at p d i) _ (length-take-le (i + 1) (drop (i * d) p) (omega (arith, length-drop (i * d) p, row_within d d h))) (λ q k. nth-part p (i * d) (i + 1) q k)
 
--- what is written where the front of a slice ends joins it
-front-joined : (a e : ℕ) (out y : List Float) → a ≤ e → e ≤ length out → length y ≡ e - a → take e (put_mid a (e - a) out y) ≡ take a out ++ y
-front-joined a e out y h k l =
-    ap (λ (z : List Float). take e z) (sym (append_assoc (take a out) y (post_of a (e - a) out)))
-    ∙ take_at (take a out ++ y) (post_of a (e - a) out) e (omega (arith, length-append (take a out) y, length-take-le a out (omega arith)))
-
 module _ {x p : List Float} {d i a : ℕ} {out : List Float} (w : RowsBefore x p d i a out) where
   pub row_fits : i < d → a + i + 1 ≤ length out
   unfolding fields
@@ -93,7 +88,7 @@ module _ {x p : List Float} {d i a : ℕ} {out : List Float} (w : RowsBefore x p
 
       done : take (a + i + 1) (put_mid a (a + i + 1 - a) out y) ≡ x ++ lower_rows d p (i + 1)
       done =
-          front-joined a (a + i + 1) out y (omega arith) (row_fits h) count
+          take-put_mid a (a + i + 1 - a) out y (a + i + 1) (omega (arith, count)) (omega (arith, row_fits h))
           ∙ rw (w.done, row, rows_more d p i) (append_assoc x (lower_rows d p i) (tabulate (i + 1) (at p d i)))
 
   pub every_row : d ≤ i → out ≡ fields_of d (estimate x p)

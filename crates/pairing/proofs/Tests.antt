@@ -4,26 +4,17 @@ use native.Mathlib.Omega.{arith}
 use native.Mathlib.Nat.{eq-or-lt_of_le, le_of_suc-le-suc}
 use mathlib.Core.Path.{◌≡◌, refl, subst}
 use mathlib.Core.Logic.{◌⊎◌, inl, inr, ⊎_elim}
-use mathlib.Core.Bool.{Bool, true, false, not, ◌&&◌, ◌||◌}
+use mathlib.Core.Bool.{Bool, true, false, not, ◌||◌}
 use lib.Dec.{T, T_not}
+pub use lib.Ieee.Fits.{and_i as both, and_l as left, and_r as right}
+pub use lib.Ieee.Bits.{is_true, is_false}
+pub use Rattle.std.proofs.Math.Facts.{or_yes as or_cases}
 use Rattle.pairing.specs.Pairing.{some}
 
 -- a test passes or it fails
 pub either : (b : Bool) → T b ⊎ T (not b)
 either true = inl tt
 either false = inr tt
-
-pub both : (a b : Bool) → T a → T b → T (a && b)
-both true b s t = t
-both false b s t = s
-
-pub left : (a b : Bool) → T (a && b) → T a
-left true b t = tt
-left false b t = t
-
-pub right : (a b : Bool) → T (a && b) → T b
-right true b t = t
-right false b t = absurd t
 
 pub or_left : (a b : Bool) → T a → T (a || b)
 or_left true b t = tt
@@ -33,24 +24,12 @@ pub or_right : (a b : Bool) → T b → T (a || b)
 or_right true b t = tt
 or_right false b t = t
 
-pub or_cases : (a b : Bool) → T (a || b) → T a ⊎ T b
-or_cases true b t = inl tt
-or_cases false b t = inr t
-
 -- two tests that pass alike are the same
 pub alike : (a b : Bool) → (T a → T b) → (T b → T a) → a ≡ b
 alike true true f g = refl
 alike true false f g = absurd (f tt)
 alike false true f g = absurd (g tt)
 alike false false f g = refl
-
-pub is_true : (b : Bool) → T b → b ≡ true
-is_true true t = refl
-is_true false t = absurd t
-
-pub is_false : (b : Bool) → T (not b) → b ≡ false
-is_false true t = absurd t
-is_false false t = refl
 
 pub some_at : (n : ℕ) (test : ℕ → Bool) (k : ℕ) → k < n → T (test k) → T (some n test)
 unfolding some

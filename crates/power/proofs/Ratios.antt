@@ -3,12 +3,13 @@
 -- `ratio_unstarted` and `ratio_started`: an eigenvalue that is too low, and the search for a start. `conditioned`: the condition number.
 use Prim.Native.Nat.{ℕ, ◌+◌, ◌<◌, ◌≤◌}
 use native.Mathlib.Numerals.{add-one}
-use mathlib.Core.Bool.{Bool, true, false, cond}
+use mathlib.Core.Bool.{true, false}
 use mathlib.Core.List.{List}
 use mathlib.Core.Path.{◌≡◌, refl, sym, ap, ◌∙◌}
 use lib.Dec.{ltb}
 use lib.Ieee.{Float, lt, le}
 use lib.ListN.{length}
+use Rattle.std.proofs.lemmas.Bool.{cond-true, cond-false}
 use Rattle.kernel.specs.Constants.{nought, rel_tol, least_norm, infinity}
 use Rattle.kernel.specs.Sqrt.{sqrt}
 use Rattle.kernel.proofs.First.{Standing, stands-first, stands-next}
@@ -20,13 +21,6 @@ use Rattle.power.specs.Condition.{max_rounds, normalized, deflated, start_index,
 use Rattle.power.specs.Condition.{after_inverses, is_last_inverse, last_inverse, ratio, concluded_ratio, iterated_ratio, ratio_from, ratio_of, condition}
 use Rattle.power.proofs.Stops.{ends_stopped, ends_unstopped}
 use Rattle.linalg.specs.Products.{gram}
-
--- what a test leaves
-if_true : {b : Bool} (x y : Float) → b ≡ true → x ≡ cond b x y
-if_true x y e = rw e
-
-if_false : {b : Bool} (x y : Float) → b ≡ false → y ≡ cond b x y
-if_false x y e = rw e
 
 -- ---- inverse iteration
 
@@ -95,12 +89,12 @@ module _ {g : List Float} {n : ℕ} {s : Iterate} {k : ℕ} {x : List Float} {l 
 module _ (g : List Float) (n : ℕ) (lambda : Float) (v : List Float) where
   pub ratio_low : {r : Float} → le lambda nought ≡ true → r ≡ infinity → r ≡ ratio_of g n (eigenpair v lambda)
   unfolding ratio_of
-  ratio_low h e = e ∙ if_true infinity (ratio_from g n (sqrt lambda) v) h
+  ratio_low h e = e ∙ sym (cond-true _ infinity (ratio_from g n (sqrt lambda) v) h)
 
   -- the ratio of a λ that is not too low
   high : {r sigma : Float} → le lambda nought ≡ false → sigma ≡ sqrt lambda → r ≡ ratio_from g n sigma v → r ≡ ratio_of g n (eigenpair v lambda)
   unfolding ratio_of
-  high h es e = e ∙ ap (λ (z : Float). ratio_from g n z v) es ∙ if_false infinity (ratio_from g n (sqrt lambda) v) h
+  high h es e = e ∙ ap (λ (z : Float). ratio_from g n z v) es ∙ sym (cond-false _ infinity (ratio_from g n (sqrt lambda) v) h)
 
   -- the ratio from the start that v leaves
   abbrev started : Float → Float
@@ -108,13 +102,13 @@ module _ (g : List Float) (n : ℕ) (lambda : Float) (v : List Float) where
 
   pub ratio_unstarted : {r sigma : Float} → le lambda nought ≡ false → sigma ≡ sqrt lambda → ltb (start_index v n) n ≡ false → r ≡ infinity → r ≡ ratio_of g n (eigenpair v lambda)
   unfolding ratio_from
-  ratio_unstarted {sigma = sigma} h es w e = high h es (e ∙ if_false (started sigma) infinity w)
+  ratio_unstarted {sigma = sigma} h es w e = high h es (e ∙ sym (cond-false _ (started sigma) infinity w))
 
   pub ratio_started : {r sigma : Float} {x : List Float} → le lambda nought ≡ false → sigma ≡ sqrt lambda → ltb (start_index v n) n ≡ true
       → x ≡ normalized (deflated v n (start_index v n)) n → r ≡ iterated_ratio g n sigma (iterate x nought) → r ≡ ratio_of g n (eigenpair v lambda)
   unfolding ratio_from
   ratio_started {sigma = sigma} h es w ex e =
-      high h es (e ∙ ap (λ (z : List Float). iterated_ratio g n sigma (iterate z nought)) ex ∙ if_true (started sigma) infinity w)
+      high h es (e ∙ ap (λ (z : List Float). iterated_ratio g n sigma (iterate z nought)) ex ∙ sym (cond-true _ (started sigma) infinity w))
 
 -- by the product of the transpose of a and a, and its greatest eigenvalue
 pub conditioned : (a : List Float) (n : ℕ) {g v : List Float} {lambda r : Float} → g ≡ gram a n n → eigenpair v lambda ≡ dominant g n max_rounds rel_tol → r ≡ ratio_of g n (eigenpair v lambda)

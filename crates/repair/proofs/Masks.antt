@@ -11,6 +11,7 @@ use lib.Dec.{T, ltb}
 use lib.Ieee.{Float, lt}
 use lib.Ieee.Scale.{finite}
 use lib.ListN.{get_or, get_or-eq_default}
+use lib.Ieee.Bits.{is_true}
 use Rattle.kernel.proofs.Answers.{ask_met, through_met}
 use Rattle.kernel.specs.Lists.{tabulate}
 use Rattle.kernel.proofs.Lists.{length-tabulate, get_d_tabulate}
@@ -55,10 +56,6 @@ count_of : (floor : Float) (n : ℕ) (p : Eigenpairs) → (repair_of floor n p).
 unfolding repair_of report_of
 count_of floor n p = refl
 
-held : (b : Bool) → T b → b ≡ true
-held true t = refl
-held false t = absurd t
-
 -- how many of the first n are true
 unfoldable pub trues : List Bool → ℕ → ℕ
 trues l zero = 0
@@ -100,7 +97,7 @@ module _ (cov : List Float) (floor : Float) (n : ℕ) (out : List Float) (r : Re
   mask_false_then_true i j h k c =
       let x = finite_number (nth spectrum i) (spectrum_finite i (omega arith)) in
       let y = finite_number (nth spectrum j) (spectrum_finite j k) in
-      mask_tells j k ∙ held _ (below_too (nth spectrum i) floor (nth spectrum j) x y (sym (mask_tells i (omega arith)) ∙ c) (spectrum_descends i j h k))
+      mask_tells j k ∙ is_true _ (below_too (nth spectrum i) floor (nth spectrum j) x y (sym (mask_tells i (omega arith)) ∙ c) (spectrum_descends i j h k))
 
   pub mask_past : (i : ℕ) → n ≤ i → masked r i ≡ false
   mask_past i h =

@@ -38,7 +38,7 @@ fn repair_within<const N: usize, const SIZE: usize>(
 }
 
 // The repair of cov, n by n, into out, from question 3 on, with the room that the order needs.
-#[tactic(auto, using(eigen::proofs::Pairs::small_size, eigen::proofs::Pairs::full_size, dense::proofs::Tests::side_high))]
+#[tactic(auto, using(dense::proofs::Matrices::small_size, dense::proofs::Matrices::full_size, dense::proofs::Tests::side_high))]
 pub fn repair(
     cov: &[f64],
     floor: f64,

@@ -79,7 +79,7 @@ nth-zeros : (n k : ℕ) → k < n * n → nth (zeros n) k ≡ nought
 nth-zeros n k h = ap (λ (l : List Float). nth l k) (sym flat) ∙ nth-tabulate (n * n) (λ x. nought) k h
   where
     flat : tabulate (n * n) (λ x. nought) ≡ zeros n
-    flat = matrix_by_entries n n (λ i j. nought) _ (length-tabulate (n * n) _) (λ i j p q. nth-tabulate (n * n) (λ x. nought) (i * n + j) (cell n n p q))
+    flat = matrix_by_entries n n (λ i j. nought) _ (length-tabulate (n * n) _) (λ i j p q. nth-tabulate (n * n) (λ x. nought) (i * n + j) (cell p q))
 
 zero-tolerance : (n : ℕ) → tolerance (zeros n) n ≡ nought
 unfolding tolerance

@@ -9,6 +9,7 @@ use mathlib.Core.Path.{◌≡◌, refl, sym, ◌∙◌}
 use borrow.Author.Tests.{eq-eqb, ne_eqb, lt-ltb, le-ltb}
 use lib.Dec.{T}
 use lib.Ieee.{Float, lt}
+use Rattle.std.proofs.lemmas.Float.{T_from_true}
 use Rattle.kernel.proofs.First.{first_at, first_before}
 use Rattle.kernel.proofs.Doubles.Order.{lt-irreflexive, lt-transitive}
 use Rattle.dense.specs.Matrix.{nth}
@@ -34,9 +35,6 @@ from k s l i h = go (ℕ_discrete i s) (dec_lt i s)
 
 -- ---- tests
 
-pub holds : {b : Bool} → b ≡ true → T b
-holds e = rw e tt
-
 fails : (b : Bool) → (T b → ⊥) → b ≡ false
 fails true f = absurd (f tt)
 fails false f = refl
@@ -47,7 +45,7 @@ denied false e t = t
 
 -- what is not above x is not above y where y is above x
 not_greater : (x y z : Float) → lt x y ≡ true → lt x z ≡ false → lt y z ≡ false
-not_greater x y z e f = fails (lt y z) (λ t. denied (lt x z) f (lt-transitive x y z (holds e) t))
+not_greater x y z e f = fails (lt y z) (λ t. denied (lt x z) f (lt-transitive x y z (T_from_true _ e) t))
 
 -- ---- the spot
 

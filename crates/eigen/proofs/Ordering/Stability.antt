@@ -7,12 +7,13 @@ use mathlib.Core.Logic.{◌⊎◌, inl, inr}
 use mathlib.Core.Path.{◌≡◌}
 use lib.Dec.{T}
 use lib.Ieee.{Float, lt, eq, is_nan}
+use Rattle.std.proofs.lemmas.Float.{T_from_true}
 use Rattle.kernel.proofs.Doubles.Order.{lt-transitive, lt_trichotomy, eq-lt}
 use Rattle.dense.specs.Matrix.{nth}
 use Rattle.eigen.specs.Eigen.{index_at, spot, order}
 use Rattle.eigen.specs.Private.{Below}
 use Rattle.eigen.proofs.Ordering.Orders.{spot-within, order_below}
-use Rattle.eigen.proofs.Ordering.Sorting.{From, kept, new, moved, from, holds, denied, spot-at, order-suc, Descends, rest_less, order_descends}
+use Rattle.eigen.proofs.Ordering.Sorting.{From, kept, new, moved, from, denied, spot-at, order-suc, Descends, rest_less, order_descends}
 
 -- the first n entries of e are numbers
 unfoldable pub Numbers : List Float → ℕ → Type 0
@@ -27,8 +28,8 @@ pub below_too : (x y z : Float) → T (not (is_nan x)) → T (not (is_nan z)) �
 below_too x y z nx nz e f = go (lt_trichotomy z x nz nx)
   where
     go : T (lt z x) ⊎ (T (eq z x) ⊎ T (lt x z)) → T (lt z y)
-    go (inl t) = lt-transitive z x y t (holds e)
-    go (inr (inl t)) = eq-lt z x y t (holds e)
+    go (inl t) = lt-transitive z x y t (T_from_true _ e)
+    go (inr (inl t)) = eq-lt z x y t (T_from_true _ e)
     go (inr (inr t)) = absurd (denied (lt x z) f t)
 
 module _ (e : List Float) (l : List ℕ) (k : ℕ) (u : Below k k l) (d : Descends e k l) (numbers : Numbers e k) where

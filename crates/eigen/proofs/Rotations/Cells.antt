@@ -39,7 +39,7 @@ cells_put {n} {f} {m} a b v p q c = record { size = length-set m (a * n + b) v �
     other i j h k ne = at_set_other n m a b v i j k q ne ∙ c.entry i j h k
 
     go : (i j : ℕ) → i < n → j < n → Dec (i ≡ a) → Dec (j ≡ b) → at (set m (a * n + b) v) n i j ≡ put f a b v i j
-    go i j h k (yes s) (yes t) = rw (eq-eqb i a s, eq-eqb j b t, s, t) (get_or-set_same m (a * n + b) v nan (omega (arith, cell n n {i = a} {j = b} p q, c.size)))
+    go i j h k (yes s) (yes t) = rw (eq-eqb i a s, eq-eqb j b t, s, t) (get_or-set_same m (a * n + b) v nan (omega (arith, cell p q, c.size)))
     go i j h k (yes s) (no t) = rw (eq-eqb i a s, ne_eqb j b t) (other i j h k (λ x y. t y))
     go i j h k (no s) t = rw (ne_eqb i a s) (other i j h k (λ x y. s x))
 

@@ -4,12 +4,13 @@
 use Prim.Native.Nat.{ℕ, ◌<◌}
 use native.Mathlib.Decide.{dec_lt}
 use native.Mathlib.Omega.{arith}
-use mathlib.Core.Path.{◌≡◌, refl, sym, subst, subst⁻¹}
+use mathlib.Core.Path.{◌≡◌, refl, subst, subst⁻¹}
 use mathlib.Core.Logic.{◌⊎◌, inl, inr}
 use mathlib.Core.Bool.{Bool, true, false, not}
 use lib.Dec.{T, ltb, eqb, ltb→lt, lt→ltb, eqb→eq, eqb_refl}
 use lib.IntN.{pos}
 use lib.Ieee.{Float, nan, inf, fin, is_nan, lt, eq}
+use Rattle.std.proofs.lemmas.Float.{lt_irrefl, lt_trans, lt_of_lt_of_le, lt_of_le_of_lt, le_of_eq, eq_flip, eq_trans, eq-not_lt}
 use Rattle.kernel.proofs.Doubles.Places.{Line, line}
 
 -- ---- what passes a test is no NaN
@@ -58,25 +59,13 @@ pub eq_reflexive : (x : Float) → T (not (is_nan x)) → T (eq x x)
 eq_reflexive x h = let l = line x x x h h h in of_same (l.at x) (l.at x) l.eq_xy refl
 
 pub lt-irreflexive : (x : Float) → T (lt x x) → ⊥
-lt-irreflexive x t =
-    let h = (lt_numbers x x t).first in
-    let l = line x x x h h h in
-    let p = less (l.at x) (l.at x) l.lt_xy t in
-    omega arith
+lt-irreflexive x = lt_irrefl x
 
 pub eq-symmetric : (x y : Float) → T (eq x y) → T (eq y x)
-eq-symmetric x y t =
-    let h = eq_numbers x y t in
-    let l = line x y x h.first h.second h.first in
-    of_same (l.at y) (l.at x) l.eq_yz (sym (same (l.at x) (l.at y) l.eq_xy t))
+eq-symmetric x y = eq_flip x y
 
 pub lt-not-eq : (x y : Float) → T (lt x y) → T (eq x y) → ⊥
-lt-not-eq x y t u =
-    let h = lt_numbers x y t in
-    let l = line x y y h.first h.second h.second in
-    let p = less (l.at x) (l.at y) l.lt_xy t in
-    let q = same (l.at x) (l.at y) l.eq_xy u in
-    omega arith
+lt-not-eq x y t u = eq-not_lt x y u t
 
 pub lt_trichotomy : (x y : Float) → T (not (is_nan x)) → T (not (is_nan y)) → T (lt x y) ⊎ (T (eq x y) ⊎ T (lt y x))
 lt_trichotomy x y h k = let l = line x y x h k h in go l (dec_lt (l.at x) (l.at y)) (dec_lt (l.at y) (l.at x))
@@ -89,32 +78,16 @@ lt_trichotomy x y h k = let l = line x y x h k h in go l (dec_lt (l.at x) (l.at 
 -- of three numbers
 module _ (x y z : Float) where
   pub lt-transitive : T (lt x y) → T (lt y z) → T (lt x z)
-  lt-transitive t u =
-      let l = line x y z (lt_numbers x y t).first (lt_numbers x y t).second (lt_numbers y z u).second in
-      let p = less (l.at x) (l.at y) l.lt_xy t in
-      let q = less (l.at y) (l.at z) l.lt_yz u in
-      of_less (l.at x) (l.at z) l.lt_xz (omega arith)
+  lt-transitive = lt_trans x y z
 
   pub lt-eq : T (lt x y) → T (eq y z) → T (lt x z)
-  lt-eq t u =
-      let l = line x y z (lt_numbers x y t).first (lt_numbers x y t).second (eq_numbers y z u).second in
-      let p = less (l.at x) (l.at y) l.lt_xy t in
-      let q = same (l.at y) (l.at z) l.eq_yz u in
-      of_less (l.at x) (l.at z) l.lt_xz (omega arith)
+  lt-eq t u = lt_of_lt_of_le x y z t (le_of_eq y z u)
 
   pub eq-lt : T (eq x y) → T (lt y z) → T (lt x z)
-  eq-lt t u =
-      let l = line x y z (eq_numbers x y t).first (eq_numbers x y t).second (lt_numbers y z u).second in
-      let p = same (l.at x) (l.at y) l.eq_xy t in
-      let q = less (l.at y) (l.at z) l.lt_yz u in
-      of_less (l.at x) (l.at z) l.lt_xz (omega arith)
+  eq-lt t u = lt_of_le_of_lt x y z (le_of_eq x y t) u
 
   pub eq-transitive : T (eq x y) → T (eq y z) → T (eq x z)
-  eq-transitive t u =
-      let l = line x y z (eq_numbers x y t).first (eq_numbers x y t).second (eq_numbers y z u).second in
-      let p = same (l.at x) (l.at y) l.eq_xy t in
-      let q = same (l.at y) (l.at z) l.eq_yz u in
-      of_same (l.at x) (l.at z) l.eq_xz (omega arith)
+  eq-transitive = eq_trans x y z
 
 pub zeros_equal : T (eq (fin false 0 (pos 0)) (fin true 0 (pos 0)))
 unfolding eq

@@ -4,7 +4,7 @@ use Prim.Native.Nat.{ℕ, zero, suc, ◌+◌, ◌-◌, ◌*◌, ◌/◌, ◌%◌
 use native.Mathlib.Nat.{eq_of_mul-eq-mul_right, mul_right_comm, mul-zero, mul-one, one-mul, mul-pos, mod-lt, lt_of_lt_of_le}
 use native.Mathlib.Omega.{arith}
 use native.Mathlib.Decide.{dec_lt}
-use mathlib.Core.Bool.{Bool, true, false, not, cond}
+use mathlib.Core.Bool.{Bool, true, false, not}
 use mathlib.Core.Path.{◌≡◌, refl, sym, ap, ◌∙◌}
 use borrow.Author.Tests.{ne_eqb}
 use lib.Dec.{T, eqb, eqb→eq, lt→ltb}
@@ -17,6 +17,7 @@ use lib.Ieee.Exact.{HasValue, round_exact}
 use lib.Ieee.Fits.{round-fits, up_pos, down_pos}
 use lib.Ieee.Positive.{num, den, den_pos, positive, own_value, value→cross, positive_of_value, value_pos, mul_at}
 use lib.Ieee.Scale.{round_same}
+use Rattle.std.proofs.lemmas.Bool.{cond-false}
 use Rattle.kernel.specs.Constants.{nought, one}
 use Rattle.kernel.specs.Number.{add, mul, div}
 use Rattle.kernel.specs.Sqrt.{scaled, scaled_bits}
@@ -144,10 +145,7 @@ over_itself (fin false zero e) h = absurd h
 over_itself (fin false (suc m) e) h =
     let a = suc m * up e * down e in
     let p : 0 < a = mul-pos (mul-pos (omega arith) (up_pos e)) (down_pos e) in
-    kept (eqb (suc m) 0) _ (round binary64 false a a) (ne_eqb (suc m) 0 (λ (z : suc m ≡ 0). omega arith)) ∙ round_same binary64 false a a 1 1 p (omega arith) (mul-one a ∙ sym (one-mul a))
-  where
-    kept : (b : Bool) (y z : Float) → b ≡ false → cond b y z ≡ z
-    kept b y z q = rw q
+    cond-false (eqb (suc m) 0) _ (round binary64 false a a) (ne_eqb (suc m) 0 (λ (z : suc m ≡ 0). omega arith)) ∙ round_same binary64 false a a 1 1 p (omega arith) (mul-one a ∙ sym (one-mul a))
 
 pub times_zero : (x : Float) → T (positive x) → mul x nought ≡ nought
 unfolding Ieee.mul of_bits

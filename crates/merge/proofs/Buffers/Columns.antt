@@ -7,6 +7,7 @@ use mathlib.Core.Bool.{Bool, not, ◌&&◌}
 use mathlib.Core.List.{List}
 use lib.Dec.{T, eqb, eqb→eq}
 use borrow.Author.Tests.{eq-eqb, ne_eqb, eqb-true, not-false}
+use lib.Ieee.Fits.{eq→eqb}
 use Rattle.pairing.specs.Pairing.{some}
 use Rattle.pairing.specs.Keys.{nobody}
 use Rattle.pairing.proofs.Tests.{both, left, right, is_false, some_at, some_where}
@@ -23,9 +24,6 @@ no_track x t e = rw (eq-eqb x nobody e) at t
 
 is_none : (x : ℕ) → T (not (is_track x)) → x ≡ nobody
 is_none x t = eqb-true x nobody (not-false (eqb x nobody) (is_false (is_track x) t))
-
-pub is_index : (x y : ℕ) → x ≡ y → T (eqb x y)
-is_index x y e = rw (eq-eqb x y e) tt
 
 -- ---- a row with a pair
 
@@ -72,7 +70,7 @@ module _ (before : ℕ → Bool) (first second : ℕ → ℕ) (rows : ℕ) where
       let b = is_track (second r) in
       let c = eqb (first r) i in
       let d = eqb (second r) j in
-      some_at rows (test i j) r h (both (a && b && c) d (both (a && b) c (both a b t (is_track_lem (second r) j f k)) (is_index (first r) i e)) (is_index (second r) j f))
+      some_at rows (test i j) r h (both (a && b && c) d (both (a && b) c (both a b t (is_track_lem (second r) j f k)) (eq→eqb e)) (eq→eqb f))
 
 -- ---- the three kinds of pairs
 

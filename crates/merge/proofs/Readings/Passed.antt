@@ -67,7 +67,7 @@ front-row m n g rest r h =
     let long : length (matrix m n g) ≡ m * n = length-matrix m n g in
     own_entries n (row_of (matrix m n g ++ rest) n r) (length-row (matrix m n g ++ rest) n r (omega (arith, row_within m n h, length-append (matrix m n g) rest, long)))
     ∙ tabulate_ext n _ (g r) (λ j k.
-    nth-row (matrix m n g ++ rest) n r j k ∙ get_or-append (matrix m n g) rest nan (r * n + j) (omega (arith, cell m n {i = r} {j = j} h k, long)) ∙ at-matrix m n g r j h k)
+    nth-row (matrix m n g ++ rest) n r j k ∙ get_or-append (matrix m n g) rest nan (r * n + j) (omega (arith, cell h k, long)) ∙ at-matrix m n g r j h k)
 
 module _ (lists : ThreeLists) (floor : Float) {d : ℕ} (e : d ≡ lists.base.dimension) (bv ov tv : List Float)
     (hb : Holds lists.base bv (fields d)) (ho : Holds lists.ours ov (fields d)) (ht : Holds lists.theirs tv (fields d)) where

@@ -17,7 +17,7 @@ use Rattle.tracks.specs.Write.{tracks_of}
 use Rattle.tracks.specs.Calls.{doubles, joined}
 use Rattle.tracks.specs.Record.{offset, record_at}
 use Rattle.tracks.proofs.Reading.Accepted.{contents_met}
-use Rattle.tracks.proofs.Slices.Lists.{map-take, map-drop}
+use Rattle.std.proofs.lemmas.List.{take-map, drop-map}
 use Rattle.tracks.proofs.Numbers.Values.{tracks-joined}
 use Rattle.tracks.proofs.RoundTrip.BothWays.{accepted_fit, joined_fit}
 use Rattle.tracks.proofs.Records.Parts.{equal_records}
@@ -49,7 +49,7 @@ module _ (l : List ℕ) (h : Bytes l) (c : TrackList) (ok : contents l ≡ Ok c)
       let fits = row_within (track_count c) f {i = i} lt in
       ap (take f) (drop-append-le (i * f) vs rest (omega arith))
       ∙ take-append-le f (drop (i * f) vs) rest (omega (arith, length-drop (i * f) vs))
-      ∙ sym (map-take (of_bits binary64) f (drop (i * f) (joined c.tracks)) ∙ ap (take f) (map-drop (of_bits binary64) (i * f) (joined c.tracks)))
+      ∙ ap (take f) (drop-map (of_bits binary64) (i * f) (joined c.tracks)) ∙ take-map (of_bits binary64) f (drop (i * f) (joined c.tracks))
       ∙ ap doubles (cut i lt)
 
 -- the bytes of two tracks are the same exactly if the tracks are equal

@@ -1,7 +1,7 @@
 -- The pair that comes first of some: `Best` says that it was found, or that there is none, and `looked_at` what a look at one more pair makes of it.
 use Prim.Native.Nat.{ℕ}
-use native.Mathlib.Omega.{arith}
-use Rattle.std.specs.Prelude.{Option, None, Some}
+use Rattle.std.proofs.lemmas.Option.{none-some}
+use Rattle.std.specs.Prelude.{Option, Some}
 use mathlib.Core.Path.{◌≡◌, refl, sym, ap, subst, ◌∙◌}
 use mathlib.Core.Logic.{◌⊎◌, inl, inr, ⊎_elim}
 use mathlib.Core.Bool.{Bool, true, false, not, cond}
@@ -15,9 +15,6 @@ use Rattle.pairing.specs.Private.{none_found, found_at, look_at}
 use Rattle.pairing.specs.declared.Foremost.{Foremost}
 use Rattle.pairing.proofs.Ordering.Sorting.{Upto}
 use Rattle.pairing.proofs.Ordering.Keys.{Index, of_key, to_key, key-transitive}
-
-none_some : {A B : Type 0} {x : A} → None ≡ Some x → B
-none_some e = absurd (let z : ◌≡◌ {A = ℕ} 0 1 = cc in omega arith)
 
 module _ (keys : List Float) (m n : ℕ) where
   abbrev key : Pair → Float
@@ -50,7 +47,7 @@ module _ (keys : List Float) (m n : ℕ) where
     pub least : (q : Pair) → A q → First p q
 
   pub something_first : (A : Pair → Type 0) (b : Option Foremost) (f : Foremost) → Best A b → b ≡ Some f → IsFirst A (pair f.first f.second)
-  something_first A b f (inl w) e = absurd (none_some (sym w.is ∙ e))
+  something_first A b f (inl w) e = absurd (none-some _ (sym w.is ∙ e))
   something_first A b f (inr w) e =
       let s : ◌≡◌ {A = Option Foremost} (Some f) (found_at (key w.best) w.best.first w.best.second) = sym e ∙ w.is in
       let t : f ≡ record { key = key w.best; first = w.best.first; second = w.best.second } = cc in

@@ -1,12 +1,13 @@
 -- 1 by 1 matrices whose square overflows. `over-ratio`: the second vector is 0.0, and its product vanishes.
 use native.Mathlib.Omega.{arith}
-use mathlib.Core.Bool.{Bool, true, false, ◌&&◌, cond}
+use mathlib.Core.Bool.{Bool, true, false, cond}
 use mathlib.Core.List.{List, [], ◌∷◌}
 use mathlib.Core.Path.{◌≡◌, refl, sym, ap, ◌∙◌}
 use lib.Dec.{T}
 use lib.Ieee as Ieee
 use lib.Ieee.{Float, nan, inf, fin, binary64, fits, of_bits, lt, le}
 use lib.Ieee.Positive.{positive}
+use mathlib.Core.Bool.{and-false}
 use Rattle.kernel.specs.Constants.{nought, one, minus_one, rel_tol, vanishing, infinity}
 use Rattle.kernel.specs.Number.{add, sub, mul, div, abs}
 use Rattle.kernel.specs.Sqrt.{sqrt}
@@ -44,11 +45,7 @@ nan-root = refl
 
 never_small : (tol lambda : Float) → is_small tol lambda nan ≡ false
 unfolding is_small Ieee.div Ieee.lt
-never_small tol lambda = go (lt vanishing (abs lambda))
-  where
-    go : (b : Bool) → (b && false) ≡ false
-    go true = refl
-    go false = refl
+never_small tol lambda = and-false (lt vanishing (abs lambda))
 
 module _ (s : Float) (f : T (fits binary64 s)) (h : T (positive s)) (over : mul s s ≡ inf false) where
   abbrev g : List Float

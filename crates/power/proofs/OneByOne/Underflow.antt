@@ -14,6 +14,7 @@ use lib.Ieee.Exact.{HasValue}
 use lib.Ieee.Fits.{mul-fits}
 use lib.Ieee.Order.{le_of_values}
 use lib.Ieee.Positive.{positive, values_of_le, mul_mono}
+use lib.Ieee.Bits.{is_true}
 use Rattle.kernel.specs.Constants.{min_positive, vanishing}
 use Rattle.kernel.specs.Number.{mul}
 use Rattle.kernel.specs.Sqrt.{square, scaled, next_down, sqrt}
@@ -23,10 +24,6 @@ use Rattle.kernel.proofs.Roots.SquareRoot.{sqrt-root}
 use Rattle.kernel.proofs.Squares.RootOfSquare.{value_of}
 use Rattle.kernel.proofs.Squares.Exacts.{zero-double}
 use Rattle.power.proofs.OneByOne.Ones.{measured}
-
-is_true : (b : Bool) → T b → b ≡ true
-is_true true t = refl
-is_true false t = absurd t
 
 or_right : (a b : Bool) → T b → T (a || b)
 or_right true b t = tt

@@ -11,6 +11,7 @@ use mathlib.Core.Path.{◌≡◌, refl, sym, ap, ◌∙◌}
 use mathlib.Core.Bool.{Bool, true, false, not, cond}
 use borrow.Author.Tests.{eqb-true, eqb-false, eq-eqb}
 use lib.Dec.{eqb}
+use native.Mathlib.Nat.{add-mul-mod_self_right}
 use Rattle.std.proofs.lemmas.Bool.{and_right as no_right}
 use Rattle.tracks.specs.Layout.{none}
 use Rattle.tracks.specs.Write.{packed}
@@ -82,10 +83,7 @@ above p c i m =
     ∙ sym (mul_assoc c (2 ^ m * 2) (2 ^ i))
     ∙ ap (λ (k : ℕ). k * 2 ^ i) (sym (mul_assoc c (2 ^ m) 2)) in
     let d : (p + c * 2 ^ m * 2 * 2 ^ i) / 2 ^ i ≡ p / 2 ^ i + c * 2 ^ m * 2 = add-mul-div_right p (c * 2 ^ m * 2) (pow_pos i) in
-    ap (λ (k : ℕ). (p + k) / 2 ^ i % 2) e ∙ ap (λ (k : ℕ). k % 2) d ∙ even (p / 2 ^ i) (c * 2 ^ m)
-  where
-    even : (a k : ℕ) → (a + k * 2) % 2 ≡ a % 2
-    even a k = omega arith
+    ap (λ (k : ℕ). (p + k) / 2 ^ i % 2) e ∙ ap (λ (k : ℕ). k % 2) d ∙ add-mul-mod_self_right (p / 2 ^ i) (c * 2 ^ m) 2
 
 -- a bit of packed tests is the test
 pub packed_bit : (test : ℕ → Bool) (n i : ℕ) → i < n → eqb (packed test n / 2 ^ i % 2) 1 ≡ test i

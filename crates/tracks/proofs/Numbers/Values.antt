@@ -15,6 +15,7 @@ use lib.Ieee.{Float, nan, inf, binary64, fits, ne, is_nan, of_fields, of_bits, t
 use lib.Ieee.Compare.{differs_from_itself}
 use lib.Ieee.Bits.{of_bits-to_bits, of_bits-fits, to_bits-of_bits, to_bits-lt, nan_bits_is}
 use lib.Ieee.Fits.{nan-fits}
+use Rattle.std.proofs.lemmas.List.{get_or_default, take-map, drop-map}
 use Rattle.std.specs.Prelude.{MatchBool}
 use Rattle.std.specs.List.{AllWithin, HoldsAt}
 use Rattle.std.proofs.lemmas.Bool.{and_parts, and_right as no_right}
@@ -25,7 +26,7 @@ use Rattle.tracks.specs.Write.{all_finite, tracks_of}
 use Rattle.kernel.specs.Lists.{tabulate}
 use Rattle.tracks.specs.Calls.{doubles, patterns, joined}
 use Rattle.tracks.proofs.Reading.Accepted.{finite_no_nan}
-use Rattle.tracks.proofs.Slices.Lists.{joined_more, get_d_any, map-take, map-drop}
+use Rattle.tracks.proofs.Slices.Lists.{joined_more}
 use Rattle.kernel.proofs.Lists.{length-tabulate, get_d_tabulate}
 
 -- ---- values and their bits
@@ -42,7 +43,7 @@ pub length-patterns : (v : List Float) → length (patterns v) ≡ length v
 length-patterns v = length-map v (to_bits binary64)
 
 pub pattern-at : (v : List Float) (i : ℕ) → i < length v → get_or (patterns v) i 0 ≡ to_bits binary64 (get_or v i nan)
-pattern-at v i h = get_d_any (patterns v) i 0 (to_bits binary64 nan) (rw length-patterns h) ∙ get_or-map (to_bits binary64) v i nan
+pattern-at v i h = get_or_default (patterns v) i 0 (to_bits binary64 nan) (rw length-patterns h) ∙ get_or-map (to_bits binary64) v i nan
 
 -- a value that does not equal itself is written as `to_bits` writes a NaN
 pub nan_bits : (x : Float) → ne x x ≡ true → to_bits binary64 x ≡ 0x7FF8_0000_0000_0000
@@ -51,7 +52,7 @@ nan_bits x e = ap (to_bits binary64) (differs_from_itself x (rw e tt))
 
 -- the values of a track among those of all
 pub patterns-part : (v : List Float) (i f : ℕ) → patterns (take f (drop i v)) ≡ take f (drop i (patterns v))
-patterns-part v i f = map-take (to_bits binary64) f (drop i v) ∙ ap (take f) (map-drop (to_bits binary64) i v)
+patterns-part v i f = sym (ap (take f) (drop-map (to_bits binary64) i v) ∙ take-map (to_bits binary64) f (drop i v))
 
 -- the bits of finite doubles come back
 pub patterns-doubles : (v : List ℕ) → all_finite v ≡ true → Words v → patterns (doubles v) ≡ v

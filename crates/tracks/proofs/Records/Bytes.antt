@@ -5,6 +5,7 @@ use Prim.Native.Nat.{ℕ, zero, suc, ◌+◌, ◌*◌, ◌/◌, ◌<◌, ◌≤�
 use native.Mathlib.Omega.{arith}
 use native.Mathlib.Nat.{zero-mul, suc-mul}
 use native.Mathlib.Numerals.{add-one}
+use Rattle.std.proofs.lemmas.List.{take_more}
 use Rattle.std.proofs.Math.Nat.{mul-div_cancel}
 use mathlib.Core.Path.{◌≡◌, refl, sym, ap, ◌∙◌, subst}
 use mathlib.Core.Bool.{Bool, true, false}
@@ -27,7 +28,7 @@ use Rattle.tracks.proofs.Numbers.Fields.{few_values, some-fields}
 use Rattle.tracks.proofs.Numbers.Values.{length-patterns, pattern-at}
 use Rattle.kernel.proofs.Answers.{answered_inj, ask_met, never_both}
 use Rattle.kernel.proofs.Words.{length-bytes}
-use Rattle.tracks.proofs.Slices.Lists.{flat_map_append, flat_map_more, flat_map-part, take_more, over-two}
+use Rattle.tracks.proofs.Slices.Lists.{flat_map_append, flat_map_more, flat_map-part, over-two}
 use Rattle.kernel.proofs.Lists.{length-tabulate, tabulate_more, over-over, over_none}
 use Rattle.std.specs.Prelude.{Ok, Err}
 use Rattle.kernel.specs.declared.question.Question.TheVariants as question
@@ -52,7 +53,7 @@ field_takes_eight x e = ap length (field_some x e) ∙ length-bytes 8 x
 
 pub stored_more : (v : List ℕ) (k : ℕ) → k < length v → stored_bytes (take (k + 1) v) ≡ stored_bytes (take k v) ++ field_bytes (get_or v k 0)
 unfolding stored_bytes
-stored_more v k h = ap stored_bytes (take_more v k h) ∙ flat_map_more field_bytes (take k v) (get_or v k 0)
+stored_more v k h = ap stored_bytes (take_more v k 0 h) ∙ flat_map_more field_bytes (take k v) (get_or v k 0)
 
 -- the stored fields of the values so far, and one more
 pub stored_next : (v : List Float) (k : ℕ) → k < length v

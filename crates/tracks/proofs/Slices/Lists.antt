@@ -1,13 +1,13 @@
 -- Laws of lists one after another and of their places: `flat_map_more` and `joined_more` for one list more, `row_next` for its place, `over-two`
 -- for two elements in front, `put_mid_over` for a part that is written, `front_copied` and `word_copied` for what is copied.
-use Prim.Native.Nat.{ℕ, zero, suc, ◌+◌, ◌-◌, ◌*◌, ◌<◌, ◌≤◌}
+use Prim.Native.Nat.{ℕ, zero, suc, ◌+◌, ◌-◌, ◌*◌, ◌≤◌}
 use native.Mathlib.Omega.{arith}
-use native.Mathlib.Nat.{suc-mul, le_of_suc-le-suc, add-zero, le_refl}
+use native.Mathlib.Nat.{suc-mul, add-zero, le_refl}
 use native.Mathlib.Numerals.{add-one}
 use mathlib.Core.Path.{◌≡◌, refl, sym, ap, ◌∙◌, subst}
-use mathlib.Core.List.{List, [], ◌∷◌, ◌++◌, map, flat_map, append_assoc, append-nil}
+use mathlib.Core.List.{List, [], ◌∷◌, ◌++◌, flat_map, append_assoc, append-nil}
 use lib.ListN.{length, get_or, take, drop, set, length-append}
-use lib.Seq.{take-suc, drop-drop, length-take-le}
+use lib.Seq.{drop-drop, length-take-le}
 use Rattle.std.specs.Int.{to_le_bytes}
 use Rattle.kernel.specs.Bytes.{bytes}
 use Rattle.kernel.proofs.Words.{bytes_8, length-bytes}
@@ -36,16 +36,6 @@ pub joined_more : (ts : List Track) (t : Track) → joined (ts ++ (t ∷ [])) �
 unfolding joined
 joined_more ts t = flat_map_more (λ u. u.values) ts t
 
--- an index within a list needs no default
-pub get_d_any : {A : Type 0} (l : List A) (i : ℕ) (d e : A) → i < length l → get_or l i d ≡ get_or l i e
-get_d_any [] i d e h = absurd (omega arith)
-get_d_any (x ∷ l) zero d e h = refl
-get_d_any (x ∷ l) (suc i) d e h = get_d_any l i d e (le_of_suc-le-suc h)
-
--- one element more of a list
-pub take_more : (l : List ℕ) (i : ℕ) → i < length l → take (i + 1) l ≡ take i l ++ (get_or l i 0 ∷ [])
-take_more l i h = rw (add-one, take-suc l i 0) refl
-
 -- what is made of the first elements of a rule is no longer than what is made of more of them
 pub flat_map-part : {A B : Type 0} (g : A → List B) (h : ℕ → A) (j n : ℕ) → j ≤ n → length (flat_map g (tabulate j h)) ≤ length (flat_map g (tabulate n h))
 flat_map-part g h j n le = let e : j + (n - j) ≡ n = omega arith in subst (λ (k : ℕ). length (flat_map g (tabulate j h)) ≤ length (flat_map g (tabulate k h))) e (grows (n - j))
@@ -62,16 +52,6 @@ flat_map-part g h j n le = let e : j + (n - j) ≡ n = omega arith in subst (λ 
           ap length (flat_map_more g (tabulate (j + i) h) (h (j + i))),
           length-append (flat_map g (tabulate (j + i) h)) (g (h (j + i))),
         )
-
-pub map-take : {A B : Type 0} (g : A → B) (n : ℕ) (l : List A) → map g (take n l) ≡ take n (map g l)
-map-take g zero l = refl
-map-take g (suc n) [] = refl
-map-take g (suc n) (x ∷ l) = rw (map-take g n l) refl
-
-pub map-drop : {A B : Type 0} (g : A → B) (n : ℕ) (l : List A) → map g (drop n l) ≡ drop n (map g l)
-map-drop g zero l = refl
-map-drop g (suc n) [] = refl
-map-drop g (suc n) (x ∷ l) = map-drop g n l
 
 -- an element of a list with one more at its end
 pub get_d_more : {A : Type 0} (P : A → Type 0) (d : A) (l : List A) (x : A) → P d → ((i : ℕ) → P (get_or l i d)) → P x → (i : ℕ) → P (get_or (l ++ (x ∷ [])) i d)

@@ -22,7 +22,7 @@ pub entry-det-requires : goal.entry-det-requires
 entry-det-requires c =
     let n = length c.args.s.now in
     let found : PivotFound c.loop-k.m c.loop-k.s n n c.loop-k.k c.in-Ok.p = pivot_found _ _ _ _ _ (omega arith) c.loop-k-test.true c.in-Ok.ensures in
-    omega (arith, rw c.requires.0 at c.requires.1, cell n n {i = c.in-Ok.p} {j = c.loop-k.k} found.within c.loop-k-test.true)
+    omega (arith, rw c.requires.0 at c.requires.1, cell found.within c.loop-k-test.true)
 
 pub swap-requires-clause-b_in_bounds : goal.swap-requires-clause-b_in_bounds
 swap-requires-clause-b_in_bounds c =
