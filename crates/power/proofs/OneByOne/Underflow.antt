@@ -3,7 +3,7 @@ use Prim.Native.Nat.{ℕ, zero, suc, ◌+◌, ◌*◌, ◌^◌, ◌≤◌, ◌<�
 use native.Mathlib.Nat.{le_of_lt, lt_of_lt_of_le, lt_irrefl, mul-le-mul, mul-le-mul_right, le_of_mul-le-mul_right}
 use native.Mathlib.Omega.{arith}
 use native.Mathlib.Decide.{dec_lt}
-use mathlib.Core.Bool.{Bool, true, false, ◌||◌}
+use mathlib.Core.Bool.{true, false}
 use mathlib.Core.Logic.{◌⊎◌, inl, inr}
 use mathlib.Core.Path.{◌≡◌, refl, ap}
 use lib.Dec.{T, leb→le, lt→ltb}
@@ -15,6 +15,7 @@ use lib.Ieee.Fits.{mul-fits}
 use lib.Ieee.Order.{le_of_values}
 use lib.Ieee.Positive.{positive, values_of_le, mul_mono}
 use lib.Ieee.Bits.{is_true}
+use Rattle.std.proofs.lemmas.Float.{le_of_lt as float_le_of_lt, le_of_eq as float_le_of_eq}
 use Rattle.kernel.specs.Constants.{min_positive, vanishing}
 use Rattle.kernel.specs.Number.{mul}
 use Rattle.kernel.specs.Sqrt.{square, scaled, next_down, sqrt}
@@ -25,17 +26,8 @@ use Rattle.kernel.proofs.Squares.RootOfSquare.{value_of}
 use Rattle.kernel.proofs.Squares.Exacts.{zero-double}
 use Rattle.power.proofs.OneByOne.Ones.{measured}
 
-or_right : (a b : Bool) → T b → T (a || b)
-or_right true b t = tt
-or_right false b t = t
-
-or_left : (a b : Bool) → T a → T (a || b)
-or_left true b t = tt
-or_left false b t = absurd t
-
 -- doubles are ordered as their sizes
 less_of_values : (x y : Float) (a b : ℕ) → T (positive x) → T (positive y) → HasValue x false a (2 ^ 1074) → HasValue y false b (2 ^ 1074) → a < b → lt x y ≡ true
-unfolding le
 less_of_values x y a b h k v w l = go (lt_trichotomy x y (positive_no_nan x h) (positive_no_nan y k))
   where
     not_above_lem : T (le y x) → lt x y ≡ true
@@ -43,8 +35,8 @@ less_of_values x y a b h k v w l = go (lt_trichotomy x y (positive_no_nan x h) (
 
     go : T (lt x y) ⊎ (T (eq x y) ⊎ T (lt y x)) → lt x y ≡ true
     go (inl t) = is_true (lt x y) t
-    go (inr (inl t)) = not_above_lem (or_right (lt y x) (eq y x) (eq-symmetric x y t))
-    go (inr (inr t)) = not_above_lem (or_left (lt y x) (eq y x) t)
+    go (inr (inl t)) = not_above_lem (float_le_of_eq y x (eq-symmetric x y t))
+    go (inr (inr t)) = not_above_lem (float_le_of_lt y x t)
 
 bounded : (r n a x m c : ℕ) → square (a + r) < 4 * x * c → x ≤ m → 4 * m * c ≡ n * n → r < n
 bounded r n a x m c h l e = go (dec_lt r n)
