@@ -113,7 +113,7 @@ fn single(mu: f64, x: f64, p: f64, q: f64, terms: FloorAndGate) -> ComparisonRep
     }
 }
 
-// The same with the room that the dimension needs.
+// The same with the room that the dimension needs. It is chosen by tests: arrays have fixed sizes.
 #[tactic(auto, using(dense::proofs::Tests::square_area, dense::proofs::Matrices::small_size))]
 pub fn compare_tracks(
     mu: &[f64],

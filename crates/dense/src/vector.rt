@@ -67,7 +67,7 @@ pub fn max_abs(x: &[f64]) -> f64
     g
 }
 
-// Whether x is a number and no infinity.
+// Whether x is a number and no infinity: std's test, under the kernel's word for it.
 #[tactic(auto, using(crate::proofs::Finite::told_finite))]
 pub fn is_finite(x: f64) -> bool
     ensures { result ≡ finite x }

@@ -70,6 +70,7 @@ fn eigenpairs_within<const SIZE: usize>(
 }
 
 // The eigenpairs of a, n by n, from question 4 on, with the room that the order needs.
+// It is chosen by tests: arrays have fixed sizes.
 // The parameters of the call, in its order; with length values.old for n the clauses are 52 characters longer.
 #[tactic(auto, using(dense::proofs::Matrices::small_size, dense::proofs::Matrices::full_size))]
 fn eigenpairs(a: &[f64], n: usize, values: &mut [f64], vectors: &mut [f64]) -> Result<(), Question>

@@ -1,7 +1,8 @@
 // Eigenvalues and eigenvectors of symmetric f64 matrices of sides 1 to 16, by the cyclic Jacobi method.
 // A matrix stands beside its side, and what several functions are lent under the name of a fact (`Lent`, `Slices`,
 // `Crossing`): a struct of a matrix and its side was tried in linalg, and would make the clauses of the rotations
-// nearly three times as long. Parameters stand in the order of the call.
+// nearly three times as long. Parameters stand in the order of the call, and that a list is shorter than another is a
+// clause each.
 #![tactic(auto)]
 
 mod angle;

@@ -28,7 +28,8 @@ fn above(m: &[f64], n: usize) -> f64
     ensures { result ≡ above_rows m.now n n }
 {
     let mut s = 0.0;
-    // Rows of differing length, so no `sum_rows_from`. By fold, what its closure asks and what it gives stayed open.
+    // Rows of differing length, so no `sum_rows_from`; `chunks_exact(n)` does not take an n of 0. By fold, what its
+    // closure asks and what it gives stayed open.
     for i in 0..n {
         s = sum_from(s, n - (i + 1), |d| square(entry(m, n, i, i + 1 + d)));
     }

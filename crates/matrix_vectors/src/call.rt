@@ -70,12 +70,11 @@ impl Call {
         Call::ConditionNumber,
         Call::TikhonovWithReport,
     ];
-}
 
-// Each number has a call, the one at its place from the first on again: none is refused.
-impl From<u64> for Call {
-    fn from(number: u64) -> Call {
-        Call::ALL[(number % 30) as usize]
+    // The call with a number of a record. Numbers past the last begin again with the first, so it is no `From`, which
+    // keeps a value.
+    pub(crate) fn of(number: u64) -> Call {
+        Call::ALL[number as usize % Call::ALL.len()]
     }
 }
 

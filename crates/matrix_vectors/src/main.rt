@@ -59,7 +59,7 @@ fn main(rt: HostRuntime) -> io::Result<()> {
     let mut tallies = [Tally::default(); 30];
     for block in Blocks::of(rt.reader()).take(usize::MAX) {
         for s in block.records() {
-            let call = Call::from(number(s, 1));
+            let call = Call::of(number(s, 1));
             tallies[call as usize].count(is_met(s, call));
         }
     }

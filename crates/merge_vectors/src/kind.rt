@@ -12,12 +12,11 @@ pub(crate) enum Kind {
 impl Kind {
     // In the order of their numbers in a record.
     pub(crate) const ALL: [Kind; 3] = [Kind::Merge, Kind::Winner, Kind::MergedList];
-}
 
-// Each number has a kind, the one at its place from the first on again: none is refused.
-impl From<u64> for Kind {
-    fn from(number: u64) -> Kind {
-        Kind::ALL[(number % 3) as usize]
+    // The kind with a number of a record. Numbers past the last begin again with the first, so it is no `From`, which
+    // keeps a value.
+    pub(crate) fn of(number: u64) -> Kind {
+        Kind::ALL[number as usize % Kind::ALL.len()]
     }
 }
 

@@ -142,7 +142,7 @@ fn main(rt: HostRuntime) -> io::Result<()> {
     let mut tallies = [Tally::default(); 3];
     for block in Blocks::of(rt.reader()).take(usize::MAX) {
         for s in block.records() {
-            let kind = Kind::from(number(s, 1));
+            let kind = Kind::of(number(s, 1));
             tallies[kind as usize].count(is_met(s, kind));
         }
     }

@@ -29,6 +29,12 @@ impl Call {
         Call::Constant,
     ];
 
+    // The call with a number of a record. Numbers past the last begin again with the first, so it is no `From`, which
+    // keeps a value.
+    fn of(number: u64) -> Call {
+        Call::ALL[number as usize % Call::ALL.len()]
+    }
+
     // A match, since in a table of functions those of one number would have to take two, as `max` does.
     fn answer(self, x: f64, y: f64) -> f64 {
         match self {
@@ -38,13 +44,6 @@ impl Call {
             Call::Value => number::value(x),
             Call::Constant => number::constant(x),
         }
-    }
-}
-
-// Each number has a call, the one at its place from the first on again: none is refused.
-impl From<u64> for Call {
-    fn from(number: u64) -> Call {
-        Call::ALL[(number % 5) as usize]
     }
 }
 
@@ -62,7 +61,7 @@ impl Display for Call {
 
 // Counts a record under its call.
 fn replay_record(record: &[u8], tallies: &mut [Tally; 5]) {
-    let call = Call::from(replay::number(record, 0));
+    let call = Call::of(replay::number(record, 0));
     let x = replay::double(replay::number(record, 1));
     let y = replay::double(replay::number(record, 2));
     tallies[call as usize].count(replay::is_same(call.answer(x, y), replay::number(record, 3)));

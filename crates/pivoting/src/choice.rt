@@ -38,7 +38,8 @@ fn choose(m: &[f64], s: &[f64], w: usize, k: usize) -> Pivot
     ensures { result ≡ pivot m.now s.now (length s.now) w k }
 {
     let mut best = Pivot { ratio: 0.0, row: k };
-    // A fold leaves two goals open, and each answer states this loop's invariant, of the items passed so far.
+    // A fold leaves two goals open, and each answer states this loop's invariant, of the items passed so far. By
+    // `enumerate` and `skip` the step and the end stay open until the proof tells which items they yield.
     for i in k..s.len() {
         best = consider(best, s[i], entry(m, w, i, k), i);
     }

@@ -12,7 +12,7 @@ use kernel::number::abs;
 use kernel::question::Question;
 
 // Questions 5 and 6, and then the quadratic form of x - mu under the inverse of cov, with the room that its order
-// needs.
+// needs. It is chosen by a test: arrays have fixed sizes.
 pub fn distance(x: &[f64], mu: &[f64], cov: &[f64]) -> Result<f64, Question>
     requires { Under x.now mu.now cov.now }
     ensures { result ≡ distance x.now mu.now cov.now (length x.now) }

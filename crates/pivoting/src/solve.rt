@@ -85,7 +85,7 @@ fn solve_within<F: Fn(usize, usize) -> f64, const N: usize, const W: usize, cons
     eliminate(m, s, &mut x[..w], r, out)
 }
 
-// The same with the room that the order needs.
+// The same with the room that the order needs. It is chosen by tests: arrays have fixed sizes.
 fn solve_by<F: Fn(usize, usize) -> f64>(
     a: &[f64],
     f: F,

@@ -38,6 +38,7 @@ fn repair_within<const N: usize, const SIZE: usize>(
 }
 
 // The repair of cov, n by n, into out, from question 3 on, with the room that the order needs.
+// It is chosen by tests: arrays have fixed sizes.
 #[tactic(auto, using(dense::proofs::Matrices::small_size, dense::proofs::Matrices::full_size, dense::proofs::Tests::side_high))]
 pub fn repair(
     cov: &[f64],

@@ -121,7 +121,7 @@ fn main(rt: HostRuntime) -> io::Result<()> {
     let mut tallies = [Tally::default(); 4];
     for block in Blocks::of(rt.reader()).take(1) {
         for record in block.records() {
-            let kind = Kind::from(replay::number(record, 1));
+            let kind = Kind::of(replay::number(record, 1));
             tallies[kind as usize].count(is_met(record, kind));
         }
     }

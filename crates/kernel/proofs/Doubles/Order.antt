@@ -41,14 +41,8 @@ eq_numbers (fin s m e) (fin u n d) t = record { first = tt; second = tt }
 
 -- ---- a test and the places
 
-less : {b : Bool} (m n : ℕ) → b ≡ ltb m n → T b → m < n
-less m n e t = ltb→lt m n (subst T e t)
-
 of_less : {b : Bool} (m n : ℕ) → b ≡ ltb m n → m < n → T b
 of_less m n e h = subst⁻¹ T e (lt→ltb m n h)
-
-same : {b : Bool} (m n : ℕ) → b ≡ eqb m n → T b → m ≡ n
-same m n e t = eqb→eq m n (subst T e t)
 
 of_same : {b : Bool} (m n : ℕ) → b ≡ eqb m n → m ≡ n → T b
 of_same m n e h = subst⁻¹ T e (subst (λ (k : ℕ). T (eqb m k)) h (eqb_refl m))
