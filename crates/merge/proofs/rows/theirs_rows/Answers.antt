@@ -19,10 +19,10 @@ loop-k-preserved c =
     let w = c.loop-k.invariant in
     elim c.if-base_of-k.branch [
       | then-base_of-k+then-ours_of-k t ↦
-        rw (t.rows-is, t.r-is) (selected_put _ _ w (omega arith) c.requires (and_from _ _ (eq-eqb _ 255 t.if-base_of-k.true) (eq-eqb _ 255 t.if-ours_of-k.true)) t.put_row-r.ensures)
+          rw (t.rows-is, t.r-is) (selected_put _ _ w (omega arith) c.requires (and_from _ _ (eq-eqb _ 255 t.if-base_of-k.true) (eq-eqb _ 255 t.if-ours_of-k.true)) t.put_row-r.ensures)
       | else-base_of-k t ↦
-        rw (t.rows-is, t.r-is) (selected_passed _ _ w (omega arith) c.requires (elim t.else-base_of-k.branch [
-          | else-base_of-k-via-then-base_of-k+else-ours_of-k v ↦ and_right _ _ (ne_eqb _ 255 v.if-ours_of-k.false)
-          | else-base_of-k-via-else-base_of-k v ↦ and_left _ _ (ne_eqb _ 255 v.if-base_of-k.false)
-        ]))
+          rw (t.rows-is, t.r-is) (selected_passed _ _ w (omega arith) c.requires (elim t.else-base_of-k.branch [
+            | else-base_of-k-via-then-base_of-k+else-ours_of-k v ↦ and_right _ _ (ne_eqb _ 255 v.if-ours_of-k.false)
+            | else-base_of-k-via-else-base_of-k v ↦ and_left _ _ (ne_eqb _ 255 v.if-base_of-k.false)
+          ]))
     ]
