@@ -9,7 +9,7 @@ use Rattle.kernel.proofs.Lists.{tabulate_ext}
 use Rattle.dense.specs.Matrix.{nth}
 use Rattle.dense.proofs.Laws.{nth-tabulate}
 use Rattle.fusion.specs.Fusion.{Information, information_of, gained, joint, estimate_from, Fusing, if_finite, step, fused}
-use Rattle.fusion.specs.Private.{sums, differences, added, lessened, told_by}
+use Rattle.fusion.specs.Private.{sums, differences, added, lessened, both_of, left_without}
 use Rattle.fusion.proofs.Calls.{informed}
 use Rattle.std.specs.Prelude.{Ok, Err}
 
@@ -31,6 +31,6 @@ module _ (d : ℕ) (floor : Float) where
   by_steps (Ok i) (Ok j) (Ok l) =
       ap from (informed (sym (steps_gain (d * d) i.matrix j.matrix l.matrix)) (sym (steps_gain d i.vector j.vector l.vector)))
 
-  pub by_told : (base ours theirs : List Float) → fused d floor base ours theirs ≡ step (told_by d base ours theirs) from
+  pub by_told : (base ours theirs : List Float) → fused d floor base ours theirs ≡ step (and_then (both_of d ours theirs) (λ i. left_without d i base)) from
   unfolding fused
   by_told base ours theirs = by_steps (information_of d ours) (information_of d theirs) (information_of d base)

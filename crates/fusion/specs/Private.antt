@@ -72,10 +72,6 @@ both_of d ours theirs = and_then (information_of d ours) (λ o. through (added d
 abbrev pub left_without : ℕ → Information → List Float → Outcome Information
 left_without d i base = through (lessened d i) (information_of d base)
 
--- What ours and theirs tell together without base.
-abbrev pub told_by : ℕ → List Float → List Float → List Float → Outcome Information
-told_by d base ours theirs = and_then (both_of d ours theirs) (λ i. left_without d i base)
-
 -- ---- the track
 
 abbrev pub estimate : List Float → List Float → Estimate

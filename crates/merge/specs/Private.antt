@@ -1,6 +1,6 @@
 -- The words of the private functions' contracts: no caller needs them, and no definition that a caller reads.
 use Rattle.std.specs.Prelude.{ℕ, ◌+◌, ◌*◌, ◌<◌, ◌≤◌, ◌≡◌, Bool, true, cond, ◌&&◌, eqb, length, get_or, take, Float}
-use mathlib.Core.List.{List, [], ◌∷◌, flat_map}
+use mathlib.Core.List.{List, [], flat_map}
 use Rattle.std.specs.Float.{nan}
 use Rattle.kernel.specs.Answer.{Outcome, ask, and_then}
 use Rattle.kernel.specs.Bytes.{Bytes}
@@ -265,10 +265,6 @@ ours_group base-of theirs-of n = selected n (is_free base-of) (λ j. undecided_r
 
 abbrev pub theirs_group : List ℕ → List ℕ → ℕ → List Row
 theirs_group base-of ours-of l = selected l (λ k. is_free base-of k && is_free ours-of k) (undecided_row nobody nobody)
-
--- One row, where it is wanted.
-abbrev pub only_if : Bool → Row → List Row
-only_if wanted row = cond wanted (row ∷ []) []
 
 -- The bytes of rows.
 abbrev pub rows_bytes : List Row → List ℕ

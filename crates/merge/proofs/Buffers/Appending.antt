@@ -6,7 +6,7 @@ use native.Mathlib.Nat.{add-zero, le_antisymm}
 use native.Mathlib.Numerals.{add-one}
 use native.Mathlib.Omega.{arith}
 use mathlib.Core.Path.{◌≡◌, refl, sym, ap, subst, ◌∙◌}
-use mathlib.Core.Bool.{Bool, true, false, ◌&&◌}
+use mathlib.Core.Bool.{Bool, true, false, ◌&&◌, cond}
 use mathlib.Core.List.{List, [], ◌∷◌, ◌++◌, flat_map}
 use lib.ListN.{length, get_or, set, take, drop, length-append, take-append-drop}
 use lib.Seq.{drop-cons}
@@ -17,7 +17,7 @@ use Rattle.kernel.proofs.Lists.{length-tabulate, tabulate_more}
 use Rattle.merge.proofs.Buffers.Bytes.{rows-length, rest-byte}
 use Rattle.merge.proofs.Buffers.RowNumbers.{selected-few}
 use Rattle.merge.specs.Rows.{Row, row_bytes, verdict, Equal, selected}
-use Rattle.merge.specs.Private.{rows_bytes, only_if, Appended, RowsRoom}
+use Rattle.merge.specs.Private.{rows_bytes, Appended, RowsRoom}
 
 pub appended_length : {rows : List Row} {at r : ℕ} {old new : List ℕ} → Appended rows at old r new → 4 * (at + length rows) ≤ length old → length new ≡ length old
 appended_length {rows} {at} {r} {old} a h = ap length a.bytes ∙ length_over old (4 * at) (rows_bytes rows) (omega (arith, rows-length rows))
@@ -98,6 +98,10 @@ module _ (f : ℕ → Row) where
       let all = appended_more (tabulate k f) (f k ∷ []) w.rows (omega (arith, w.rows.next)) b in
       let next = tabulated (k + 1) (all.bytes ∙ ap (λ (g : List Row). over old 0 (rows_bytes g)) (sym (tabulate_more k f))) in
       record { turns = omega arith; long = tabulated_length (k + 1) next (omega arith); rows = next }
+
+-- one row, where it is wanted
+abbrev only_if : Bool → Row → List Row
+only_if wanted row = cond wanted (row ∷ []) []
 
 module _ (test : ℕ → Bool) (f : ℕ → Row) where
   selected_more : (n : ℕ) → selected n test f ++ only_if (test n) (f n) ≡ selected (n + 1) test f
