@@ -1,5 +1,5 @@
 -- A loop that writes a vector of n entries entry by entry. `EntryByEntry`: what it has done before turn i. `no_entry` and `entries_there` begin it, `entry_old` says
--- what stands where it writes next, `entry-written` that entry i is that of f, and `every_entry` that at the end the slice is the vector of f.
+-- what stands where it writes next, `entry_written` that entry i is that of f, and `every_entry` that at the end the slice is the vector of f.
 use Prim.Native.Nat.{ℕ, ◌+◌, ◌<◌, ◌≤◌}
 use native.Mathlib.Omega.{arith}
 use mathlib.Core.Path.{◌≡◌, refl}
@@ -28,8 +28,8 @@ module _ {f : ℕ → Float} {n : ℕ} {old : List Float} {i : ℕ} {l : List Fl
   pub entry_old : nth l i ≡ nth old i
   entry_old = filled_next w.entries
 
-  pub entry-written : {v : Float} → i < n → v ≡ f i → EntryByEntry f n old (i + 1) (set l i v)
-  entry-written h e = record { turns = omega arith; room = w.room; entries = filled_more f i (omega (arith, w.room, w.entries.size)) e w.entries }
+  pub entry_written : {v : Float} → i < n → v ≡ f i → EntryByEntry f n old (i + 1) (set l i v)
+  entry_written h e = record { turns = omega arith; room = w.room; entries = filled_more f i (omega (arith, w.room, w.entries.size)) e w.entries }
 
   pub every_entry : n ≤ i → l ≡ tabulate n f
   every_entry h = filled_all f w.room h w.entries
