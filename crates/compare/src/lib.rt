@@ -15,7 +15,7 @@ use crate::inside::compare_tracks;
 use crate::questions::{are_tracks, is_floor_and_gate};
 use dense::questions::ask_shape;
 use dense::shape::is_side;
-use kernel::question::Question;
+pub use kernel::question::Question;
 use repair::RegularizationReport;
 
 // What a comparison answers: the squared distance, near or far by the gate, or that there is none. The three are kinds

@@ -14,6 +14,9 @@ mod rotate;
 mod start;
 mod sweep;
 
+// So that a user names only the crate that is called.
+pub use kernel::question::Question;
+
 // The angle of a rotation, by its tangent, cosine and sine.
 #[derive(Clone, Copy)]
 pub struct Rotation {

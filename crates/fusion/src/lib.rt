@@ -14,7 +14,7 @@ mod track;
 use dense::questions::ask_shape;
 use dense::shape::{is_side, is_vector};
 use inside::fuse_tracks;
-use kernel::question::Question;
+pub use kernel::question::Question;
 use tracks::inside::fields;
 
 // What a fusion answers: that the fused track is written, or that there is none. A bool would not say of what.

@@ -10,3 +10,6 @@ pub mod inside;
 mod product;
 pub mod regularize;
 mod sums;
+
+// So that a user names only the crate that is called.
+pub use kernel::question::Question;

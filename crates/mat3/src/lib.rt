@@ -9,9 +9,10 @@ ghost use Rattle.dense.specs.Answer.{Leaves};
 ghost use Rattle.mat3.specs.Mat3.{det3, regular, inverse3, solution3, mat3_det, mat3_inv, mat3_solve};
 
 use dense::vector::max_abs;
-pub use kernel::constants::{MIN_POSITIVE, REL_TOL};
+use kernel::constants::{MIN_POSITIVE, REL_TOL};
 use kernel::number::{abs, max};
-use kernel::question::Question;
+// So that a user names only the crate that is called.
+pub use kernel::question::Question;
 
 // The determinant of m.
 #[tactic(auto, unfolding(crate::specs::Mat3::det3))]

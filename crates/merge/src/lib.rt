@@ -18,7 +18,7 @@ pub mod winner;
 mod writing;
 
 use inside::merge_fused;
-use kernel::question::Question;
+pub use kernel::question::Question;
 
 // What stands in a row for no track: a byte, since C reads a row's bytes.
 pub const NO_TRACK: u8 = pairing::NOBODY;

@@ -8,7 +8,7 @@ ghost use Rattle.merge_list.specs.Private.{ToLeave, list_left, list_asked};
 mod records;
 mod writing;
 
-use kernel::question::Question;
+pub use kernel::question::Question;
 use merge::Counts;
 use merge::inside::merge_fused;
 use records::Lists;

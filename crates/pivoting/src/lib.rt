@@ -13,6 +13,9 @@ mod reduce;
 mod rows;
 mod solve;
 
+// So that a user names only the crate that is called.
+pub use kernel::question::Question;
+
 // The best pivot row of a column so far, and its ratio.
 #[derive(Clone, Copy, Debug)]
 pub struct Pivot {

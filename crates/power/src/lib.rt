@@ -9,6 +9,9 @@ pub mod regularize;
 mod rounds;
 mod vector;
 
+// So that a user names only the crate that is called.
+pub use kernel::question::Question;
+
 // What a damping did to the condition number.
 #[derive(Clone, Copy, Debug, PartialEq)]
 pub struct TikhonovReport {

@@ -8,6 +8,9 @@ pub mod inside;
 mod rebuild;
 pub mod regularize;
 
+// So that a user names only the crate that is called.
+pub use kernel::question::Question;
+
 // What a repair did: how many eigenvalues were clipped, by how much at most, and which, in descending order of the eigenvalues.
 #[derive(Clone, Copy, Debug, PartialEq)]
 pub struct RegularizationReport {

@@ -9,3 +9,6 @@ pub mod read;
 pub mod reader;
 pub mod record;
 pub mod write;
+
+// So that a user names only the crate that is called.
+pub use kernel::question::Question;
