@@ -7,6 +7,7 @@ ghost use Rattle.eigen.specs.Private.{Ordering, Below};
 
 use dense::fill::{fill, fill_matrix};
 use dense::shape::entry;
+use std::mem::swap;
 
 // Writes the diagonal of m, a square matrix.
 #[tactic(auto, using(dense::proofs::Laws::cell))]
@@ -40,8 +41,11 @@ fn insert(l: &mut [usize], k: usize, j: usize)
     requires { (j ≤ k) × (k < length l.old) }
     ensures { take (suc k) l.new ≡ inserted_at k j l.old }
 {
-    l[k] = k;
-    l[j..k + 1].rotate_right(1);
+    // Each place takes what stood before it. A loop, since by rotate_right the C archive needs memmove from the C library.
+    let mut next = k;
+    for i in j..k + 1 {
+        swap(&mut next, &mut l[i]);
+    }
 }
 
 // Writes the indices of e, its entries in descending order.

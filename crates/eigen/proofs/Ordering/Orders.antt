@@ -1,23 +1,19 @@
--- Laws of the insertion sort as the code makes it. `inserted`: an element is put into its place. `order_more`: one more
--- element is in order. `order_below`: what stands in the order is below k; `length-order`: there are k.
+-- Laws of the insertion sort as the code makes it. `order_more`: one more element is in order. `order_below`: what stands in the order is below k;
+-- `length-order`: there are k.
 use Prim.Native.Nat.{ℕ, zero, suc, ◌+◌, ◌-◌, ◌<◌, ◌≤◌}
 use native.Mathlib.Omega.{arith}
 use native.Mathlib.Numerals.{add-one}
 use native.Mathlib.Decide.{ℕ_discrete, dec_lt}
 use mathlib.Core.Bool.{cond}
-use mathlib.Core.List.{List, ◌++◌}
+use mathlib.Core.List.{List}
 use mathlib.Core.Path.{◌≡◌, refl, sym, ap, ◌∙◌, subst}
 use borrow.Author.Tests.{eq-eqb, ne_eqb, lt-ltb, le-ltb}
 use lib.Dec.{eqb, ltb}
 use lib.Ieee.{Float}
-use lib.ListN.{length, take, drop, set, length-set, length-append, length-drop, get_or-append}
-use lib.Seq.{get_or-set_same, get_or-set_other, get_or-take, get_or-drop, length-take-le}
-use borrow.Rule.Slice.PartMut.{mid_of, put_mid}
-use Rattle.std.specs.List.{RotatedRight}
-use Rattle.std.proofs.lemmas.List.{get_or-append_right}
-use Rattle.std.proofs.lemmas.Slice.{take-put_mid}
+use lib.ListN.{length, take}
+use lib.Seq.{get_or-take}
 use Rattle.kernel.proofs.First.{first_ext, first-within}
-use Rattle.kernel.proofs.Lists.{length-tabulate, get_d_tabulate, by_elements, tabulate_ext}
+use Rattle.kernel.proofs.Lists.{length-tabulate, get_d_tabulate, tabulate_ext}
 use Rattle.eigen.specs.Eigen.{index_at, spot, inserted_at, order}
 use Rattle.eigen.specs.Private.{Below}
 
@@ -26,55 +22,6 @@ use Rattle.eigen.specs.Private.{Below}
 -- element i when k is put into place j
 abbrev pub inserted_element : ℕ → ℕ → List ℕ → ℕ → ℕ
 inserted_element k j l i = cond (ltb i j) (index_at l i) (cond (eqb i j) k (index_at l (i - 1)))
-
--- k stands at its own place, and then the part from place j to place k turns by one, so that k is its first
-pub inserted : (k j : ℕ) (l part : List ℕ) → j ≤ k → k < length l → length part ≡ length (mid_of j (k + 1 - j) (set l k k))
-    → RotatedRight (mid_of j (k + 1 - j) (set l k k)) part (length (mid_of j (k + 1 - j) (set l k k))) 1 → take (suc k) (put_mid j (k + 1 - j) (set l k k) part) ≡ inserted_at k j l
-unfolding inserted_at
-inserted k j l part h b same turned =
-    take-put_mid j (k + 1 - j) (set l k k) part (suc k) (omega (arith, same, size)) (omega (arith, long))
-    ∙ by_elements 0 (suc k) (inserted_element k j l) (take j (set l k k) ++ part) (omega (arith, length-append (take j (set l k k)) part, front, same, size))
-    (λ i a. go i a (ℕ_discrete i j) (dec_lt i j))
-  where
-    long : length (set l k k) ≡ length l
-    long = length-set l k k
-
-    front : length (take j (set l k k)) ≡ j
-    front = length-take-le j (set l k k) (omega (arith, long))
-
-    size : length (mid_of j (k + 1 - j) (set l k k)) ≡ k + 1 - j
-    size = length-take-le (k + 1 - j) (drop j (set l k k)) (omega (arith, length-drop j (set l k k), long))
-
-    read : (p : ℕ) → p < k + 1 - j → index_at (mid_of j (k + 1 - j) (set l k k)) p ≡ index_at (set l k k) (j + p)
-    read p a = get_or-take (k + 1 - j) (drop j (set l k k)) p 0 a ∙ get_or-drop j (set l k k) p 0
-
-    after : (i : ℕ) → j ≤ i → index_at (take j (set l k k) ++ part) i ≡ index_at part (i - j)
-    after i a = get_or-append_right (take j (set l k k)) part j i 0 front a
-
-    go : (i : ℕ) → i < suc k → Dec (i ≡ j) → Dec (i < j) → index_at (take j (set l k k) ++ part) i ≡ inserted_element k j l i
-    go i a (yes s) d =
-        let first : i - j ≡ 0 = omega arith in
-        let last : j + (length (mid_of j (k + 1 - j) (set l k k)) - 1 + 0) ≡ k = omega (arith, size) in
-        after i (omega arith)
-        ∙ ap (index_at part) first
-        ∙ turned.0 0 0 (omega arith)
-        ∙ read (length (mid_of j (k + 1 - j) (set l k k)) - 1 + 0) (omega (arith, size))
-        ∙ ap (index_at (set l k k)) last
-        ∙ get_or-set_same l k k 0 b
-        ∙ rw (le-ltb i j (omega arith), eq-eqb i j s)
-    go i a (no s) (yes d) =
-        get_or-append (take j (set l k k)) part 0 i (omega (arith, front))
-        ∙ get_or-take j (set l k k) i 0 d
-        ∙ get_or-set_other l k i k 0 (λ e. absurd (omega arith))
-        ∙ rw (lt-ltb i j d)
-    go i a (no s) (no d) =
-        let place : j + (i - j - 1) ≡ i - 1 = omega (arith, s) in
-        after i (omega arith)
-        ∙ turned.1 (i - j) 0 (omega (arith, s)) (omega (arith, size))
-        ∙ read (i - j - 1) (omega (arith, s))
-        ∙ ap (index_at (set l k k)) place
-        ∙ get_or-set_other l k (i - 1) k 0 (λ e. absurd (omega (arith, s)))
-        ∙ rw (le-ltb i j (omega arith), ne_eqb i j s)
 
 pub index_inserted : (k j : ℕ) (l : List ℕ) (i : ℕ) → i < suc k → index_at (inserted_at k j l) i ≡ inserted_element k j l i
 unfolding inserted_at
