@@ -17,7 +17,7 @@ pub(crate) fn reduce_row(x: &[f64], k: usize, i: usize, y: &mut [f64])
     ensures { y.new ≡ tabulate (length x.now) (cleared_entry (nth x.now) (nth y.old) k i) }
 {
     if i == k {
-        y.copy_from_slice(x);
+        fill(|j| x[j], y); // by `copy_from_slice` of two lent slices the archive for C needs memmove
         return;
     }
     let factor = y[k];
