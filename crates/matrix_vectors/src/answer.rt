@@ -18,6 +18,9 @@ use repair::RegularizationReport;
 use repair::regularize::{eigenvalue_floor, nearest_psd};
 use std::num::nearest_usize_to_f64;
 
+// The most dimensions of two states that are compared.
+const MOST_STATES: usize = 128;
+
 // What a record hands to its call.
 #[derive(Clone, Copy)]
 pub(crate) struct Arguments<'a> {
@@ -96,8 +99,11 @@ fn enter_comparison(answer: Result<Comparison, Question>, out: &mut [f64]) -> Re
 }
 
 // A comparison: the first slice is the two states and the gate, the others are the covariances, and the double is the
-// floor. There is no answer where the first slice is too short.
+// floor. There is no answer where n is above 128, or where the first slice is too short.
 fn compared(with: Arguments, out: &mut [f64]) -> Option<Result<(), Question>> {
+    if MOST_STATES < with.n {
+        return None;
+    }
     let (mu, rest) = with.a.split_at_checked(with.n)?;
     let (x, last) = rest.split_at_checked(with.n)?;
     let gate = *last.first()?;

@@ -20,6 +20,9 @@ const MOST: u16 = 272;
 
 const ENTRIES: usize = MOST as usize;
 
+// The answer's number of a record that lacks what its call takes: no question has it.
+const NO_RECORD: u64 = 99;
+
 // What stands in a slice before it is written.
 const BEFORE: f64 = 7.0;
 
@@ -49,7 +52,7 @@ fn is_met(s: &[u8], call: Call) -> bool {
     let is_told = match answer::answer(call, arguments, &mut out[..lo]) {
         Some(Ok(())) => number(s, 10) == 0,
         Some(Err(question)) => number(s, 10) == u64::from(u8::from(question)),
-        None => false,
+        None => number(s, 10) == NO_RECORD,
     };
     is_told && replay::are_same(&out[..lo], at_out)
 }
