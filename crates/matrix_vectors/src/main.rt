@@ -10,7 +10,7 @@ mod call;
 
 use crate::answer::Arguments;
 use crate::call::Call;
-use replay::{Blocks, Tally, after, first_doubles, number, up_to};
+use replay::{Block, Tally, after, first_doubles, number, up_to};
 use std::io;
 
 // The bytes of a record before its data.
@@ -60,7 +60,14 @@ fn is_met(s: &[u8], call: Call) -> bool {
 // As in the other programs: a function over the calls and their checks would need a trait as long as this.
 fn main(rt: HostRuntime) -> io::Result<()> {
     let mut tallies = [Tally::default(); 30];
-    for block in Blocks::of(rt.reader()).take(usize::MAX) {
+    let mut reader = rt.reader();
+    let mut block = Block::new();
+    // Nothing says that the input ends, and a proved loop has to: so the turns are counted, up to a number that no run
+    // uses up.
+    for _ in 0..u64::MAX {
+        if !block.fill(&mut reader) {
+            break;
+        }
         for s in block.records() {
             let call = Call::of(number(s, 1));
             tallies[call as usize].count(is_met(s, call));

@@ -11,7 +11,7 @@ use kernel::bytes::same_bytes;
 use kernel::question::Question;
 use merge::Counts;
 use merge::winner::{Part, WinningPart, winner, winning};
-use replay::{Blocks, Tally, after, number, part, split};
+use replay::{Block, Tally, after, number, part, split};
 use std::io;
 
 // The bytes of a record before its data.
@@ -140,7 +140,14 @@ fn is_met(s: &[u8], kind: Kind) -> bool {
 // As in the other programs: a function over the kinds and their checks would need a trait as long as this.
 fn main(rt: HostRuntime) -> io::Result<()> {
     let mut tallies = [Tally::default(); 3];
-    for block in Blocks::of(rt.reader()).take(usize::MAX) {
+    let mut reader = rt.reader();
+    let mut block = Block::new();
+    // Nothing says that the input ends, and a proved loop has to: so the turns are counted, up to a number that no run
+    // uses up.
+    for _ in 0..u64::MAX {
+        if !block.fill(&mut reader) {
+            break;
+        }
         for s in block.records() {
             let kind = Kind::of(number(s, 1));
             tallies[kind as usize].count(is_met(s, kind));

@@ -3,9 +3,8 @@
 #![tactic(auto)]
 
 use kernel::number;
-use replay::{Blocks, Tally};
+use replay::{Block, Tally};
 use std::fmt::{Display, Formatter};
-use std::io::Read;
 use std::{fmt, io};
 
 // The bytes of a record.
@@ -68,22 +67,18 @@ fn replay_record(record: &[u8], tallies: &mut [Tally; 5]) {
     tallies[call as usize].count(replay::is_same(call.answer(x, y), replay::number(record, 3)));
 }
 
-// Counts the records of the next block, where one comes.
-fn replay_block<R: Read + Drop>(blocks: &mut Blocks<R>, tallies: &mut [Tally; 5]) {
-    if let Some(block) = blocks.next() {
-        for record in block.bytes().chunks_exact(RECORD) {
-            replay_record(record, tallies);
-        }
-    }
-}
-
 // As in the other programs: a function over the calls and their checks would need a trait as long as this.
 fn main(rt: HostRuntime) -> io::Result<()> {
     let mut tallies = [Tally::default(); 5];
-    let mut blocks = Blocks::of(rt.reader());
+    let mut reader = rt.reader();
+    let mut block = Block::new();
     // Both are asked for, whatever the first one gives: the input of a terminal goes on after an end.
-    replay_block(&mut blocks, &mut tallies);
-    replay_block(&mut blocks, &mut tallies);
+    for _ in 0..2 {
+        block.fill(&mut reader);
+        for record in block.bytes().chunks_exact(RECORD) {
+            replay_record(record, &mut tallies);
+        }
+    }
     for (call, tally) in Call::ALL.iter().zip(&tallies) {
         println!(rt; "{call} {tally}")?;
     }

@@ -1,5 +1,5 @@
 // The blocks of an input.
-ghost use Rattle.std.specs.Prelude.{◌≡◌, ◌<◌, ◌≤◌, ℕ, List, [], length, take, MatchOption};
+ghost use Rattle.std.specs.Prelude.{◌≡◌, ◌<◌, ◌≤◌, ◌↔◌, ℕ, List, [], length, take, IsTrue, MatchOption};
 ghost use Rattle.std.specs.Io.KnownBytes.{Consumes};
 
 use crate::records::Records;
@@ -26,6 +26,27 @@ impl Model for Block {
 }
 
 impl Block {
+    // A block before it is filled.
+    pub fn new() -> Block
+        ensures { result ≡ [] }
+    {
+        Block {
+            bytes: [0; MOST],
+            length: 0,
+        }
+    }
+
+    // Reads the next block in place of this one, and answers whether there is one: where the reader has ended or a read
+    // fails, this one has no bytes. A program that reads many fills one again and again, since each that `Blocks` gives
+    // is copied.
+    pub fn fill<R: Read>(&mut self, reader: &mut R) -> bool
+        ensures comes { IsTrue result ↔ 0 < length self.new }
+        ensures bytes { Consumes (R.remaining reader.old) (R.remaining reader.new) self.new }
+    {
+        self.length = read_full(reader, &mut self.bytes);
+        0 < self.length
+    }
+
     // The bytes that were read.
     pub fn bytes(&self) -> &[u8]
         ensures { result.now ≡ self.now }
@@ -64,11 +85,10 @@ impl<R: Read + Drop> Iterator for Blocks<R> {
         (λ b. (0 < length b) × Consumes (R.remaining s.reader) (R.remaining t.reader) b) };
 
     fn next(&mut self) -> Option<Block> {
-        let mut bytes = [0; MOST];
-        let length = read_full(&mut self.reader, &mut bytes);
-        if length == 0 {
+        let mut block = Block::new();
+        if !block.fill(&mut self.reader) {
             return None;
         }
-        Some(Block { bytes, length })
+        Some(block)
     }
 }
