@@ -4,7 +4,7 @@ ghost use Rattle.kernel.specs.Lists.{tabulate};
 ghost use Rattle.dense.specs.Matrix.{nth, matrix};
 
 // Writes f j to each entry j of y. The closure of std's `fill_with` gets no index.
-#[tactic(auto, using(crate::proofs::Entries::no_entry, crate::proofs::Entries::every_entry))]
+#[tactic(auto, using(crate::proofs::Entries::entries_there, crate::proofs::Entries::every_entry))]
 pub fn fill<F: Fn(usize) -> f64>(f: F, y: &mut [f64])
     requires { (j : ℕ) → j < length y.old → F.pre f j }
     ensures { (g : ℕ → Float) → ((j : ℕ) (x : _) → j < length y.old → F.post f j x → x ≡ g j) → y.new ≡ tabulate (length y.old) g }
